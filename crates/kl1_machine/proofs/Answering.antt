@@ -35,6 +35,8 @@ use Rattle.kl1_machine.specs.Machines.{made, IsMachine}
 use Rattle.kl1_machine.specs.Starting.{ReadsNames, BuildsGoal}
 use Rattle.kl1_machine.specs.Bringing.{Brings}
 use Rattle.kl1_machine.proofs.Keeping.{Grows, grown_machine}
+use Rattle.kl1_stream.specs.Messages.{IsNoVariable}
+use Rattle.kl1_machine.proofs.Sending.{counting}
 
 -- ---- a goal with the next variables has none of those before
 
@@ -71,13 +73,6 @@ mutual
       (absent_before last v t le (one_left (variables_of t) (variables_in ts) low)) (absent_in last v ts le (one_right (variables_of t) (variables_in ts) low))
 
 -- ---- a variable that becomes a goal
-
--- a term that is no variable
-abbrev IsNoVariable : Term → Type 0
-IsNoVariable (variable v) = ⊥
-IsNoVariable (integer i) = Unit {0}
-IsNoVariable (atom a) = Unit {0}
-IsNoVariable (structure f ts) = Unit {0}
 
 goal_no_variable : (last : ℕ) (t : Term) → is_goal t ≡ true → IsNoVariable (with_next_variables last t)
 goal_no_variable last (variable v) e = absurd (cc)
@@ -128,10 +123,6 @@ becomes_goal f h k v x t Bound reads is s z =
 becomes_goal f h k v x t Clash reads is s z = absurd (not_none (one_by v t) (sym is ∙ s f reads))
 
 -- ---- all of it
-
--- a machine with these counts of variables and structures
-abbrev pub counting : ℕ → ℕ → Machine → Machine
-counting variables nodes m = record m { counts = record m.counts { variables = variables; nodes = nodes } }
 
 -- the goal of an answer was built in a machine whose counts have come on, and variable `v` was unified with it
 pub record IsPut (goal : Term) (numbers : List CellName) (v variables nodes : ℕ) (m a : Machine) (x : Cell CellName) (k : Held CellName) : Type 0 where

@@ -28,7 +28,7 @@ use Rattle.kl1_shoen.specs.Shoens.{has_number}
 use Rattle.kl1_user_effects.specs.Fitting.{Reading, built}
 use Rattle.kl1_user_effects.specs.Account.{meaning, goal_with, aim}
 use Rattle.kl1_user_effects.specs.Kept.{IsOwned}
-use Rattle.kl1_user_effects.specs.Drafts.{goals_for}
+use Rattle.kl1_user_effects.specs.Drafts.{goals_for, goal_at}
 use Rattle.kl1_user_effects.specs.Moving.{priorities_by}
 use Rattle.kl1_user_effects.specs.Works.{Made, worked}
 use Rattle.kl1_user_effects.proofs.Goals.{count_read}
@@ -37,7 +37,7 @@ use Rattle.kl1_user_effects.proofs.Commits.{with_body, commit_turns, room_read}
 use Rattle.kl1_machine.specs.declared.machine.Machine.{Machine}
 use Rattle.kl1_machine.specs.Machines.{made, IsMachine, Keeps}
 use Rattle.kl1_machine.proofs.Keeping.{Grows}
-use Rattle.kl1_machine.specs.Effects.{goal_at, with_goal, with_goals, Becomes, TurnsAs, Chosen, Commits}
+use Rattle.kl1_machine.specs.Effects.{with_goal, with_goals, Becomes, TurnsAs, Chosen, Commits}
 
 -- ---- goals of a body
 

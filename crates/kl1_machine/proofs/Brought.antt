@@ -23,13 +23,13 @@ use Rattle.kl1_machine.specs.Rescheduling.{Reschedules}
 use Rattle.kl1_machine.specs.Starting.{naming}
 use Rattle.kl1_machine.specs.Reducing.{ReadsAlike}
 use Rattle.kl1_machine.specs.Plain.{ArePlain}
-use Rattle.kl1_machine.specs.Exchanging.{held_exchanged, read_exchanged}
+use Rattle.kl1_user_effects.specs.Exchanging.{held_exchanged, read_exchanged}
 use Rattle.kl1_machine.specs.Bringing.{Brings, IsPublished}
-use Rattle.kl1_machine.proofs.NamesOnce.{collected}
+use Rattle.kl1_user_effects.proofs.NamesOnce.{collected}
 use Rattle.kl1_machine.proofs.Resting.{looked_read}
-use Rattle.kl1_machine.proofs.Exchanged.{settled_alike}
-use Rattle.kl1_machine.proofs.Exchanges.{exchanged_variables, exchanged_goals, exchanged_shoens}
-use Rattle.kl1_machine.proofs.Spares.{ReadsSpares, names_once, numbers_short, reads_spares}
+use Rattle.kl1_user_effects.proofs.Exchanged.{settled_alike}
+use Rattle.kl1_user_effects.proofs.Exchanges.{exchanged_variables, exchanged_goals, exchanged_shoens}
+use Rattle.kl1_user_effects.proofs.Spares.{ReadsSpares, names_once, numbers_short, reads_spares}
 use Rattle.kl1_machine.proofs.Plain.{plain_named, plain_looked, plain_means, goals_read, shoens_read}
 
 -- ---- a goal that was brought, when goals were looked at again
@@ -52,7 +52,7 @@ brings_rescheduled change goal numbers b m n p r = record {
 -- ---- names that are used
 
 -- a list of names is used as the names of the goal are
-names_used : (names texts : List (List ℕ)) (goal : Term) → texts ≡ with_names [] (names_of goal) → with_texts names texts ≡ with_names names (names_of goal)
+pub names_used : (names texts : List (List ℕ)) (goal : Term) → texts ≡ with_names [] (names_of goal) → with_texts names texts ≡ with_names names (names_of goal)
 unfolding with_texts
 names_used names texts goal e = ap (with_names names) e ∙ collected names [] (names_of goal)
 

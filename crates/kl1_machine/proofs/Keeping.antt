@@ -21,7 +21,8 @@ use Rattle.kl1_goals.specs.Rows.{Rowed}
 use Rattle.kl1_machine.specs.declared.counts.Counts.{Counts}
 use Rattle.kl1_machine.specs.declared.machine.Machine.{Machine}
 use Rattle.kl1_machine.specs.Machines.{made, IsMachine, Trail, trail_of, Keeps, IsBegun, IsBack}
-use Rattle.kl1_machine.specs.Effects.{goal_at, with_goal, Puts}
+use Rattle.kl1_user_effects.specs.Drafts.{goal_at}
+use Rattle.kl1_machine.specs.Effects.{with_goal, Puts}
 
 -- ---- what stays
 

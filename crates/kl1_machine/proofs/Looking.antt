@@ -19,10 +19,10 @@ use Rattle.kl1_user_effects.specs.Settled.{IsSettled}
 use Rattle.kl1_user_effects.specs.Works.{IsMadeIn}
 use Rattle.kl1_machine.specs.declared.machine.Machine.{Machine}
 use Rattle.kl1_machine.specs.Machines.{made, trail_of, IsMachine, Keeps}
-use Rattle.kl1_machine.specs.Ready.{ready_at, IsReadyAt}
+use Rattle.kl1_ready.specs.Ready.{ready_at, IsReadyAt}
 use Rattle.kl1_machine.specs.Rescheduling.{unready, unlooked, Looks, AreSettledBut}
 use Rattle.kl1_machine.proofs.Sincing.{each_so, each_both}
-use Rattle.kl1_machine.proofs.SettledStays.{settled_more}
+use Rattle.kl1_ready.proofs.SettledStays.{settled_more}
 
 -- ---- what holds of each goal
 

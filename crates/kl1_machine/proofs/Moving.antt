@@ -32,12 +32,13 @@ use Rattle.kl1_user_effects.proofs.Works.{turns_then, turns_as}
 use Rattle.kl1_user_effects.proofs.Substituting.{replaced_turns}
 use Rattle.kl1_machine.specs.declared.machine.Machine.{Machine}
 use Rattle.kl1_machine.specs.Machines.{made, IsMachine}
-use Rattle.kl1_machine.specs.Effects.{Turns, goal_at, with_goal, KeepsName, Puts, Charges, TurnsAs, Commits}
+use Rattle.kl1_user_effects.specs.Drafts.{goal_at}
+use Rattle.kl1_machine.specs.Effects.{Turns, with_goal, KeepsName, Puts, Charges, TurnsAs, Commits}
 use Rattle.kl1_machine.specs.Moving.{UnifiesAs, OpensChild, Making, TurnsBy, MovesAs, RunsAs}
 use Rattle.kl1_machine.specs.Naming.{NamesAs}
 
 -- what is found of a move is the move
-found_is : (m n : model.Move) (o : Option model.Move) → o ≡ Some m → o ≡ Some n → m ≡ n
+pub found_is : (m n : model.Move) (o : Option model.Move) → o ≡ Some m → o ≡ Some n → m ≡ n
 found_is m n o a b = cc
 
 -- what a goal does by a move

@@ -26,7 +26,6 @@ use Rattle.kl1_store.specs.Hooks.{Kept, point_of}
 use Rattle.kl1_store.specs.Sound.{IsFormed, Grown}
 use Rattle.kl1_store.proofs.Terms.{term_of-unbound, term_of-Integer, term_of-Atom, term_of-binding}
 use Rattle.kl1_store.proofs.Constants.{Grown-binding}
-use Rattle.kl1_store.proofs.Grows.{Grown-same}
 use Rattle.kl1_match.proofs.Cells.{at_structure}
 use Rattle.kl1_goals.specs.declared.goal.Goal.{Goal}
 use Rattle.kl1_codes.specs.Numbered.{Numbered}
@@ -205,10 +204,6 @@ names_new_as goal text a x m c n none room number begun told p =
 -- a store of which a variable was bound has grown
 pub bound_grows : (m : Machine) (k : Kept CellName) (v : ℕ) (x : Cell CellName) → k.held ≡ with_binding m.store.held v x → k.hooks ≡ m.store.hooks → Grows m k
 bound_grows m k v x is hooks = let G : Held CellName → Type 0 = λ h. Grown m.store.held h in record { grown = subst G (sym is) (Grown-binding m.store.held v x); hooks = hooks }
-
--- and so has one that holds what it held
-pub same_grows : (m : Machine) (k : Kept CellName) → k.held ≡ m.store.held → k.hooks ≡ m.store.hooks → Grows m k
-same_grows m k is hooks = let G : Held CellName → Type 0 = λ h. Grown m.store.held h in record { grown = subst G (sym is) (Grown-same m.store.held); hooks = hooks }
 
 -- a variable that means itself is unbound
 pub free_unbound : (v : ℕ) (h : Held CellName) → IsFree v h → IsFormed h → v < h.variables → is_bound v h.bindings ≡ false

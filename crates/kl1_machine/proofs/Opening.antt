@@ -33,7 +33,8 @@ use Rattle.kl1_user_effects.proofs.Walking.{path_read}
 use Rattle.kl1_user_effects.proofs.Joining.{child_of}
 use Rattle.kl1_machine.specs.declared.machine.Machine.{Machine}
 use Rattle.kl1_machine.specs.Machines.{made, IsMachine}
-use Rattle.kl1_machine.specs.Effects.{goal_at, with_goal, with_shoen, Becomes, Puts, KeepsName, TurnsAs}
+use Rattle.kl1_user_effects.specs.Drafts.{goal_at}
+use Rattle.kl1_machine.specs.Effects.{with_goal, with_shoen, Becomes, Puts, KeepsName, TurnsAs}
 use Rattle.kl1_machine.specs.Moving.{JoinsAs, OpensAs, OpensChild}
 
 -- ---- a shoen that joins

@@ -1,5 +1,5 @@
 -- Cells that stand in goals and shoens.
-use Rattle.std.proofs.Common.{◌≡◌, ℕ, List, [], ◌∷◌, map, refl, sym, ap, ap₂, ◌∙◌, subst}
+use Rattle.std.proofs.Common.{◌≡◌, List, [], ◌∷◌, map, refl, sym, ap, ap₂, ◌∙◌, subst}
 use Rattle.std.specs.Prelude.{Option, Some, None, option_map, codes}
 use Rattle.std.specs.List.{AllByRecursion}
 use Rattle.kl1_model.specs.Term as term
@@ -18,14 +18,12 @@ use Rattle.kl1_shoen_paths.specs.declared.shoen.Shoen.{Shoen}
 use Rattle.kl1_user_effects.specs.Fitting.{Reading}
 use Rattle.kl1_user_effects.specs.Account.{Means, meaning, told_in, aim_with, task_with, goal_with, origin_with, shoen_with}
 use Rattle.kl1_machine.specs.declared.machine.Machine.{Machine}
-use Rattle.kl1_machine.specs.Exchanging.{held_exchanged, read_exchanged}
+use Rattle.kl1_user_effects.specs.Exchanging.{held_exchanged, read_exchanged}
 use Rattle.kl1_machine.specs.Rescheduling.{Reschedules}
 use Rattle.kl1_machine.specs.Plain.{IsPlain, IsPlainName, IsPlainTask, IsPlainOrigin, IsPlainShoen, ArePlain}
 use Rattle.kl1_machine.proofs.Looking.{looked_hold}
-use Rattle.kl1_machine.proofs.Exchanges.{no_atom_means}
-
-atom_is : (s t : List ℕ) → atom s ≡ atom t → s ≡ t
-atom_is s t e = cc
+use Rattle.kl1_user_effects.proofs.Exchanges.{no_atom_means}
+use Rattle.kl1_user_effects.proofs.NameReadings.{same_text}
 
 -- ---- what two readings read the same
 
@@ -37,7 +35,7 @@ module _ (f g : Reading) (h : Held CellName) where
   u = meaning g h
 
   name_plain : (a : CellName) → t (Atom a) ≡ u (Atom a) → f a ≡ g a
-  name_plain a e = atom_is (f a) (g a) (sym (term_of-Atom f h a) ∙ e ∙ term_of-Atom g h a)
+  name_plain a e = same_text (f a) (g a) (sym (term_of-Atom f h a) ∙ e ∙ term_of-Atom g h a)
 
   cell_plain : (x : Cell CellName) → t x ≡ u x → IsPlain f g x
   cell_plain (Variable v) e = tt

@@ -13,7 +13,8 @@ use Rattle.kl1_user_effects.specs.Fitting.{Reading}
 use Rattle.kl1_user_effects.specs.Account.{whole}
 use Rattle.kl1_user_effects.proofs.Works.{torn, tailed}
 use Rattle.kl1_machine.specs.declared.machine.Machine.{Machine}
-use Rattle.kl1_machine.specs.Effects.{goal_at, with_goal, with_shoen, Becomes, Puts}
+use Rattle.kl1_user_effects.specs.Drafts.{goal_at}
+use Rattle.kl1_machine.specs.Effects.{with_goal, with_shoen, Becomes, Puts}
 use Rattle.kl1_machine.specs.Plain.{IsPlain, IsPlainTask, IsPlainShoen, ArePlain}
 use Rattle.kl1_machine.proofs.Sincing.{both_all}
 

@@ -35,10 +35,10 @@ use Rattle.kl1_user_effects.specs.Works.{Made, IsMadeIn, worked}
 use Rattle.kl1_machine.specs.declared.machine.Machine.{Machine}
 use Rattle.kl1_machine.specs.Machines.{made, Trail, IsMachine, Keeps}
 use Rattle.kl1_machine.specs.Rested.{IsRested}
-use Rattle.kl1_machine.specs.Naming.{IsBoundLast, HoldsSpare, Patches, HasName, CanPublish, ReadsNew, IsNamed, Publishes}
-use Rattle.kl1_machine.specs.Exchanging.{exchanged}
+use Rattle.kl1_machine.specs.Naming.{IsBoundLast, HoldsSpare, Patches, CanPublish, ReadsNew, IsNamed, Publishes}
+use Rattle.kl1_user_effects.specs.Exchanging.{exchanged}
 use Rattle.kl1_machine.specs.Reducing.{ReadsAlike, Reduces as HasReduced}
-use Rattle.kl1_machine.proofs.Exchanged.{with_spare, spare_texts, spare_fits, spare_reads, exchanged_fits, settled_alike}
+use Rattle.kl1_user_effects.proofs.Exchanged.{with_spare, spare_texts, spare_fits, spare_reads, exchanged_fits, settled_alike}
 use Rattle.kl1_machine.proofs.Planned.{state_in, steps_on}
 use Rattle.kl1_machine.proofs.Publishing.{published_made}
 use Rattle.kl1_machine.proofs.Stepped.{rested_knows, same_goal, same_action}

@@ -1,7 +1,6 @@
 -- Exceptions: with a report alone, and with a substitute in the place of the goal.
-use Rattle.std.proofs.Common.{◌≡◌, ℕ, suc, ◌+◌, ◌-◌, ◌≤◌, ◌&&◌, ◌||◌, Bool, true, false, if◌then◌else◌, List, [], ◌∷◌, ◌++◌, length, map, refl, sym, ap, ◌∙◌, arith, subst}
+use Rattle.std.proofs.Common.{◌≡◌, ℕ, suc, ◌+◌, ◌-◌, ◌&&◌, Bool, true, false, if◌then◌else◌, List, [], length, map, refl, sym, ap, ◌∙◌, arith, subst}
 use Rattle.std.specs.Prelude.{find, Option}
-use Rattle.std.proofs.lemmas.Bool.{ne_eqb}
 use Rattle.kl1_model.specs.declared.built_in.BuiltIn.{BuiltIn}
 use Rattle.kl1_model.specs.Text.{text_of}
 use Rattle.kl1_model.specs.Term.{Term, variable}
@@ -15,11 +14,9 @@ use Rattle.kl1_text.specs.declared.cell_name.CellName.{CellName}
 use Rattle.kl1_store.specs.declared.qualified.Qualified.{Qualified}
 use Rattle.kl1_store.specs.declared.cell.Cell.{Cell}
 use Rattle.kl1_store.specs.declared.cell.Cell.TheVariants.{Variable}
-use Rattle.kl1_store.specs.declared.binding.Binding.{Binding}
-use Rattle.kl1_store.specs.Held.{Shape, Held, IsIn, is_bound, with_variable}
+use Rattle.kl1_store.specs.Held.{Held, IsIn, with_variable}
 use Rattle.kl1_store.specs.Hooks.{Kept}
-use Rattle.kl1_store.specs.Sound.{Bound, IsFormed}
-use Rattle.kl1_store.proofs.Terms.{term_of-variable, term_of-unbound}
+use Rattle.kl1_store.proofs.Terms.{term_of-variable}
 use Rattle.kl1_store.proofs.Grows.{Grown-variable}
 use Rattle.kl1_stream.specs.Exceptions.{IsException}
 use Rattle.kl1_goals.specs.declared.task.Task.TheVariants.{Substitutes}
@@ -33,11 +30,11 @@ use Rattle.kl1_user_effects.specs.Kept.{IsOwned}
 use Rattle.kl1_user_effects.specs.Reports.{unheard}
 use Rattle.kl1_user_effects.specs.Works.{Made, worked, IsMadeIn, Knows}
 use Rattle.kl1_user_effects.specs.Works as works
-use Rattle.kl1_user_effects.proofs.States.{Agree, found_in, in_grown}
+use Rattle.kl1_user_effects.proofs.States.{found_in}
 use Rattle.kl1_user_effects.proofs.Works.{read_as, rereads, grown_made, last_made, turns_then, turns_as}
 use Rattle.kl1_user_effects.proofs.Reported.{unmade_turns}
 use Rattle.kl1_user_effects.proofs.Streams.{grown_turns, raised_turns}
-use Rattle.kl1_user_effects.proofs.Substituting.{IsAsked, asked_grown, new_in, new_stays, reported_here, replaced_turns, plain_turns, unreported_turns, whole_turns}
+use Rattle.kl1_user_effects.proofs.Substituting.{IsAsked, asked_grown, new_in, new_stays, reported_here, replaced_turns, plain_turns, unreported_turns, whole_turns, new_means, asked_agree}
 use Rattle.kl1_machine.specs.declared.machine.Machine.{Machine}
 use Rattle.kl1_machine.specs.Machines.{made, IsMachine}
 use Rattle.kl1_machine.proofs.Keeping.{Grows}
@@ -74,19 +71,6 @@ raised_whole m k goal kind cell x u i g whole r = record {
 }
 
 -- ---- with a substitute: as `kl1_user_effects` has it, where these are private
-
-unbound_past : {N : Type 0} (vs : ℕ) (ss : List (Shape N)) (before bs : List (Binding N)) (v : ℕ) → vs ≤ v → Bound vs ss before bs → is_bound v bs ≡ false
-unbound_past vs ss before [] v le p = refl
-unbound_past vs ss before (b ∷ bs) v le p =
-    let i = p.0.inside in
-    let other : b.variable ≡ v → ⊥ = λ e. omega arith in
-    ap (λ c. c || is_bound v bs) (ne_eqb b.variable v other) ∙ unbound_past vs ss (before ++ b ∷ []) bs v le p.1
-
-new_means : (f : Reading) (h : Held CellName) → IsFormed h → meaning f (with_variable h) (Variable h.variables) ≡ variable h.variables
-new_means f h p = term_of-unbound f (with_variable h) h.variables (unbound_past h.variables h.structures [] h.bindings h.variables (omega arith) p.bound)
-
-asked_agree : (h mid : Held CellName) (kind : BuiltIn) (term message : Cell CellName) → IsAsked h mid kind term message → (f : Reading) → Agree h (meaning f mid) (meaning f h)
-asked_agree h mid kind term message a f x i = a.asks.others f x (in_grown h (with_variable h) (Grown-variable h) x i) ∙ term_of-variable f h x
 
 asked_means : (h mid : Held CellName) (kind : BuiltIn) (term message : Cell CellName) → IsAsked h mid kind term message → (f : Reading) → Reads built f → meaning f mid message ≡ exception_with (text_of kind) (meaning f h term) (variable h.variables)
 asked_means h mid kind term message a f reads =

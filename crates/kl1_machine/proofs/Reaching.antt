@@ -66,11 +66,11 @@ reaches_zero program m u w = record {
     all f [] = tt
     all f (g ∷ gs) = ((λ e. absurd (let t = is_zero_or_more g.number in cc)), all f gs)
 
-first_false : (b c : Bool) → (b || c) ≡ false → b ≡ false
+pub first_false : (b c : Bool) → (b || c) ≡ false → b ≡ false
 first_false true c e = absurd (cc)
 first_false false c e = refl
 
-last_false : (b c : Bool) → (b || c) ≡ false → c ≡ false
+pub last_false : (b c : Bool) → (b || c) ≡ false → c ≡ false
 last_false true c e = absurd (cc)
 last_false false c e = e
 

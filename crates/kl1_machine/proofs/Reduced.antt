@@ -1,5 +1,5 @@
 -- What reductions leave of a machine.
-use Rattle.std.proofs.Common.{◌≡◌, ℕ, suc, ◌+◌, ◌<◌, ◌≤◌, ◌==◌, ◌&&◌, Bool, true, false, if◌then◌else◌, Option, Some, None, List, [], ◌∷◌, length, refl, sym, ap, ◌∙◌, arith, subst}
+use Rattle.std.proofs.Common.{◌≡◌, ℕ, ◌+◌, ◌<◌, ◌≤◌, ◌==◌, ◌&&◌, Bool, true, false, if◌then◌else◌, Option, Some, None, List, [], ◌∷◌, length, refl, sym, ap, ◌∙◌, arith, subst}
 use Rattle.std.specs.Prelude.{find, filter}
 use Rattle.std.specs.List.{AllByRecursion}
 use Rattle.std.proofs.lemmas.Bool.{eqb-true, eq-eqb}
@@ -21,13 +21,14 @@ use Rattle.kl1_user_effects.specs.Naming.{NameShelf, AreSmall}
 use Rattle.kl1_user_effects.specs.Calling.{IsNewName}
 use Rattle.kl1_user_effects.specs.Works.{worked}
 use Rattle.kl1_machine.specs.declared.machine.Machine.{Machine}
-use Rattle.kl1_machine.specs.Machines.{made, Trail, Keeps, IsBegun}
-use Rattle.kl1_machine.specs.Effects.{KeepsName, TurnsAs}
+use Rattle.kl1_machine.specs.Machines.{made, IsBegun}
+use Rattle.kl1_machine.specs.Effects.{TurnsAs}
 use Rattle.kl1_machine.specs.Since.{Since, IsOnlyMonitor}
 use Rattle.kl1_machine.specs.Rested.{IsRested}
-use Rattle.kl1_machine.specs.Naming.{IsBoundLast, HasName, HoldsSpare, Patches, CanPublish}
+use Rattle.kl1_machine.specs.Naming.{IsBoundLast, HoldsSpare, Patches, CanPublish}
 use Rattle.kl1_machine.specs.Rescheduling.{Reschedules}
-use Rattle.kl1_machine.specs.Reducing.{IsSteppable, ReadsBy, Reduces}
+use Rattle.kl1_ready.specs.Plans.{ReadsBy}
+use Rattle.kl1_machine.specs.Reducing.{IsSteppable, Reduces}
 use Rattle.kl1_machine.proofs.Planned.{found_holds}
 use Rattle.kl1_machine.proofs.Resting.{turns_rescheduled}
 
@@ -72,7 +73,7 @@ only_monitor n gs g single found task = only_one (is_monitor_of g.shoen) n gs g 
 -- ---- what a monitor reads
 
 -- of machine `m`, which rests, a monitor reads this, which comes to machine `u`, and goals are looked at again
-pub heard_reduces : (program : Program) (m u v : Machine) (n c : ℕ) (g : Goal CellName) (control : Control CellName) → IsBegun m → IsRested program m → IsSteppable m.goals.goals n c g → ReadsBy program m g c control →
+pub heard_reduces : (program : Program) (m u v : Machine) (n c : ℕ) (g : Goal CellName) (control : Control CellName) → IsBegun m → IsRested program m → IsSteppable m.goals.goals n c g → ReadsBy program m.store.held (made m) g c control →
     TurnsAs (λ f s. settle g.shoen (heard g.shoen (control_as f m.store.held control) s)) m u → Reschedules u v → Reduces program n c m v
 heard_reduces program m u v n c g control begun rested steppable plan turns r =
     let change : Reading → State → State = λ f s. settle g.shoen (heard g.shoen (control_as f m.store.held control) s) in

@@ -29,20 +29,21 @@ use Rattle.kl1_user_effects.specs.Naming.{NameShelf}
 use Rattle.kl1_user_effects.specs.Settled.{IsSettled, AreSettled, IsEnabled, AreEnabled}
 use Rattle.kl1_user_effects.specs.Installing.{shifted_by}
 use Rattle.kl1_user_effects.specs.Works.{Knows, worked}
-use Rattle.kl1_user_effects.proofs.Below.{among_contained}
+use Rattle.kl1_shoen_paths.proofs.Below.{among_contains}
 use Rattle.kl1_machine.specs.declared.machine.Machine.{Machine}
 use Rattle.kl1_machine.specs.declared.counts.Counts.{Counts}
 use Rattle.kl1_machine.specs.Machines.{made, Trail, IsMachine, Keeps, IsBegun}
-use Rattle.kl1_machine.specs.Effects.{Turns, TurnsAs}
+use Rattle.kl1_machine.specs.Effects.{Turns}
 use Rattle.kl1_machine.specs.Since.{HasCome, KeepsControl, Since}
 use Rattle.kl1_machine.specs.Rested.{IsRested}
 use Rattle.kl1_machine.specs.Rescheduling.{unlooked, Looks, AreSettledBut, Wakes, WasLet, IsLet, AreLet, Schedules, Shifts, all_told, Reschedules, LetsStill}
-use Rattle.kl1_machine.proofs.SettledStays.{HangsOnNone, StaysAlone, stays_settled}
+use Rattle.kl1_ready.proofs.SettledStays.{HangsOnNone, StaysAlone, stays_settled}
 use Rattle.kl1_machine.proofs.Keeping.{begun_mark}
 use Rattle.kl1_machine.proofs.Sincing.{both_all, each_so, each_both, fewer}
 use Rattle.kl1_machine.proofs.Looking.{looked_hold, unready_hold, looks_then, looks_machine}
 use Rattle.kl1_machine.proofs.Scheduling.{not_less}
 use Rattle.kl1_machine.proofs.Shifting.{shifted_unlooked, shifted_settled, IsRightBut, rights_shifted, right_since}
+use Rattle.kl1_machine.proofs.Reaching.{first_false, last_false}
 
 -- ---- who is told
 
@@ -55,18 +56,10 @@ bound_of (b ∷ bs) v (suc i, lt, e) = by_case (b.variable == v) (bound_of bs v 
     by_case true h = refl
     by_case false h = h
 
-first_false : (b c : Bool) → (b || c) ≡ false → b ≡ false
-first_false true c e = absurd (cc)
-first_false false c e = refl
-
-last_false : (b c : Bool) → (b || c) ≡ false → c ≡ false
-last_false true c e = absurd (cc)
-last_false false c e = e
-
 -- a number that isn't told hangs on no variable that was bound
 hangs_on_none : (hooks : List Hook) (bs : List (Binding CellName)) (n : ℕ) → is_among n (told_by bs hooks) ≡ false → HangsOnNone hooks n (map (λ b. b.variable) bs)
 hangs_on_none hooks bs n e v c k =
-    let t = among_contained n (told_by bs hooks) (is_told bs hooks (record { variable = v; number = n }) k (bound_of bs v c)) in
+    let t = among_contains n (told_by bs hooks) (is_told bs hooks (record { variable = v; number = n }) k (bound_of bs v c)) in
     cc
 
 -- an event began with machine `b`, which has come to be `m` since
@@ -350,11 +343,3 @@ turns_rescheduled change b m n p r ms =
           ∙ ap (λ (x : Machine). worked f s m.store.held (made x)) (sym r.rest)
           ∙ ap H (sym r.held);
     }
-
--- and no name is new if none was
-pub turned_rescheduled : (change : Reading → State → State) (b m n : Machine) → TurnsAs change b m → Reschedules m n → TurnsAs change b n
-turned_rescheduled change b m n p r = record {
-  turns = turns_rescheduled change b m n p.turns r;
-  machine = r.machine;
-  named = record { name = ap (λ (x : Machine). x.name) r.rest ∙ p.named.name; spelled = ap (λ (x : Machine). x.spelled) r.rest ∙ p.named.spelled };
-}

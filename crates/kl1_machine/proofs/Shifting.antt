@@ -18,9 +18,10 @@ use Rattle.kl1_user_effects.specs.Fitting.{Reading}
 use Rattle.kl1_user_effects.specs.Kept.{IsOwned}
 use Rattle.kl1_user_effects.specs.Settled.{IsEnabled, AreEnabled, AreSettled}
 use Rattle.kl1_user_effects.specs.Installing.{shifted_by}
-use Rattle.kl1_user_effects.proofs.Below.{or_true, among_contained}
+use Rattle.kl1_user_effects.proofs.Below.{or_true}
 use Rattle.kl1_machine.specs.Rescheduling.{unlooked}
 use Rattle.kl1_machine.proofs.Sincing.{each_so}
+use Rattle.kl1_shoen_paths.proofs.Below.{among_contains}
 
 -- ---- shifts change nothing but whether goals may step
 
@@ -85,4 +86,4 @@ right_since tree shifts g s o e = by_case (is_monitor g) (is_shifted g.shoen shi
     by_case : (m c : Bool) → is_monitor g ≡ m → is_shifted g.shoen shifts ≡ c → (m || not c) ≡ true → IsEnabled tree.shoens tree.work g
     by_case true c p q u = e ∙ ap (λ x. x || is_enabled_at tree.kept tree.kept_work g.shoen) p ∙ ap (λ x. x || is_enabled_at tree.shoens tree.work g.shoen) (sym p)
     by_case false true p q u = absurd (cc)
-    by_case false false p q u = let high = o.high in e ∙ ap (λ x. is_monitor g || x) (sym (s.whole g.shoen o.low (omega (arith, high)) (λ c. let f = among_contained g.shoen (shoens_of shifts) c in cc)))
+    by_case false false p q u = let high = o.high in e ∙ ap (λ x. is_monitor g || x) (sym (s.whole g.shoen o.low (omega (arith, high)) (λ c. let f = among_contains g.shoen (shoens_of shifts) c in cc)))

@@ -1,5 +1,5 @@
 -- What changes of shoens leave since an event began.
-use Rattle.std.proofs.Common.{◌≡◌, ℕ, suc, ◌+◌, ◌-◌, ◌≤◌, ◌==◌, ◌||◌, ◌&&◌, Bool, true, false, List, [], ◌∷◌, ◌++◌, length, map, refl, sym, ap, ◌∙◌, arith, subst}
+use Rattle.std.proofs.Common.{◌≡◌, ℕ, ◌+◌, ◌-◌, ◌≤◌, ◌==◌, ◌||◌, ◌&&◌, Bool, true, false, List, [], ◌∷◌, ◌++◌, length, map, refl, sym, ap, ◌∙◌, arith, subst}
 use Rattle.std.specs.Global.{Vec}
 use Rattle.std.specs.Prelude.{Option, Some, None, option_map, OnOk, OnErr}
 use Rattle.std.specs.List.{AllByRecursion}
@@ -27,12 +27,13 @@ use Rattle.kl1_user_effects.specs.Outlines.{outline, KeepsOutlines, KeepsOthers}
 use Rattle.kl1_user_effects.proofs.Frames.{keeps_changed, keeps_more, calm_controlled}
 use Rattle.kl1_user_effects.proofs.Outlines.{others_keep, outlines_controlled, outlines_aborted}
 use Rattle.kl1_machine.specs.declared.machine.Machine.{Machine}
-use Rattle.kl1_machine.specs.Machines.{Trail, trail_of, IsMachine, Keeps}
+use Rattle.kl1_machine.specs.Machines.{trail_of, IsMachine, Keeps}
 use Rattle.kl1_machine.specs.Effects.{Becomes, Charges, any_reached, having_shoens, shifting_shoens, with_shoen}
 use Rattle.kl1_machine.specs.Since.{KeepsControl, Since, IsOnlyMonitor}
 use Rattle.kl1_machine.proofs.Keeping.{Grows, grown_machine}
 use Rattle.kl1_machine.proofs.Flags.{same_flags, charge_flags}
 use Rattle.kl1_machine.proofs.Sincing.{each_both, since_store, since_counts}
+use Rattle.kl1_user_effects.proofs.States.{changed_count}
 
 -- ---- shoens that are there
 
@@ -119,10 +120,6 @@ tree_machine m hs inside same i =
     let O : ℕ → Type 0 = λ n. AreOwned n m.goals.goals in
     record { inside = record { some = w.some; goals = w.goals; shoens = inside; owned = subst O (sym same) w.owned }; last = i.last; known = i.known ∙ sym same }
 
-pub changed_length : (n : ℕ) (f : Shoen CellName → Shoen CellName) (ss : List (Shoen CellName)) → length (changed n f ss) ≡ length ss
-changed_length n f [] = refl
-changed_length n f (s ∷ ss) = ap suc (changed_length n f ss)
-
 pub becomes_left : (m : Machine) (t : Tree CellName) (hs : List (Shoen CellName)) → AreShoensIn m.store.held hs → length hs ≡ length m.shoens.shoens → IsMachine m → t ≡ record m.shoens { shoens = hs } → Becomes (having_shoens hs m) (record m { shoens = t })
 becomes_left m t hs inside same i is =
     let P : Tree CellName → Type 0 = λ u. Becomes (having_shoens hs m) (record m { shoens = u }) in
@@ -186,7 +183,7 @@ pub since_told : (b m : Machine) (v : Vec ℕ) (k n : ℕ) (x : Cell CellName) �
 since_told b m v k n x tree i only told s =
     let hs = changed n (λ (h : Shoen CellName). record h { control = x }) m.shoens.shoens in
     let u : Tree CellName = record m.shoens { shoens = hs } in
-    let same = changed_length n (λ (h : Shoen CellName). record h { control = x }) m.shoens.shoens in
+    let same = changed_count n (λ (h : Shoen CellName). record h { control = x }) m.shoens.shoens in
     record {
       keeps = record { grown = s.keeps.grown; trail = s.keeps.trail };
       hooks = s.hooks;
@@ -316,16 +313,6 @@ opened m x t u r i inside o =
 
 pub opened_since : (b m : Machine) (x : Shoen CellName) (t u : Tree CellName) (r : Rowed CellName) → IsTree m.shoens → IsMachine m → IsOpened m x t u r → Since b m → Since b (record m { shoens = u; goals = r })
 opened_since b m x t u r tree i o s = let P : Machine → Type 0 = λ n. Since b n in subst P (sym (opened_is m x t u r o)) (since_opened b m x u.room tree i s)
-
-pub keeps_opening : (m : Machine) (t : Tree CellName) (r : Rowed CellName) → t.kept ≡ m.shoens.kept → t.kept_work ≡ m.shoens.kept_work → r ≡ record m.goals { shoens = r.shoens } → Keeps m (record m { shoens = t; goals = r })
-keeps_opening m t r kept work row =
-    let T : List (Shoen CellName) → List ℕ → List (Goal CellName) → ℕ → Trail = λ ss ws gs n. record (trail_of m) { shoens = ss; work = ws; goals = gs; goal_shoens = n } in
-    record {
-      grown = HasGrown-same m.store;
-      trail = ap (λ ss. T ss t.kept_work r.begun r.begun_shoens) kept
-          ∙ ap (λ ws. T m.shoens.kept ws r.begun r.begun_shoens) work
-          ∙ ap (λ (q : Rowed CellName). T m.shoens.kept m.shoens.kept_work q.begun q.begun_shoens) row;
-    }
 
 -- ---- a charge that is done
 

@@ -1,20 +1,18 @@
 -- What stays since an event began, whatever is done.
-use Rattle.std.proofs.Common.{◌≡◌, ℕ, suc, ◌<◌, ◌≤◌, ◌&&◌, Bool, true, false, if◌then◌else◌, Option, Some, List, [], ◌∷◌, ◌++◌, length, refl, sym, ap, ◌∙◌, arith, subst, append_assoc}
+use Rattle.std.proofs.Common.{◌≡◌, ℕ, suc, ◌<◌, ◌&&◌, Bool, true, false, if◌then◌else◌, Option, Some, List, [], ◌∷◌, ◌++◌, length, refl, sym, ap, ◌∙◌, arith, subst, append_assoc}
 use Rattle.std.specs.List.{filter, AllByRecursion}
 use Rattle.std.proofs.lemmas.List.{append-nil}
-use Rattle.kl1_model.specs.Module.{is_among}
 use Rattle.kl1_text.specs.declared.cell_name.CellName.{CellName}
 use Rattle.kl1_store.specs.Hooks.{Kept}
 use Rattle.kl1_goals.specs.declared.task.Task.{Task}
 use Rattle.kl1_goals.specs.declared.goal.Goal.{Goal}
-use Rattle.kl1_goals.specs.Lists.{is_monitor}
 use Rattle.kl1_goals.specs.Rows.{Rowed}
 use Rattle.kl1_user_effects.specs.declared.spelled.Spelled.{Spelled}
-use Rattle.kl1_user_effects.specs.Settled.{control_at}
 use Rattle.kl1_user_effects.proofs.Goals.{filter_append, filter_in, filter_owned, filter_up_to}
 use Rattle.kl1_machine.specs.declared.machine.Machine.{Machine}
 use Rattle.kl1_machine.specs.Machines.{IsMachine}
-use Rattle.kl1_machine.specs.Effects.{Becomes, Puts, goal_at, with_goal, having_goals}
+use Rattle.kl1_user_effects.specs.Drafts.{goal_at}
+use Rattle.kl1_machine.specs.Effects.{Becomes, Puts, with_goal, having_goals}
 use Rattle.kl1_machine.specs.Since.{HasCome, KeepsControl, Since}
 use Rattle.kl1_machine.proofs.Keeping.{Grows, keeps_same, keeps_then, keeps_store, keeps_back}
 
@@ -146,23 +144,6 @@ since_back b m n k held hooks s t = record {
   flags = t.flags;
   work = t.work;
 }
-
--- ---- what is left of the goals that were there
-
--- of each goal that was there and is left a fact holds that holds of the goals that are there now with numbers up to the last that was
-pub left_hold : (P : Goal CellName → Type 0) (b n : Machine) → IsMachine b → (h : HasCome b n) → AllByRecursion (λ g. g.number ≤ b.counts.last_goal → P g) n.goals.goals → AllByRecursion P (filter h.left b.goals.goals)
-left_hold P b n i h a =
-    let Q : Goal CellName → Type 0 = λ g. g.number ≤ b.counts.last_goal → P g in
-    let A : List (Goal CellName) → Type 0 = λ gs. AllByRecursion Q gs in
-    each_both Q (λ g. g.number ≤ b.counts.last_goal) P (λ g q le. q le) (filter h.left b.goals.goals) (first (filter h.left b.goals.goals) h.added (subst A h.goals a)) (filter_up_to b.counts.last_goal h.left b.goals.goals i.last)
-  where
-    first : (gs hs : List (Goal CellName)) → AllByRecursion (λ g. g.number ≤ b.counts.last_goal → P g) (gs ++ hs) → AllByRecursion (λ g. g.number ≤ b.counts.last_goal → P g) gs
-    first [] hs c = tt
-    first (g ∷ gs) hs c = (c.0, first gs hs c.1)
-
--- each monitor that was there and is left has the control stream before it that it had, if it isn't told
-pub controls_left : (b n : Machine) → IsMachine b → (s : Since b n) → AllByRecursion (λ g. is_monitor g ≡ true → is_among g.number n.told.items ≡ false → control_at n.shoens.shoens g.shoen ≡ control_at b.shoens.shoens g.shoen) (filter s.come.left b.goals.goals)
-controls_left b n i s = left_hold (λ g. is_monitor g ≡ true → is_among g.number n.told.items ≡ false → control_at n.shoens.shoens g.shoen ≡ control_at b.shoens.shoens g.shoen) b n i s.come s.controls
 
 -- ---- a table of goals of which some have gone
 

@@ -1,5 +1,5 @@
 -- Reductions by which goals make moves.
-use Rattle.std.proofs.Common.{◌≡◌, ℕ, ◌+◌, ◌<◌, ◌≤◌, ◌==◌, ◌||◌, not, Bool, true, false, if◌then◌else◌, Option, Some, None, List, [], ◌∷◌, ◌++◌, length, map, refl, sym, ap, ◌∙◌, arith, subst}
+use Rattle.std.proofs.Common.{◌≡◌, ℕ, ◌+◌, ◌<◌, ◌||◌, Bool, true, false, Option, Some, None, List, [], ◌∷◌, ◌++◌, map, refl, sym, ap, ◌∙◌, subst}
 use Rattle.std.specs.Prelude.{find, filter}
 use Rattle.std.specs.List.{AllByRecursion}
 use Rattle.kl1_model.specs.Term.{Term, atom}
@@ -13,8 +13,7 @@ use Rattle.kl1_text.specs.declared.cell_name.CellName.{CellName}
 use Rattle.kl1_atoms.specs.declared.known.Known.{Known}
 use Rattle.kl1_atoms.specs.Names.{number_by}
 use Rattle.kl1_store.specs.declared.cell.Cell.{Cell}
-use Rattle.kl1_store.specs.declared.qualified.Qualified.{Qualified}
-use Rattle.kl1_store.specs.Held.{Held, IsIn}
+use Rattle.kl1_store.specs.Held.{Held}
 use Rattle.kl1_store.specs.Sound.{IsFormed}
 use Rattle.kl1_clause.specs.declared.predicate.Predicate.{Predicate}
 use Rattle.kl1_match.specs.declared.place.Place.{Place}
@@ -38,15 +37,16 @@ use Rattle.kl1_user_effects.specs.Moving.{name_for}
 use Rattle.kl1_user_effects.specs.Works.{Knows, worked}
 use Rattle.kl1_user_effects.proofs.Goals.{others_read}
 use Rattle.kl1_machine.specs.declared.machine.Machine.{Machine}
-use Rattle.kl1_machine.specs.declared.machine.planning.PlannedMove.{PlannedMove}
+use Rattle.kl1_ready.specs.declared.planning.PlannedMove.{PlannedMove}
 use Rattle.kl1_machine.specs.Machines.{made}
 use Rattle.kl1_machine.specs.Effects.{having_goals}
 use Rattle.kl1_machine.specs.Rested.{IsRested}
 use Rattle.kl1_machine.specs.Naming.{IsBoundLast, HasName, HoldsSpare, CanPublish, Patches, ReadsNew, IsNamed}
 use Rattle.kl1_machine.specs.Stepping.{ReadsText, ReadsAll, StepsAs}
 use Rattle.kl1_machine.specs.Rescheduling.{Reschedules}
-use Rattle.kl1_machine.specs.Reducing.{IsSteppable, CanDo, MovesBy, ReadsAlike, Reduces}
-use Rattle.kl1_machine.proofs.NameReadings.{IsAtomAt, atom_at, otherwise, otherwise_fits, otherwise_other, both_read, first_read, second_read, as_modules, fits_modules, modules_fit}
+use Rattle.kl1_ready.specs.Plans.{CanDo, MovesBy}
+use Rattle.kl1_machine.specs.Reducing.{IsSteppable, ReadsAlike, Reduces}
+use Rattle.kl1_user_effects.proofs.NameReadings.{IsAtomAt, atom_at, otherwise, otherwise_fits, otherwise_other, both_read, first_read, second_read, as_modules, fits_modules, modules_fit, same_text}
 use Rattle.kl1_machine.proofs.Planned.{found_holds}
 use Rattle.kl1_machine.proofs.Resting.{looked_read}
 
@@ -80,7 +80,7 @@ same_goal m s n g f h alike found fits other =
     found_holds (λ k. goal_with t k ≡ goal_with u k) n m.goals.goals g all found
 
 -- and it can do the same
-pub same_action : (program : Program) (m : Machine) (s : State) (n c : ℕ) (g : Goal CellName) (f h : Reading) → ReadsAlike m → find (has_number n) m.goals.goals ≡ Some g → Fits m.names.names f → Fits m.names.names h → (a b : Option Action) → CanDo program m g c f a → CanDo program m g c h b → a ≡ b
+pub same_action : (program : Program) (m : Machine) (s : State) (n c : ℕ) (g : Goal CellName) (f h : Reading) → ReadsAlike m → find (has_number n) m.goals.goals ≡ Some g → Fits m.names.names f → Fits m.names.names h → (a b : Option Action) → CanDo program m.store.held (made m) g c f a → CanDo program m.store.held (made m) g c h b → a ≡ b
 same_action program m s n c g f h alike found fits other a b one two =
     let z : State = record s { modules = contents program.loaded } in
     let task : task_with (meaning f m.store.held) g.task ≡ task_with (meaning h m.store.held) g.task = ap (λ (k : model.Goal). k.task) (same_goal m z n g f h alike found fits other) in
@@ -97,53 +97,57 @@ move_same t u x y e = cc
 named_same : (x y : reduction.Move) (s t : List ℕ) (u v : Term) → x ≡ y → Some x ≡ Some (names s u) → Some y ≡ Some (names t v) → u ≡ v
 named_same x y s t u v e p q = cc
 
-text_is : (s t : List ℕ) → atom s ≡ atom t → s ≡ t
-text_is s t e = cc
+-- a machine is at rest, each reading of its names reads the same of it, and a goal of it that may step makes a move by clause `c`
+pub record IsChosen (program : Program) (m : Machine) (n c : ℕ) (g : Goal CellName) (places : List (Place CellName)) (text : List ℕ) (a : PlannedMove) : Type 0 where
+  pub rested : IsRested program m
+  pub alike : ReadsAlike m
+  pub formed : IsFormed m.store.held
+  pub steppable : IsSteppable m.goals.goals n c g
+  pub makes : MovesBy program m.store.held (made m) g c places text a
 
--- a goal makes the same move for readings of the names
-same_move : (program : Program) (m : Machine) (s : State) (n c : ℕ) (g : Goal CellName) (places : List (Place CellName)) (text : List ℕ) (a : PlannedMove) (f h : Reading) → IsRested program m → ReadsAlike m → find (has_number n) m.goals.goals ≡ Some g → (p : MovesBy program m g c places text a) →
-    Fits m.names.names f → Fits m.names.names h → p.move f ≡ p.move h
-same_move program m s n c g places text a f h rested alike found p fits other =
-    let one = aim f m.store.held a.cell in
-    let two = aim h m.store.held a.cell in
-    move_same one two (p.move f) (p.move h) (same_action program m s n c g f h alike found fits other (Some (moves one (p.move f))) (Some (moves two (p.move h))) (p.does f (rested_knows program m f rested fits)) (p.does h (rested_knows program m h rested other)))
+module _ (program : Program) (m : Machine) (s : State) (n c : ℕ) (g : Goal CellName) (places : List (Place CellName)) (text : List ℕ) (a : PlannedMove) (p : IsChosen program m n c g places text a) where
+  -- it makes the same move for readings of the names
+  same_move : (f h : Reading) → Fits m.names.names f → Fits m.names.names h → p.makes.move f ≡ p.makes.move h
+  same_move f h fits other =
+      let one = aim f m.store.held a.cell in
+      let two = aim h m.store.held a.cell in
+      let q = p.makes in
+      move_same one two (q.move f) (q.move h)
+      (same_action program m s n c g f h p.alike p.steppable.found fits other (Some (moves one (q.move f))) (Some (moves two (q.move h))) (q.does f (rested_knows program m f p.rested fits)) (q.does h (rested_knows program m h p.rested other)))
 
--- a cell that a goal may unify with a name that is new isn't this name
-not_yet : (program : Program) (m : Machine) (s : State) (n c : ℕ) (g : Goal CellName) (places : List (Place CellName)) (text : List ℕ) (a : PlannedMove) (y : Cell CellName) (f : Reading) → IsRested program m → ReadsAlike m → IsFormed m.store.held → find (has_number n) m.goals.goals ≡ Some g → MovesBy program m g c places text a →
-    a.made ≡ made_move.Names y → Fits m.names.names f → number_by m.names.names text ≡ None → meaning f m.store.held y ≡ atom text → ⊥
-not_yet program m s n c g places text a y f rested alike formed found p is fits none e =
-    let known = m.names.names in
-    let h = otherwise known text f in
-    let other : Fits known h = otherwise_fits known text f none fits in
-    let I : Move CellName → Type 0 = λ k. MoveIn m.store.held a.predicate places text (Some k) in
-    let at : IsAtomAt m.store.held y f text = atom_at f m.store.held y text formed (subst I is p.runnable.inside).1 e in
-    let F : Move CellName → Type 0 = λ k. IsMove f m.store.held (Some (p.move f)) a.predicate places text (Some k) in
-    let H : Move CellName → Type 0 = λ k. IsMove h m.store.held (Some (p.move h)) a.predicate places text (Some k) in
-    let one = subst F is (p.is f (rested_knows program m f rested fits)) in
-    let two = subst H is (p.is h (rested_knows program m h rested other)) in
-    let same : meaning f m.store.held y ≡ meaning h m.store.held y = named_same (p.move f) (p.move h) text text (meaning f m.store.held y) (meaning h m.store.held y) (same_move program m s n c g places text a f h rested alike found p fits other) one two in
-    otherwise_other known text f at.number at.read (text_is (h at.number) text (sym (at.means h) ∙ sym same ∙ e))
+  -- a cell that it may unify with a name that is new isn't this name
+  not_yet : (y : Cell CellName) (f : Reading) → a.made ≡ made_move.Names y → Fits m.names.names f → number_by m.names.names text ≡ None → meaning f m.store.held y ≡ atom text → ⊥
+  not_yet y f is fits none e =
+      let known = m.names.names in
+      let q = p.makes in
+      let h = otherwise known text f in
+      let other : Fits known h = otherwise_fits known text f none fits in
+      let I : Move CellName → Type 0 = λ k. MoveIn m.store.held a.predicate places text (Some k) in
+      let at : IsAtomAt m.store.held y f text = atom_at f m.store.held y text p.formed (subst I is q.runnable.inside).1 e in
+      let F : Move CellName → Type 0 = λ k. IsMove f m.store.held (Some (q.move f)) a.predicate places text (Some k) in
+      let H : Move CellName → Type 0 = λ k. IsMove h m.store.held (Some (q.move h)) a.predicate places text (Some k) in
+      let one = subst F is (q.is f (rested_knows program m f p.rested fits)) in
+      let two = subst H is (q.is h (rested_knows program m h p.rested other)) in
+      let same : meaning f m.store.held y ≡ meaning h m.store.held y = named_same (q.move f) (q.move h) text text (meaning f m.store.held y) (meaning h m.store.held y) (same_move f h fits other) one two in
+      otherwise_other known text f at.number at.read (same_text (h at.number) text (sym (at.means h) ∙ sym same ∙ e))
 
-name_read : (program : Program) (m : Machine) (s : State) (n c : ℕ) (g : Goal CellName) (places : List (Place CellName)) (text : List ℕ) (a : PlannedMove) (y : Cell CellName) (f : Reading) (key : CellName) (name : Option (List ℕ)) (o : Option ℕ) → IsRested program m → ReadsAlike m → IsFormed m.store.held →
-    find (has_number n) m.goals.goals ≡ Some g → MovesBy program m g c places text a → a.made ≡ made_move.Names y → Fits m.names.names f → ReadsNew f key name → number_by m.names.names text ≡ o → name ≡ name_of o (keeps_names m.names.names text) text → ReadsText f m.store.held m.names.names text y key o
-name_read program m s n c g places text a y f key name None rested alike formed found p made_is fits reads e is =
-    λ keeps. (
-      (let P : Option (List ℕ) → Type 0 = λ z. ReadsNew f key z in subst P (is ∙ ap (λ b. name_of None b text) keeps) reads),
-      not_yet program m s n c g places text a y f rested alike formed found p made_is fits e,
-    )
-name_read program m s n c g places text a y f key name (Some k) rested alike formed found p made_is fits reads e is = fits.texts text k e
+  name_read : (y : Cell CellName) (f : Reading) (key : CellName) (name : Option (List ℕ)) (o : Option ℕ) → a.made ≡ made_move.Names y → Fits m.names.names f → ReadsNew f key name → number_by m.names.names text ≡ o → name ≡ name_of o (keeps_names m.names.names text) text → ReadsText f m.store.held m.names.names text y key o
+  name_read y f key name None made_is fits reads e is =
+      λ keeps. (
+        (let P : Option (List ℕ) → Type 0 = λ z. ReadsNew f key z in subst P (is ∙ ap (λ b. name_of None b text) keeps) reads),
+        not_yet y f made_is fits e,
+      )
+  name_read y f key name (Some k) made_is fits reads e is = fits.texts text k e
 
--- if a move uses a text as a name, readings of the names that an account has then read it
-names_read : (program : Program) (m : Machine) (s : State) (n c : ℕ) (g : Goal CellName) (places : List (Place CellName)) (text : List ℕ) (a : PlannedMove) (y : Move CellName) (ms : List Numbered) (more : List Known) (key : CellName) (name : Option (List ℕ)) → IsRested program m → ReadsAlike m → IsFormed m.store.held →
-    find (has_number n) m.goals.goals ≡ Some g → MovesBy program m g c places text a → a.made ≡ y → ((f : Reading) → Knows ms f → Fits more f) → IsNamed m.names.names more name key → name ≡ name_for y m.names.names text → ReadsAll y ms m.store.held m.names.names text key
-names_read program m s n c g places text a (made_move.Commits place) ms more key name rested alike formed found p made_is fits named is = tt
-names_read program m s n c g places text a (made_move.Raises b) ms more key name rested alike formed found p made_is fits named is = tt
-names_read program m s n c g places text a (made_move.Unifies y z) ms more key name rested alike formed found p made_is fits named is = tt
-names_read program m s n c g places text a (made_move.Names y) ms more key name rested alike formed found p made_is fits named is =
-    λ f knows. name_read program m s n c g places text a y f key name (number_by m.names.names text) rested alike formed found p made_is (named.fits f (fits f knows)) (named.reads f (fits f knows)) refl is
-names_read program m s n c g places text a (made_move.Opens k) ms more key name rested alike formed found p made_is fits named is = tt
-names_read program m s n c g places text a made_move.Goes ms more key name rested alike formed found p made_is fits named is = tt
-names_read program m s n c g places text a made_move.GivesWay ms more key name rested alike formed found p made_is fits named is = tt
+  -- if the move uses a text as a name, readings of the names that an account has then read it
+  names_read : (y : Move CellName) (ms : List Numbered) (more : List Known) (key : CellName) (name : Option (List ℕ)) → a.made ≡ y → ((f : Reading) → Knows ms f → Fits more f) → IsNamed m.names.names more name key → name ≡ name_for y m.names.names text → ReadsAll y ms m.store.held m.names.names text key
+  names_read (made_move.Commits place) ms more key name made_is fits named is = tt
+  names_read (made_move.Raises b) ms more key name made_is fits named is = tt
+  names_read (made_move.Unifies y z) ms more key name made_is fits named is = tt
+  names_read (made_move.Names y) ms more key name made_is fits named is = λ f knows. name_read y f key name (number_by m.names.names text) made_is (named.fits f (fits f knows)) (named.reads f (fits f knows)) refl is
+  names_read (made_move.Opens k) ms more key name made_is fits named is = tt
+  names_read made_move.Goes ms more key name made_is fits named is = tt
+  names_read made_move.GivesWay ms more key name made_is fits named is = tt
 
 -- ---- the reduction
 
@@ -160,27 +164,27 @@ looked_state f s h u v r =
     ap G (sym (looked_read (meaning f h) v.goals.goals u.goals.goals r.goals)) ∙ ap (λ (x : Machine). worked f s h (made x)) (sym r.rest)
 
 -- a goal of machine `m`, which rests, has been removed and has made its move, which comes to machine `u`, and goals are looked at again
-pub moved_reduces : (program : Program) (m u v : Machine) (c : ℕ) (g : Goal CellName) (places : List (Place CellName)) (text : List ℕ) (a : PlannedMove) → IsRested program m → ReadsAlike m → IsFormed m.store.held → IsSteppable m.goals.goals g.number c g → MovesBy program m g c places text a →
+pub moved_reduces : (program : Program) (m u v : Machine) (c : ℕ) (g : Goal CellName) (places : List (Place CellName)) (text : List ℕ) (a : PlannedMove) → IsChosen program m g.number c g places text a →
     StepsAs (record { predicate = a.predicate; move = a.made; places = places; text = text }) g a.cell (having_goals (filter (is_other g.number) m.goals.goals) m) u → Reschedules u v → Reduces program g.number c m v
-moved_reduces program m u v c g places text a rested alike formed steppable p steps r = record {
+moved_reduces program m u v c g places text a p steps r = record {
   goal = g;
-  steppable = steppable;
-  action = λ f. moves (aim f m.store.held a.cell) (p.move f);
-  does = p.does;
+  steppable = p.steppable;
+  action = λ f. moves (aim f m.store.held a.cell) (p.makes.move f);
+  does = p.makes.does;
   acts = λ more key last named patches f fits s.
       let ms = program.loaded ++ as_modules more in
       let fit : (q : Reading) → Knows ms q → Fits more q = λ q k. modules_fit q more k.reads (second_read q program.loaded (as_modules more) k.rows) in
       let old : (q : Reading) → Knows ms q → Knows program.loaded q = λ q k. record { reads = k.reads; rows = first_read q program.loaded (as_modules more) k.rows } in
-      let own = rested_knows program m f rested (named.fits f fits) in
+      let own = rested_knows program m f p.rested (named.fits f fits) in
       let knows : Knows ms f = record { reads = fits.reads; rows = both_read f program.loaded (as_modules more) own.rows (fits_modules f more fits) } in
       let name : v.name ≡ name_for a.made m.names.names text = ap (λ (x : Machine). x.name) r.rest ∙ steps.name in
       let P : Option Spelled → Held CellName → Type 0 = λ o h. Patches o key h last in
       let Q : Option Spelled → Type 0 = λ o. P o v.store.held in
       let R : Held CellName → Type 0 = λ h. P u.spelled h in
       let so : P u.spelled u.store.held = subst R r.held (subst Q (ap (λ (x : Machine). x.spelled) r.rest) patches) in
-      let reads = names_read program m s g.number c g places text a a.made ms more key v.name rested alike formed steppable.found p refl fit named name in
-      let change : State → State = λ z. after_reduction g.shoen (moved (goal_with (meaning f m.store.held) g) (aim f m.store.held a.cell) (p.move f) (charge g.shoen z)) in
-      ap change (sym (without_read f s m g.number)) ∙ (steps.turns ms p.move key last reads so (λ q k. p.is q (old q k))).states f knows s ∙ looked_state f s last u v r;
+      let reads = names_read program m s g.number c g places text a p a.made ms more key v.name refl fit named name in
+      let change : State → State = λ z. after_reduction g.shoen (moved (goal_with (meaning f m.store.held) g) (aim f m.store.held a.cell) (p.makes.move f) (charge g.shoen z)) in
+      ap change (sym (without_read f s m g.number)) ∙ (steps.turns ms p.makes.move key last reads so (λ q k. p.makes.is q (old q k))).states f knows s ∙ looked_state f s last u v r;
   spare_last =
       (let H : Option Spelled → Held CellName → Type 0 = λ o h. HoldsSpare o h in
       let O : Option Spelled → Type 0 = λ o. H o u.store.held in

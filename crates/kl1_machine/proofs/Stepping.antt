@@ -1,8 +1,7 @@
 -- A goal's move, or a name that is new and comes of it.
-use Rattle.std.proofs.Common.{◌≡◌, ℕ, not, Bool, true, false, List, [], ◌∷◌, length, refl, sym, ap, ◌∙◌, subst}
-use Rattle.std.specs.Prelude.{Option, None, Some, nat_le, IsTrue}
+use Rattle.std.proofs.Common.{◌≡◌, ℕ, not, Bool, true, List, [], ◌∷◌, length, refl, sym, ap, ◌∙◌, subst}
+use Rattle.std.specs.Prelude.{Option, None, Some, nat_le}
 use Rattle.kl1_model.specs.declared.limits.TheConstants.{MOST_NAMES}
-use Rattle.kl1_model.specs.Text.{is_text}
 use Rattle.kl1_model.specs.Term.{Term, variable, atom}
 use Rattle.kl1_model.specs.Unify.{mgu_within, mgu}
 use Rattle.kl1_model.specs.State.{State, replace_in_state, with_name}
@@ -24,8 +23,8 @@ use Rattle.kl1_goals.specs.declared.goal.Goal.{Goal}
 use Rattle.kl1_codes.specs.Numbered.{Numbered}
 use Rattle.kl1_user_effects.specs.declared.spelled.Spelled.{Spelled}
 use Rattle.kl1_user_effects.specs.Fitting.{Reading, built}
-use Rattle.kl1_user_effects.specs.Account.{Means, meaning, aim, goal_with, texts_of}
-use Rattle.kl1_user_effects.specs.Works.{Made, worked}
+use Rattle.kl1_user_effects.specs.Account.{Means, meaning, aim, goal_with}
+use Rattle.kl1_user_effects.specs.Works.{worked}
 use Rattle.kl1_user_effects.specs.Works as works
 use Rattle.kl1_user_effects.specs.Calling.{keeps_names, name_of, ReadsKnown}
 use Rattle.kl1_user_effects.specs.Moving.{ReadsMove, name_for}
@@ -33,9 +32,10 @@ use Rattle.kl1_user_effects.proofs.Works.{turns_as}
 use Rattle.kl1_machine.specs.declared.machine.Machine.{Machine}
 use Rattle.kl1_machine.specs.Machines.{made}
 use Rattle.kl1_machine.specs.Moving.{Making, IsMade, RunsAs}
-use Rattle.kl1_machine.specs.Naming.{CanBecome, CannotBecome, BindsName, BindsNone, with_text, IsBoundLast, HoldsSpare, Patches, HasName, MakesName}
+use Rattle.kl1_machine.specs.Naming.{CanBecome, CannotBecome, BindsName, BindsNone, with_text, IsBoundLast, HoldsSpare, Patches, MakesName}
 use Rattle.kl1_machine.specs.Stepping.{ReadsText, ReadsAll, StepsAs}
 use Rattle.kl1_machine.proofs.Naming.{names_are}
+use Rattle.kl1_machine.proofs.Moving.{found_is}
 
 -- ---- a move by which no variable becomes a name
 
@@ -70,9 +70,6 @@ steps_run a goal x m n binds unspelled runs =
     }
 
 -- ---- a variable that becomes a name
-
-found_is : (m n : model.Move) (o : Option model.Move) → o ≡ Some m → o ≡ Some n → m ≡ n
-found_is m n o a b = cc
 
 variable_solved : (v : ℕ) (text : List ℕ) → mgu (equation (variable v) (atom text)) ≡ Some (record { number = v; by = atom text } ∷ [])
 unfolding mgu_within

@@ -1,5 +1,5 @@
 -- What goals do to a machine.
-use Rattle.std.specs.Prelude.{◌≡◌, ℕ, suc, ◌+◌, ◌||◌, Bool, true, false, List, [], ◌∷◌, ◌++◌, length, find, None}
+use Rattle.std.specs.Prelude.{◌≡◌, ℕ, suc, ◌+◌, ◌||◌, Bool, true, false, List, [], ◌∷◌, ◌++◌, length, find}
 use Rattle.std.specs.List.{list_any}
 use Rattle.kl1_model.specs.State.{State}
 use Rattle.kl1_model.specs.Match.{Candidate}
@@ -26,16 +26,13 @@ use Rattle.kl1_user_effects.specs.Works.{Knows, worked}
 use Rattle.kl1_user_effects.specs.Works as works
 use Rattle.kl1_user_effects.specs.Late.{KeepsFree}
 use Rattle.kl1_user_effects.specs.Reports.{unheard}
+use Rattle.kl1_user_effects.specs.Drafts.{goal_at}
 use Rattle.kl1_machine.specs.declared.machine.Machine.{Machine}
 use Rattle.kl1_machine.specs.Machines.{made, IsMachine}
 
 -- a machine has come on by this change of states
 abbrev pub Turns : (Reading → State → State) → Machine → Machine → Type 0
 Turns change m n = (ms : List Numbered) → works.Turns ms change m.store.held n.store.held (made m) (made n)
-
--- a goal of a shoen with this number, priority and task, which can't step as yet
-abbrev pub goal_at : ℕ → ℕ → ℕ → Task CellName → Goal CellName
-goal_at n shoen priority task = record { number = n; task = task; shoen = shoen; priority = priority; standing = None; is_enabled = false }
 
 -- a machine with these goals
 abbrev pub having_goals : List (Goal CellName) → Machine → Machine

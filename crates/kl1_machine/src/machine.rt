@@ -2,6 +2,7 @@
 
 mod answering;
 mod beginning;
+mod bringing;
 mod children;
 mod committing;
 mod effects;
@@ -11,7 +12,6 @@ mod late;
 mod loading;
 mod moving;
 mod naming;
-mod planning;
 mod publishing;
 mod reading;
 mod reducing;
@@ -24,13 +24,12 @@ mod unifying;
 
 use crate::counts::Counts;
 pub use answering::Answer;
-pub use ending::PathScan;
+pub use bringing::Brought;
 use kl1_goals::{GoalRow, Rules};
 use kl1_shoen::ShoenTree;
 use kl1_store::{Point, Store};
 use kl1_text::{AtomText, CellName};
 use kl1_user_effects::{AccountNames, Spelled};
-pub use planning::Plan;
 pub use starting::Start;
 
 /// An account's parts. An event changes them in place, and they go back if memory is refused.

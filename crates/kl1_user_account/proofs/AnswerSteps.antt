@@ -36,7 +36,7 @@ use Rattle.kl1_user_account.specs.declared.answerable.Answering.TheVariants.{Ref
 use Rattle.kl1_user_account.specs.Starting.{HasNames}
 use Rattle.kl1_user_account.specs.Answering.{has_room_to_answer_beside, RefusesAnswer, IsAnswerable, AnswersAs}
 use Rattle.kl1_user_effects.proofs.States.{found_in}
-use Rattle.kl1_user_account.proofs.Origins.{kept_at}
+use Rattle.kl1_user_effects.proofs.Messages.{kept_at}
 use Rattle.kl1_user_account.proofs.StartSteps.{crowded, uncrowded, free_in}
 
 -- ---- the step of an answer

@@ -1,5 +1,5 @@
 -- An account after an answer.
-use Rattle.std.proofs.Common.{◌≡◌, ℕ, ◌+◌, ◌<◌, ◌^◌, true, List, [], refl, sym, ap, ◌∙◌, subst, arith}
+use Rattle.std.proofs.Common.{◌≡◌, ℕ, ◌+◌, ◌<◌, ◌^◌, true, [], refl, sym, ap, ◌∙◌, subst, arith}
 use Rattle.std.specs.Prelude.{nat_le}
 use Rattle.std.proofs.lemmas.Bool.{and_parts, leb-true}
 use Rattle.kl1_model.specs.declared.rules.Rules.{Rules}
@@ -12,19 +12,15 @@ use Rattle.kl1_model.specs.Event.{answer, sent, refuse, with_entry, Transition}
 use Rattle.kl1_model.specs.Answering.{answered}
 use Rattle.kl1_model.specs.Step.{step}
 use Rattle.kl1_text.specs.Reading.{Reads}
-use Rattle.kl1_text.specs.declared.cell_name.CellName.{CellName}
 use Rattle.kl1_user_events.specs.declared.refusal.Refusal.{Refusal}
 use Rattle.kl1_user_events.specs.Views.{refusal_of}
 use Rattle.kl1_user_effects.specs.Fitting.{Reading, Fits, built}
 use Rattle.kl1_user_effects.specs.Account.{Account, state_of}
-use Rattle.kl1_machine.specs.declared.machine.Machine.{Machine}
 use Rattle.kl1_user_account.specs.declared.counted.Counted.{Counted}
 use Rattle.kl1_user_account.specs.Starting.{HasNames}
 use Rattle.kl1_user_account.specs.Answering.{has_room_to_answer_beside, RefusesAnswer, IsAnswerable}
 use Rattle.kl1_user_account.proofs.Counting.{low_limits}
 use Rattle.kl1_user_account.proofs.AnswerSteps.{step_answerable}
-use Rattle.kl1_user_account.proofs.Machines.{Aside, account_of}
-use Rattle.kl1_user_account.proofs.Bringing.{noted, IsBrought, brought_state}
 
 -- ---- answers that are refused
 
@@ -53,12 +49,11 @@ few_nodes rules c goal have more most same top e =
 
 -- ---- the step of an answer
 
-pub answered_steps : (x : Aside) (c : Counted) (n report v : ℕ) (goal code : Term) (spares numbers : List CellName) (b r m : Machine) (self : Account) → account_of x b ≡ self → IsBrought x (answered v code) code spares numbers b r m → ((f : Reading) → HasNames (state_of f self) self.names c) → IsAnswerable self.rules self.held self.shoens self.names c n report goal code v →
-    (f : Reading) → Fits m.names.names f → Reads built f → step (state_of f self) (answer n report goal) ≡ record { state = state_of f (account_of (noted x) m); reply = sent }
-answered_steps x c n report v goal code spares numbers b r m self view p at may f fits reads =
-    let s = state_of f self in
+pub answered_steps : (c : Counted) (n report v : ℕ) (goal code : Term) (a b : Account) → ((f : Reading) → HasNames (state_of f a) a.names c) → IsAnswerable a.rules a.held a.shoens a.names c n report goal code v →
+    ((f : Reading) → Fits b.names f → with_entry (answered v code (state_of f a)) ≡ state_of f b) → (f : Reading) → Fits b.names f → step (state_of f a) (answer n report goal) ≡ record { state = state_of f b; reply = sent }
+answered_steps c n report v goal code a b at may brought f fits =
+    let s = state_of f a in
     let R : State → Transition = λ z. record { state = z; reply = sent } in
-    step_answerable self.rules self.held self.shoens self.names c n report goal code v may f reads (record s { goals = []; shoens = []; last_variable = 0 }) self.goals refl (at f)
+    step_answerable a.rules a.held a.shoens a.names c n report goal code v may f fits.reads (record s { goals = []; shoens = []; last_variable = 0 }) a.goals refl (at f)
     ∙ ap (λ (t : Term). R (with_entry (answered v t s))) (sym may.code_is)
-    ∙ ap (λ (a : Account). R (with_entry (answered v code (state_of f a)))) (sym view)
-    ∙ ap R (brought_state x (answered v code) code spares numbers b r m p f fits)
+    ∙ ap R (brought f fits)

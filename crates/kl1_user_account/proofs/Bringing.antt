@@ -14,11 +14,11 @@ use Rattle.kl1_user_effects.specs.Account.{Account, state_of}
 use Rattle.kl1_machine.specs.declared.machine.Machine.{Machine}
 use Rattle.kl1_machine.specs.Machines.{Keeps}
 use Rattle.kl1_machine.specs.Rested.{IsRested}
-use Rattle.kl1_machine.specs.Exchanging.{AreSpared, PublishesNames}
-use Rattle.kl1_machine.specs.Bringing.{Brings, IsPublished}
+use Rattle.kl1_machine.specs.Bringing.{PublishesNames, Brings, IsPublished}
+use Rattle.kl1_user_effects.specs.Exchanging.{AreSpared}
 use Rattle.kl1_machine.proofs.Brought.{published_states, published_rested, published_alike}
 use Rattle.kl1_user_account.specs.Keeping.{IsKept, CountsWork}
-use Rattle.kl1_user_account.specs.Loadings.{BeginsFrom}
+use Rattle.kl1_user_account.specs.Events.{BeginsFrom}
 use Rattle.kl1_user_account.proofs.Counting.{counts_entry}
 use Rattle.kl1_user_account.proofs.Machines.{Aside, account_of, program_in, state_aside, state_is, kept_alike, rested_by, rested_kept, IsSame, same_then, same_kept, same_counts, begun_same}
 

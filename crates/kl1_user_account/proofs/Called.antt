@@ -1,12 +1,10 @@
 -- Goals in the module of a name, printed.
-use Rattle.std.proofs.Common.{◌≡◌, ℕ, List, [], ◌∷◌, ◌++◌, sym, ap, ap₂, ◌∙◌, append-nil}
-use Rattle.std.specs.Prelude.{Option, Some}
+use Rattle.std.proofs.Common.{◌≡◌, ℕ, List, [], ◌∷◌, sym, ap, ◌∙◌, append-nil}
+use Rattle.std.specs.Prelude.{Option, Some, codes}
 use Rattle.kl1_model.specs.Term.{Term, structure, none, more}
 use Rattle.kl1_model.specs.Print.{print}
-use Rattle.kl1_model.specs.State as model
 use Rattle.kl1_model.specs.State.{reduces, substitutes}
 use Rattle.kl1_model.specs.declared.built_in.BuiltIn.TheVariants.{Colon}
-use Rattle.std.specs.Prelude.{codes}
 use Rattle.kl1_term.specs.declared.printer.Printer.{Printer}
 use Rattle.kl1_term.specs.declared.mode.Mode.TheVariants.{Whole}
 use Rattle.kl1_term.specs.Nodes.{with_node}
@@ -25,18 +23,6 @@ use Rattle.kl1_user_account.specs.Tops.{node_with, stacked_terms}
 -- readings that fit read the name of `:` alike
 pub colon_named : (name : CellName) (ks : List Known) (f g : Reading) → name ≡ built Colon → Fits ks f → Fits ks g → f name ≡ g name
 colon_named name ks f g is a b = ap f is ∙ a.reads.texts Colon ∙ sym (b.reads.texts Colon) ∙ sym (ap g is)
-
--- readings that read a goal in a module alike read its parts alike
-pub parts_named : (f g : Reading) (h : Held CellName) (m : CellName) (x : Cell CellName) (stack : List (Cell CellName)) → stack ≡ x ∷ Atom m ∷ [] →
-    told_in (meaning f h) (Some m) (meaning f h x) ≡ told_in (meaning g h) (Some m) (meaning g h x) → stacked_terms f h stack ≡ stacked_terms g h stack
-parts_named f g h m x stack e same =
-    ap (stacked_terms f h) e ∙ ap₂ (λ (t u : Term). t ∷ u ∷ []) (name_of (meaning f h (Atom m)) (meaning g h (Atom m)) (meaning f h x) (meaning g h x) same) (goal_of (meaning f h (Atom m)) (meaning g h (Atom m)) (meaning f h x) (meaning g h x) same) ∙ ap (stacked_terms g h) (sym e)
-  where
-    name_of : (a b t u : Term) → structure (codes ":") (more a (more t none)) ≡ structure (codes ":") (more b (more u none)) → a ≡ b
-    name_of a b t u k = cc
-
-    goal_of : (a b t u : Term) → structure (codes ":") (more a (more t none)) ≡ structure (codes ":") (more b (more u none)) → t ≡ u
-    goal_of a b t u k = cc
 
 -- a printer that was given `:` makes the text of the goal with its module of the two parts
 pub called_printed : (ks : List Known) (h : Held CellName) (name m : CellName) (x : Cell CellName) (most : Option ℕ) (p q : Printer) (stack : List (Cell CellName)) (text : List ℕ) →

@@ -8,7 +8,7 @@ use Rattle.kl1_model.specs.State.{State, shoen_at}
 use Rattle.kl1_model.specs.Term.{Term}
 use Rattle.kl1_model.specs.Match.{call_of}
 use Rattle.kl1_model.specs.Control.{Control, awaits_message, tells, tells_other, ends, breaks_off, control_of}
-use Rattle.kl1_model.specs.Tree.{is_enabled, is_enabled_in}
+use Rattle.kl1_model.specs.Tree.{is_enabled}
 use Rattle.kl1_model.specs.Look.{goal_look}
 use Rattle.kl1_model.specs.Reduction.{Move, moves, term_move, read_action, task_action, action_of}
 use Rattle.kl1_model.specs.code.Waits.{move_by, look_clause, call_clauses}
@@ -21,10 +21,8 @@ use Rattle.kl1_text.specs.declared.cell_name.CellName.{CellName}
 use Rattle.kl1_goals.specs.declared.task.Task.{Task}
 use Rattle.kl1_goals.specs.declared.task.Task.TheVariants.{Monitor, Reduces, Substitutes}
 use Rattle.kl1_goals.specs.declared.goal.Goal.{Goal}
-use Rattle.kl1_goals.specs.Lists.{is_monitor_task, is_monitor}
 use Rattle.kl1_shoen_paths.specs.declared.shoen.Shoen.{Shoen}
 use Rattle.kl1_shoen.specs.Shoens.{shoen_in}
-use Rattle.kl1_shoen.proofs.Meaning.{Has, enabled_is}
 use Rattle.kl1_goals.specs.Readies.{Ready, goes_first, stands, ready_by, ready_of, better, first_from, chosen as chosen_pair}
 use Rattle.kl1_codes.specs.Finding.{contents}
 use Rattle.kl1_codes.specs.Shelves.{Program}
@@ -32,6 +30,7 @@ use Rattle.kl1_user_effects.specs.Fitting.{Reading, Fits}
 use Rattle.kl1_user_effects.specs.Account.{Account, program_of, Means, meaning, aim_with, goal_with, task_with, shoen_with, state_of}
 use Rattle.kl1_user_effects.specs.Settled.{front_with, control_with, control_clause, monitor_clause, task_clause, IsSettled, AreSettled, IsEnabled, AreEnabled}
 use Rattle.kl1_model.specs.Found.{Found, found, awaits, wrong}
+use Rattle.kl1_machine.proofs.Planned.{enabled_read}
 
 -- ---- one goal before another
 
@@ -377,17 +376,6 @@ clause_enabled s g true o e is =
     find_alike (λ c. is_some (action_of s g c)) (λ c. is_some (task_action s g.shoen g.task c)) (λ c. ap (λ b. is_some (if b then task_action s g.shoen g.task c else None)) e) (task_clauses s.modules g.task) ∙ is
 clause_enabled s g false o e is =
     find_none (λ c. is_some (action_of s g c)) (λ c. ap (λ b. is_some (if b then task_action s g.shoen g.task c else None)) e) (task_clauses s.modules g.task)
-
--- a goal may step just if the definitions let it
-pub enabled_read : (f : Reading) (h : Held CellName) (shoens : List (Shoen CellName)) (work : List ℕ) (s : State) (g : Goal CellName) → s.shoens ≡ map (shoen_with (meaning f h)) shoens → s.work ≡ work → IsEnabled shoens work g → is_enabled s (goal_with (meaning f h) g) ≡ g.is_enabled
-enabled_read f h shoens work s g e w is =
-    let has : Has f h shoens work s = record { shoens = e; charged = w } in
-    by_task g.task ∙ ap (λ b. is_monitor g || b) (enabled_is f h shoens work s has g.shoen) ∙ sym is
-  where
-    by_task : (k : Task CellName) → (model.is_monitor (task_with (meaning f h) k) || is_enabled_in s g.shoen) ≡ (is_monitor_task k || is_enabled_in s g.shoen)
-    by_task Monitor = refl
-    by_task (Reduces x) = refl
-    by_task (Substitutes x) = refl
 
 -- a goal that is settled, and may step as the shoens have it, stands
 pub one_stands : (f : Reading) (hooks : List Hook) (h : Held CellName) (program : Program) (shoens : List (Shoen CellName)) (work : List ℕ) (s : State) (g : Goal CellName) → s.shoens ≡ map (shoen_with (meaning f h)) shoens → s.work ≡ work → s.rules ≡ program.rules → s.modules ≡ contents program.loaded →

@@ -1,5 +1,5 @@
 -- How a journal counts, and what is counted of an account.
-use Rattle.std.proofs.Common.{◌≡◌, ℕ, zero, suc, ◌+◌, ◌^◌, ◌<◌, ◌≤◌, ◌==◌, not, ◌||◌, Bool, true, false, arith, length, nat_lt, if◌then◌else◌, refl, sym, ◌∙◌, subst, count_by, List, [], ◌∷◌, map, ap₂}
+use Rattle.std.proofs.Common.{◌≡◌, ℕ, zero, suc, ◌+◌, ◌≤◌, ◌==◌, not, ◌||◌, Bool, true, false, arith, length, nat_lt, if◌then◌else◌, refl, sym, ◌∙◌, subst, count_by, List, [], ◌∷◌, map, ap₂}
 use Rattle.std.specs.Prelude.{nat_le, cond}
 use Rattle.std.proofs.lemmas.Bool.{ltb-true, ltb-false, lt-leb, le-leb, ne_eqb}
 use Rattle.kl1_model.specs.declared.limits.TheConstants.{MOST_RUN}
@@ -27,14 +27,6 @@ use Rattle.kl1_model.specs.State as model
 -- limits of whichever rules are low
 pub low_limits : (rules : Rules) (most : Limits) → most ≡ limits_of rules → AreLow most
 low_limits rules most e = subst (λ (l : Limits). AreLow l) (sym e) (limits_are_low rules)
-
--- so fewer than 2 ^ 63 reductions are charged
-pub few_charged : (rules : Rules) (work entries run : ℕ) → entries ≤ (limits_of rules).entries → CountsWork work entries run → work + 1 < 2 ^ 63
-few_charged rules work entries run most w = let few = (limits_are_low rules).entries in let all = w.all in omega (arith, most, few, all)
-
--- and a count of entries has room for one more
-pub few_more : (rules : Rules) (entries : ℕ) → entries ≤ (limits_of rules).entries → entries < 2 ^ 63
-few_more rules entries most = let few = (limits_are_low rules).entries in omega (arith, most, few)
 
 -- one entry more is counted, which is no run
 pub counts_entry : (work entries run : ℕ) → CountsWork work entries run → CountsWork work (suc entries) 0
@@ -70,7 +62,7 @@ not_less most n = by (nat_lt n most) refl
 -- ---- what is counted of what is limited
 
 -- how a goal's task is that of a monitor
-monitor_read : (t : Means) (k : Task CellName) → model.is_monitor (task_with t k) ≡ is_monitor_task k
+pub monitor_read : (t : Means) (k : Task CellName) → model.is_monitor (task_with t k) ≡ is_monitor_task k
 monitor_read t Monitor = refl
 monitor_read t (Reduces q) = refl
 monitor_read t (Substitutes x) = refl

@@ -7,7 +7,6 @@ pub mod Choosing
 pub mod StartLines
 pub mod PrintLengths
 pub mod Begun
-pub mod NamesOnce
 pub mod StartChecks
 pub mod StartSteps
 pub mod Statuses

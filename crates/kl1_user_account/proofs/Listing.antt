@@ -1,5 +1,5 @@
 -- Lists that are shown: reports, and modules.
-use Rattle.std.proofs.Common.{◌≡◌, ℕ, zero, suc, ◌-◌, ◌<◌, ◌≤◌, ◌&&◌, nat_le, true, false, if◌then◌else◌, List, [], ◌∷◌, ◌++◌, map, take, drop, append_assoc, refl, sym, ap, ◌∙◌}
+use Rattle.std.proofs.Common.{◌≡◌, ℕ, suc, ◌-◌, ◌<◌, ◌≤◌, ◌&&◌, nat_le, true, false, if◌then◌else◌, List, [], ◌∷◌, ◌++◌, map, take, drop, append_assoc, sym, ap, ◌∙◌}
 use Rattle.std.specs.Prelude.{Option, Some, None, option_map}
 use Rattle.std.proofs.lemmas.Bool.{le-leb, lt-leb}
 use Rattle.kl1_model.specs.declared.limits.TheConstants.{MOST_LISTED}
@@ -15,14 +15,15 @@ use Rattle.kl1_text.specs.declared.cell_name.CellName.{CellName}
 use Rattle.kl1_atoms.specs.declared.known.Known.{Known}
 use Rattle.kl1_store.specs.declared.cell.Cell.{Cell}
 use Rattle.kl1_store.specs.Held.{Held, IsIn}
-use Rattle.kl1_stream.specs.Elements.{HasNoElement, HasElement}
+use Rattle.kl1_stream.specs.Elements.{HasElement}
 use Rattle.kl1_goals.specs.declared.goal.Goal.{Goal}
 use Rattle.kl1_shoen_paths.specs.declared.shoen.Origin.{Origin}
 use Rattle.kl1_shoen_paths.specs.declared.shoen.Shoen.{Shoen}
 use Rattle.kl1_user_effects.specs.Fitting.{Reading, Fits, built}
 use Rattle.kl1_user_effects.specs.Account.{meaning, origin_with, shoen_with, with_kept}
 use Rattle.kl1_user_account.specs.Asked.{cells_of}
-use Rattle.kl1_user_account.proofs.Origins.{kept_at, origin_read}
+use Rattle.kl1_user_account.proofs.Origins.{origin_read}
+use Rattle.kl1_user_effects.proofs.Messages.{kept_at}
 
 -- ---- elements printed one after another
 
@@ -32,39 +33,12 @@ pub record IsListing (ks : List Known) (h : Held CellName) (list at : Cell CellN
   pub named : (f g : Reading) → Fits ks f → Fits ks g → cells_of f h at ≡ cells_of g h at
   pub listed : (f : Reading) → Fits ks f → done ++ map cut_print (take left (cells_of f h at)) ≡ map cut_print (take most (cells_of f h list))
 
-append_none : {A : Type 0} (xs : List A) → xs ++ [] ≡ xs
-append_none [] = refl
-append_none {A = A} (x ∷ xs) = ap (λ (ys : List A). x ∷ ys) (append_none xs)
-
-take_none : {A : Type 0} (n : ℕ) (xs : List A) → xs ≡ [] → take n xs ≡ []
-take_none zero xs e = refl
-take_none (suc n) [] e = refl
-take_none (suc n) (x ∷ xs) e = absurd (cc)
-
--- at the end of the list
-pub listed_all : (ks : List Known) (h : Held CellName) (list at : Cell CellName) (most left : ℕ) (done : List (List ℕ)) → IsListing ks h list at most left done → HasNoElement built h at → (f : Reading) → Fits ks f → done ≡ map cut_print (take most (cells_of f h list))
-listed_all ks h list at most left done l end f fits =
-    sym (append_none done) ∙ ap (λ (ts : List Term). done ++ map cut_print ts) (sym (take_none left (cells_of f h at) (end f fits.reads))) ∙ l.listed f fits
-
--- if no more are wanted
-pub listed_most : (ks : List Known) (h : Held CellName) (list at : Cell CellName) (most left : ℕ) (done : List (List ℕ)) → IsListing ks h list at most left done → left ≡ 0 → (f : Reading) → Fits ks f → done ≡ map cut_print (take most (cells_of f h list))
-listed_most ks h list at most left done l end f fits = sym (append_none done) ∙ ap (λ n. done ++ map cut_print (take n (cells_of f h at))) (sym end) ∙ l.listed f fits
-
 -- the elements from a list cell on
 elements_at : (h : Held CellName) (x : Cell CellName) (p : Cell CellName × Cell CellName) → HasElement built h x p → (f : Reading) → (ks : List Known) → Fits ks f → cells_of f h x ≡ meaning f h p.0 ∷ cells_of f h p.1
 elements_at h x p e f ks fits = ap elements_of (e.is f fits.reads)
 
-heads_same : (a b : Term) (xs ys : List Term) → a ∷ xs ≡ b ∷ ys → a ≡ b
-heads_same a b xs ys e = cc
-
 tails_same : (a b : Term) (xs ys : List Term) → a ∷ xs ≡ b ∷ ys → xs ≡ ys
 tails_same a b xs ys e = cc
-
--- the next element is the same for all readings
-pub element_named : (ks : List Known) (h : Held CellName) (list at : Cell CellName) (most left : ℕ) (done : List (List ℕ)) (p : Cell CellName × Cell CellName) → IsListing ks h list at most left done → HasElement built h at p →
-    (f g : Reading) → Fits ks f → Fits ks g → meaning f h p.0 ≡ meaning g h p.0
-element_named ks h list at most left done p l e f g a b =
-    heads_same (meaning f h p.0) (meaning g h p.0) (cells_of f h p.1) (cells_of g h p.1) (sym (elements_at h at p e f ks a) ∙ l.named f g a b ∙ elements_at h at p e g ks b)
 
 take_more : (n m : ℕ) (t : Term) (ts : List Term) → n ≡ suc m → map cut_print (take n (t ∷ ts)) ≡ cut_print t ∷ map cut_print (take m ts)
 take_more n m t ts e = ap (λ k. map cut_print (take k (t ∷ ts))) e

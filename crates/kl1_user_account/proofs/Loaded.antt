@@ -30,7 +30,7 @@ use Rattle.kl1_machine.specs.Rested.{IsRested}
 use Rattle.kl1_machine.specs.Rescheduling.{unready, Reschedules, AllSettled}
 use Rattle.kl1_machine.proofs.Looking.{looked_hold, unready_hold}
 use Rattle.kl1_machine.proofs.Resting.{looked_read}
-use Rattle.kl1_machine.proofs.Exchanged.{settled_alike}
+use Rattle.kl1_user_effects.proofs.Exchanged.{settled_alike}
 use Rattle.kl1_user_account.specs.Keeping.{IsKept, CountsWork}
 use Rattle.kl1_user_account.specs.Loadings.{IsDraftOf, LooksBeside}
 use Rattle.kl1_user_account.proofs.Counting.{counts_entry}

@@ -8,7 +8,7 @@ use Rattle.kl1_model.specs.Module.{Module, read_module, good}
 use Rattle.kl1_model.specs.Match.{module_of}
 use Rattle.kl1_model.specs.State.{State, names_of_module, with_names}
 use Rattle.kl1_model.specs.Rules.{limits_of}
-use Rattle.kl1_model.specs.Event.{load, loaded, refuse, is_full}
+use Rattle.kl1_model.specs.Event.{load, refuse, is_full}
 use Rattle.kl1_model.specs.Step.{step, load_module}
 use Rattle.kl1_text.specs.Reading.{Reads}
 use Rattle.kl1_text.specs.declared.atom_no.AtomNo.{AtomNo}

@@ -3,12 +3,8 @@ use Rattle.std.proofs.Common.{◌≡◌, ℕ, ◌≤◌, false, List, [], length
 use Rattle.kl1_model.specs.declared.rules.Rules.{Rules}
 use Rattle.kl1_model.specs.Rules.{limits_of}
 use Rattle.kl1_model.specs.State.{State}
-use Rattle.kl1_store.specs.Held.{Held}
 use Rattle.kl1_store.specs.Hooks.{Hook, point_of}
-use Rattle.kl1_goals.specs.Rows.{Rowed}
-use Rattle.kl1_text.specs.declared.cell_name.CellName.{CellName}
 use Rattle.kl1_atoms.specs.declared.known.Known.{Known}
-use Rattle.kl1_shoen_paths.specs.declared.shoen.Shoen.{Shoen}
 use Rattle.kl1_codes.specs.Numbered.{Numbered}
 use Rattle.kl1_codes.specs.Finding.{contents}
 use Rattle.kl1_codes.specs.Shelves.{Program}
@@ -18,7 +14,7 @@ use Rattle.kl1_user_effects.specs.Naming.{NameShelf, AreSmall}
 use Rattle.kl1_user_effects.specs.Drafts.{names_with}
 use Rattle.kl1_user_effects.specs.Works.{worked}
 use Rattle.kl1_machine.specs.declared.machine.Machine.{Machine}
-use Rattle.kl1_machine.specs.Machines.{made, IsBegun, IsBack, Keeps, IsUnder}
+use Rattle.kl1_machine.specs.Machines.{made, IsBegun}
 use Rattle.kl1_machine.specs.Rested.{IsRested}
 use Rattle.kl1_machine.specs.Reducing.{ReadsAlike}
 use Rattle.kl1_user_account.specs.Keeping.{IsKept, CountsWork}
@@ -128,9 +124,6 @@ pub record IsSame (m b : Machine) : Type 0 where
   pub hooks : b.store.hooks ≡ m.store.hooks
   pub known : b.goals.shoens ≡ m.goals.shoens
 
-pub same_self : (m : Machine) → IsSame m m
-same_self m = record { account = λ x. refl; hooks = refl; known = refl }
-
 pub same_then : (m b c : Machine) → IsSame m b → IsSame b c → IsSame m c
 same_then m b c one two = record { account = λ x. two.account x ∙ one.account x; hooks = two.hooks ∙ one.hooks; known = two.known ∙ one.known }
 
@@ -145,10 +138,6 @@ same_kept x m b s k =
 -- the charged work is counted as before
 pub same_counts : (x : Aside) (m b : Machine) → IsSame m b → CountsWork (length m.shoens.work) x.entries x.run → CountsWork (length b.shoens.work) x.entries x.run
 same_counts x m b s c = subst (λ n. CountsWork n x.entries x.run) (sym (ap (λ (a : Account). length a.work) (s.account x))) c
-
--- all that always holds of an account
-pub same_both : (x : Aside) (m b : Machine) → IsSame m b → IsKept (account_of x m) m.store.hooks m.goals.shoens × CountsWork (length m.shoens.work) x.entries x.run → IsKept (account_of x b) b.store.hooks b.goals.shoens × CountsWork (length b.shoens.work) x.entries x.run
-same_both x m b s k = (same_kept x m b s k.0, same_counts x m b s k.1)
 
 -- a machine that has room for more names is the same
 pub roomed_same : (m b : Machine) → b ≡ record m { names = b.names } → b.names.names ≡ m.names.names → IsSame m b
@@ -174,22 +163,19 @@ begun_from m b = record m {
 pub begun_same : (m b : Machine) → b ≡ begun_from m b → IsSame m b
 begun_same m b is = record { account = λ x. ap (account_of x) is; hooks = ap (λ (z : Machine). z.store.hooks) is; known = ap (λ (z : Machine). z.goals.shoens) is }
 
--- a machine that went back is the same as the event began with
-pub back_same : (b m : Machine) → IsBack b m → IsSame b m
-back_same b m i = record {
-  account = λ x.
-      ap (account_of x) i.rest
-      ∙ ap (λ (h : Held CellName). let a : Account = record (account_of x m) { rules = b.rules; held = h; names = b.names.names; last_goal = b.counts.last_goal; variables = b.counts.variables; nodes = b.counts.nodes; reports = b.counts.reports } in a) i.held
-      ∙ ap (λ (r : Rowed CellName). let a : Account = record (account_of x b) { goals = r.goals; shoens = m.shoens.shoens; work = m.shoens.work } in a) i.goals
-      ∙ ap (λ (ss : List (Shoen CellName)). let a : Account = record (account_of x b) { shoens = ss; work = m.shoens.work } in a) i.shoens
-      ∙ ap (λ (ws : List ℕ). let a : Account = record (account_of x b) { work = ws } in a) i.work;
-  hooks = i.hooks;
-  known = ap (λ (r : Rowed CellName). r.shoens) i.goals;
-}
-
--- what is there to go back to, if an event that began with this machine has kept it
-pub under : (b m : Machine) → IsBegun b → Keeps b m → IsUnder m
-under b m is keeps = record { begun = b; is = is; keeps = keeps }
+-- and it is at rest, if the machine was
+pub rested_begun : (program : Program) (m b : Machine) → b ≡ begun_from m b → IsRested program m → IsRested program b
+rested_begun program m b is r =
+    let i = r.machine in
+    let w = i.inside in
+    subst (λ (z : Machine). IsRested program z) (sym is) (record {
+      machine = record { inside = record { some = w.some; goals = w.goals; shoens = w.shoens; owned = w.owned }; last = i.last; known = i.known };
+      rules = r.rules;
+      first = r.first;
+      rows = r.rows;
+      settled = r.settled;
+      enabled = r.enabled;
+    })
 
 -- ---- an event that begins
 
@@ -208,17 +194,3 @@ begins x m b names same is begun k =
 -- its machine rests by the modules that are lent
 pub begun_rested : (x : Aside) (m b : Machine) (program : Program) → Begins x m b → program ≡ program_in x b → IsRested program b
 begun_rested x m b program g is = rested_by (program_in x b) program b (sym is) (kept_rested x b g.kept)
-
--- what always holds of an account whose machine went back
-pub back_both : (x : Aside) (m b n : Machine) → Begins x m b → IsBack b n → IsKept (account_of x n) n.store.hooks n.goals.shoens × CountsWork (length n.shoens.work) x.entries x.run
-back_both x m b n g i = same_both x b n (back_same b n i) (g.kept, g.counted)
-
--- and it is what it was
-pub back_account : (x : Aside) (m b n : Machine) → Begins x m b → IsBack b n → account_of x n ≡ account_of x m
-back_account x m b n g i = (back_same b n i).account x ∙ g.same.account x
-
--- what always holds of an account whose machine is as when the event began
-pub still_both : (x : Aside) (m b n : Machine) → Begins x m b → n ≡ b → IsKept (account_of x n) n.store.hooks n.goals.shoens × CountsWork (length n.shoens.work) x.entries x.run
-still_both x m b n g is =
-    let P : Machine → Type 0 = λ z. IsKept (account_of x z) z.store.hooks z.goals.shoens × CountsWork (length z.shoens.work) x.entries x.run in
-    subst P (sym is) (g.kept, g.counted)

@@ -2,8 +2,8 @@
 use Rattle.std.proofs.Common.{◌≡◌, ℕ, ◌*◌, ◌≤◌, List, [], length, subst}
 use Rattle.std.specs.Prelude.{vec_capacity}
 use Rattle.kl1_atoms.specs.declared.known.Known.{Known}
-use Rattle.kl1_machine.specs.Exchanging.{AreSpared}
-use Rattle.kl1_machine.proofs.Exchanges.{spared_count}
+use Rattle.kl1_user_effects.specs.Exchanging.{AreSpared}
+use Rattle.kl1_user_effects.proofs.Exchanges.{spared_count}
 use Rattle.kl1_user_account.specs.declared.name_rows.NameRows.{NameRows}
 use Rattle.kl1_user_account.specs.NameRows.{AreRowsFor}
 

@@ -1,5 +1,5 @@
 -- What the console keeps of a shoen.
-use Rattle.std.proofs.Common.{◌≡◌, ◌==◌, ℕ, Bool, true, false, if◌then◌else◌, List, [], ◌∷◌, map, refl, sym, ap, ◌∙◌, subst}
+use Rattle.std.proofs.Common.{◌≡◌, ◌==◌, ℕ, Bool, true, false, if◌then◌else◌, List, [], ◌∷◌, map, refl, sym, ap, ◌∙◌}
 use Rattle.std.specs.Prelude.{Option, Some, None, option_map, option_and_then, find}
 use Rattle.kl1_model.specs.Print.{print, cut_text}
 use Rattle.kl1_model.specs.State as model
@@ -10,17 +10,12 @@ use Rattle.kl1_model.specs.Step.{step, origin_at}
 use Rattle.kl1_user_events.specs.declared.goal_view.Extent.{Extent}
 use Rattle.kl1_user_events.specs.Viewing.{text_of, kept_text, value_text}
 use Rattle.kl1_text.specs.declared.cell_name.CellName.{CellName}
-use Rattle.kl1_store.specs.Held.{Held}
 use Rattle.kl1_shoen_paths.specs.declared.shoen.Origin.{Origin}
 use Rattle.kl1_shoen_paths.specs.declared.shoen.Shoen.{Shoen}
 use Rattle.kl1_shoen.specs.Shoens.{has_number}
 use Rattle.kl1_user_effects.specs.Fitting.{Reading}
 use Rattle.kl1_user_effects.specs.Account.{Account, Means, meaning, origin_with, shoen_with, state_of}
-use Rattle.kl1_user_effects.specs.Kept.{IsKeptIn, IsOriginIn, AreShoensIn}
-
--- what the console keeps of shoen `n`
-abbrev pub kept_at : ℕ → List (Shoen CellName) → Option (Origin CellName)
-kept_at n ss = option_and_then (λ shoen. shoen.origin) (find (has_number n) ss)
+use Rattle.kl1_user_effects.proofs.Messages.{kept_at}
 
 pub origin_read : (t : Means) (n : ℕ) (ss : List (Shoen CellName)) → origin_at n (map (shoen_with t) ss) ≡ option_map (origin_with t) (kept_at n ss)
 origin_read t n [] = refl
@@ -30,15 +25,6 @@ origin_read t n (s ∷ ss) = by_case (s.number == n) (origin_read t n ss)
         option_and_then (λ h. h.origin) (if b then Some (shoen_with t s) else shoen_at n (map (shoen_with t) ss)) ≡ option_map (origin_with t) (option_and_then (λ h. h.origin) (if b then Some s else find (has_number n) ss))
     by_case true e = refl
     by_case false e = e
-
--- what is kept has the cells of the store
-pub origin_in : (h : Held CellName) (n : ℕ) (ss : List (Shoen CellName)) (o : Origin CellName) → AreShoensIn h ss → kept_at n ss ≡ Some o → IsKeptIn h o
-origin_in h n [] o i e = absurd (cc)
-origin_in h n (s ∷ ss) o i e = by_case (s.number == n) e (origin_in h n ss o i.1)
-  where
-    by_case : (b : Bool) → option_and_then (λ h. h.origin) (if b then Some s else find (has_number n) ss) ≡ Some o → (kept_at n ss ≡ Some o → IsKeptIn h o) → IsKeptIn h o
-    by_case true f k = let P : Option (Origin CellName) → Type 0 = λ z. IsOriginIn h z in subst P f i.0.origin
-    by_case false f k = k f
 
 -- what is kept of a shoen in the state that an account is
 origin_is : (f : Reading) (a : Account) (n : ℕ) (o : Option (Origin CellName)) → kept_at n a.shoens ≡ o → origin_at n (state_of f a).shoens ≡ option_map (origin_with (meaning f a.held)) o

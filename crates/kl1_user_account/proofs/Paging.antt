@@ -1,6 +1,6 @@
 -- What is shown of shoens and goals, one after another from a number on.
-use Rattle.std.proofs.Common.{◌≡◌, ◌⊎◌, inl, inr, ℕ, zero, suc, ◌+◌, ◌-◌, ◌<◌, ◌≤◌, ◌==◌, ◌&&◌, nat_lt, nat_le, not, Bool, true, false, if◌then◌else◌, List, [], ◌∷◌, ◌++◌, map, take, drop, length, count_by, refl, sym, ap, ap₂, ◌∙◌, arith, append_assoc, eq-eqb}
-use Rattle.std.specs.Prelude.{Option, Some, None, filter, find, cond, option_map, is_some}
+use Rattle.std.proofs.Common.{◌≡◌, ◌⊎◌, inl, inr, ℕ, zero, suc, ◌+◌, ◌-◌, ◌<◌, ◌≤◌, ◌==◌, ◌&&◌, nat_lt, nat_le, not, Bool, true, false, if◌then◌else◌, List, [], ◌∷◌, ◌++◌, map, take, drop, count_by, refl, sym, ap, ap₂, ◌∙◌, arith, append_assoc, eq-eqb}
+use Rattle.std.specs.Prelude.{Some, None, filter, find, cond, is_some}
 use Rattle.std.specs.List.{AllByRecursion}
 use Rattle.std.proofs.lemmas.Bool.{cases_lt, lt-ltb, le-ltb, le-leb, lt-leb, ne_eqb}
 use Rattle.std.proofs.lemmas.List.{take-map}
@@ -14,22 +14,22 @@ use Rattle.kl1_store.specs.Hooks.{Hook}
 use Rattle.kl1_goals.specs.declared.task.Task.{Task}
 use Rattle.kl1_goals.specs.declared.task.Task.TheVariants.{Monitor, Reduces, Substitutes}
 use Rattle.kl1_goals.specs.declared.goal.Goal.{Goal}
-use Rattle.kl1_goals.specs.Lists.{number_of, is_after, is_goal_of, is_monitor}
-use Rattle.kl1_goals.specs.Readies.{stands}
+use Rattle.kl1_goals.specs.Lists.{number_of, is_after, is_goal_of}
 use Rattle.kl1_goals.specs.Tables.{Ascend}
 use Rattle.kl1_shoen_paths.specs.declared.shoen.Shoen.{Shoen}
 use Rattle.kl1_shoen.specs.Shoens.{has_number, AreNumbered, charged_in}
 use Rattle.kl1_user_events.specs.declared.shoen_view.ShoenView.{ShoenView}
 use Rattle.kl1_user_events.specs.declared.goal_view.TaskKind.{TaskKind}
 use Rattle.kl1_user_events.specs.declared.goal_view.GoalView.{GoalView}
-use Rattle.kl1_user_events.specs.Viewing.{parent_shown, is_goal_in, goals_in, shoen_view, shoen_page, kind_of, goal_view, goal_page}
+use Rattle.kl1_user_events.specs.Viewing.{parent_shown, is_goal_in, shoen_view, shoen_page, kind_of, goal_view, goal_page}
 use Rattle.kl1_user_effects.specs.Fitting.{Reading}
-use Rattle.kl1_user_effects.specs.Account.{Account, Means, meaning, task_with, goal_with, shoen_with, state_of}
+use Rattle.kl1_user_effects.specs.Account.{Account, Means, meaning, task_with, goal_with, shoen_with, state_of, program_of}
 use Rattle.kl1_user_effects.specs.Settled.{AreSettled, AreEnabled}
-use Rattle.kl1_user_effects.specs.Account.{program_of}
 use Rattle.kl1_user_account.specs.Viewed.{shoen_shown, kind_shown, goal_shown}
-use Rattle.kl1_user_account.proofs.Statuses.{charged_read, condition_read, monitor_read}
+use Rattle.kl1_user_account.proofs.Statuses.{charged_read, condition_read}
 use Rattle.kl1_user_account.proofs.Choosing.{AreStanding, IsStanding, stands_is, stand_in}
+use Rattle.kl1_user_account.proofs.Counting.{monitor_read}
+use Rattle.kl1_machine.proofs.Looking.{same_goal}
 
 -- ---- one more of a list
 
@@ -56,10 +56,6 @@ pub take_nil : {A : Type 0} (n : ℕ) → ◌≡◌ {A = List A} (take n []) []
 take_nil zero = refl
 take_nil (suc n) = refl
 
-pub take_zero : {A : Type 0} (n : ℕ) (xs : List A) → n ≤ 0 → take n xs ≡ []
-take_zero zero xs le = refl
-take_zero (suc n) xs le = absurd (omega arith)
-
 -- ---- goals after a number
 
 -- goals that all have greater numbers
@@ -69,9 +65,6 @@ all_after n low (g ∷ gs) less up =
     let le = up.0 in
     ap (λ b. if b then g ∷ filter (is_after n) gs else filter (is_after n) gs) (lt-ltb n g.number (omega arith))
     ∙ ap (λ (ks : List (Goal CellName)). g ∷ ks) (all_after n (suc g.number) gs (omega arith) up.1)
-
-same_goal : (a b : Goal CellName) → Some a ≡ Some b → a ≡ b
-same_goal a b e = cc
 
 -- the first goal after a number, and those after it
 pub first_after : (n low : ℕ) (gs : List (Goal CellName)) (g : Goal CellName) → Ascend low (map number_of gs) → n < g.number → Some g ≡ find (is_after n) gs → filter (is_after n) gs ≡ g ∷ filter (is_after g.number) gs

@@ -22,7 +22,7 @@ use Rattle.kl1_user_events.specs.declared.goal_view.Presence.{Presence}
 use Rattle.kl1_user_events.specs.declared.goal_view.Presence.TheVariants.{Present, Absent, Unknown}
 use Rattle.kl1_user_events.specs.Viewing.{is_variable_part, IsLookedAt, IsPresence, goal_term, term_in}
 use Rattle.kl1_user_effects.specs.Fitting.{Reading}
-use Rattle.kl1_user_effects.specs.Account.{Account, meaning, aim, told_in, goal_with, task_with, state_of}
+use Rattle.kl1_user_effects.specs.Account.{Account, meaning, aim, told_in, task_with, state_of}
 use Rattle.kl1_user_account.specs.declared.top.Top.{Top}
 use Rattle.kl1_user_account.specs.declared.top.Top.TheVariants as top
 use Rattle.kl1_user_account.specs.Tops.{node_with, count_at, stacked_terms, Takes}

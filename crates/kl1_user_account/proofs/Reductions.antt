@@ -1,25 +1,26 @@
 -- A reduction of an account, which its machine does.
-use Rattle.std.proofs.Common.{◌≡◌, ℕ, suc, ◌+◌, ◌≤◌, ◌==◌, not, ◌&&◌, ◌||◌, Bool, true, false, if◌then◌else◌, nat_lt, List, [], length, Option, Some, None, refl, sym, ap, ◌∙◌, subst, arith}
+use Rattle.std.proofs.Common.{◌≡◌, ℕ, suc, ◌+◌, ◌≤◌, ◌==◌, not, ◌&&◌, ◌||◌, Bool, true, false, if◌then◌else◌, nat_lt, [], length, Option, Some, None, refl, sym, ap, ◌∙◌, subst, arith}
 use Rattle.std.specs.Prelude.{MatchOption}
 use Rattle.std.proofs.lemmas.Bool.{ltb-true}
 use Rattle.kl1_model.specs.Choice.{is_in_run}
-use Rattle.kl1_model.specs.Event.{reduce, reduced, refuse, is_full, needs_entry, run_after, with_reduction, Transition}
+use Rattle.kl1_model.specs.Event.{reduce, reduced, is_full, needs_entry, run_after, with_reduction, Transition}
 use Rattle.kl1_model.specs.declared.rules.Rules.{Rules}
 use Rattle.kl1_model.specs.Rules.{limits_of}
 use Rattle.kl1_model.specs.State.{State}
 use Rattle.kl1_model.specs.Step.{step}
-use Rattle.kl1_atoms.specs.declared.known.Known.{Known}
 use Rattle.kl1_codes.specs.Finding.{contents}
 use Rattle.kl1_codes.specs.Shelves.{Program}
 use Rattle.kl1_user_events.specs.declared.refusal.Refusal.{Refusal}
-use Rattle.kl1_user_events.specs.Views.{reduced_or, refusal_of}
+use Rattle.kl1_user_events.specs.Views.{reduced_or}
 use Rattle.kl1_user_effects.specs.Fitting.{Reading, Fits}
 use Rattle.kl1_user_effects.specs.Account.{Account, state_of}
 use Rattle.kl1_user_effects.specs.Naming.{NameShelf}
 use Rattle.kl1_machine.specs.declared.machine.Machine.{Machine}
-use Rattle.kl1_machine.specs.Machines.{Trail, Keeps}
-use Rattle.kl1_machine.specs.Naming.{Publishes}
-use Rattle.kl1_machine.specs.Reducing.{Refuses}
+use Rattle.kl1_machine.specs.Machines.{Trail, Keeps, IsBegun}
+use Rattle.kl1_machine.specs.Rested.{IsRested}
+use Rattle.kl1_machine.specs.Naming.{CanPublish, Publishes}
+use Rattle.kl1_machine.specs.Reducing.{Reduces, Refuses}
+use Rattle.kl1_user_account.specs.Events.{BeginsFrom, ReducesIn, RefusesIn}
 use Rattle.kl1_machine.proofs.Planned.{state_in}
 use Rattle.kl1_machine.proofs.Published.{IsReduced}
 use Rattle.kl1_user_account.specs.Keeping.{IsKept, CountsWork}
@@ -144,3 +145,17 @@ still_fits m u v keeps p f fits =
 -- as much was charged as before the name was published
 pub still_charged : (u v : Machine) (n : ℕ) → Publishes u v → length u.shoens.work ≤ n → length v.shoens.work ≤ n
 still_charged u v n p le = let same : length v.shoens.work ≡ length u.shoens.work = ap (λ (x : Machine). length x.shoens.work) p.rest in omega (arith, same, le)
+
+-- ---- as an event
+
+-- what a reduction has come to since an event began
+pub record Outcome (program : Program) (full : Bool) (n c : ℕ) (b u : Machine) (o : Option Refusal) : Type 0 where
+  pub did : MatchOption o (Reduces program n c b u) (λ r. Refuses program full n c b r × (u ≡ b))
+  pub rests : o ≡ None → IsRested program u × CanPublish u
+  pub room : o ≡ None → full ≡ false
+  pub charged : length u.shoens.work ≤ length b.shoens.work + 1
+  pub keeps : Keeps b u
+
+pub reduced_in : (program : Program) (full : Bool) (n c : ℕ) (m b u : Machine) (o : Option Refusal) → BeginsFrom m b → IsBegun b → Outcome program full n c b u o → MatchOption o (ReducesIn program full n c m u) (RefusesIn program full n c m u)
+reduced_in program full n c m b u None begins is p = record { begun = b; begins = begins; is = is; reduces = p.did; keeps = p.keeps; rested = (p.rests refl).0; can = (p.rests refl).1; room = p.room refl; charged = p.charged }
+reduced_in program full n c m b u (Some r) begins is p = record { begun = b; begins = begins; is = is; refuses = p.did.0; same = p.did.1 }

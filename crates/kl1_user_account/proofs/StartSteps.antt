@@ -20,11 +20,7 @@ use Rattle.kl1_user_account.specs.declared.startable.Starting.{Starting}
 use Rattle.kl1_user_account.specs.declared.startable.Starting.TheVariants.{Refused, Coded}
 use Rattle.kl1_user_effects.specs.Account.{texts_of}
 use Rattle.kl1_user_account.specs.Starting.{HasNames, has_room_beside, IsStartable, StartsAs}
-use Rattle.kl1_user_account.proofs.NamesOnce.{collected}
-
-pub names_used : (names texts : List (List ℕ)) (goal : Term) → texts ≡ with_names [] (names_of goal) → with_texts names texts ≡ with_names names (names_of goal)
-unfolding with_texts
-names_used names texts goal e = ap (with_names names) e ∙ collected names [] (names_of goal)
+use Rattle.kl1_machine.proofs.Brought.{names_used}
 
 -- names that are too many
 pub crowded : (names texts : List (List ℕ)) (goal : Term) → texts ≡ with_names [] (names_of goal) → nat_lt MOST_NAMES (length (with_texts names texts)) ≡ true → nat_le (length (with_names names (names_of goal))) MOST_NAMES ≡ false

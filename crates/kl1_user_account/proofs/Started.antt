@@ -1,5 +1,5 @@
 -- An account after a start.
-use Rattle.std.proofs.Common.{◌≡◌, ℕ, suc, ◌+◌, ◌<◌, ◌≤◌, ◌^◌, ◌&&◌, true, List, sym, ap, ◌∙◌, subst, arith}
+use Rattle.std.proofs.Common.{◌≡◌, ℕ, suc, ◌+◌, ◌<◌, ◌≤◌, ◌^◌, ◌&&◌, true, sym, ap, ◌∙◌, subst, arith}
 use Rattle.std.specs.Prelude.{nat_lt, nat_le}
 use Rattle.std.proofs.lemmas.Bool.{and_parts, leb-true}
 use Rattle.kl1_model.specs.declared.rules.Rules.{Rules}
@@ -11,20 +11,16 @@ use Rattle.kl1_model.specs.State.{State}
 use Rattle.kl1_model.specs.Event.{start, opened, refuse, with_entry, Transition}
 use Rattle.kl1_model.specs.Opening.{start_goal}
 use Rattle.kl1_model.specs.Step.{step}
-use Rattle.kl1_text.specs.declared.cell_name.CellName.{CellName}
 use Rattle.kl1_user_events.specs.declared.refusal.Refusal.{Refusal}
 use Rattle.kl1_user_events.specs.Views.{refusal_of}
 use Rattle.kl1_user_effects.specs.Fitting.{Reading, Fits}
 use Rattle.kl1_user_effects.specs.Account.{Account, state_of}
-use Rattle.kl1_machine.specs.declared.machine.Machine.{Machine}
 use Rattle.kl1_user_account.specs.declared.counted.Counted.{Counted}
 use Rattle.kl1_user_account.specs.declared.startable.Starting.{Starting}
 use Rattle.kl1_user_account.specs.declared.startable.Starting.TheVariants.{Refused}
 use Rattle.kl1_user_account.specs.Starting.{HasNames, has_room_beside, IsStartable, StartsAs}
 use Rattle.kl1_user_account.proofs.Counting.{low_limits}
 use Rattle.kl1_user_account.proofs.StartSteps.{step_startable}
-use Rattle.kl1_user_account.proofs.Machines.{Aside, account_of}
-use Rattle.kl1_user_account.proofs.Bringing.{noted, IsBrought, brought_state}
 
 -- ---- starts that are refused
 
@@ -64,16 +60,14 @@ few_nodes rules c goal code have most same is e =
 
 -- ---- the step of a start
 
-pub started_steps : (x : Aside) (c : Counted) (allowance low high : ℕ) (goal code : Term) (spares numbers : List CellName) (b r n : Machine) (self : Account) (shoen : ℕ) → account_of x b ≡ self → IsBrought x (λ s. start_goal s allowance low high code) code spares numbers b r n → ((f : Reading) → HasNames (state_of f self) self.names c) → IsStartable self.names c allowance low high goal code → shoen ≡ c.shoens + 1 →
-    (f : Reading) → Fits n.names.names f → step (state_of f self) (start allowance low high goal) ≡ record { state = state_of f (account_of (noted x) n); reply = opened shoen }
-started_steps x c allowance low high goal code spares numbers b r n self shoen view p at may number f fits =
-    let s = state_of f self in
-    let change : State → State = λ z. start_goal z allowance low high code in
+pub started_steps : (c : Counted) (allowance low high : ℕ) (goal code : Term) (a b : Account) (shoen : ℕ) → ((f : Reading) → HasNames (state_of f a) a.names c) → IsStartable a.names c allowance low high goal code → shoen ≡ c.shoens + 1 →
+    ((f : Reading) → Fits b.names f → with_entry (start_goal (state_of f a) allowance low high code) ≡ state_of f b) → (f : Reading) → Fits b.names f → step (state_of f a) (start allowance low high goal) ≡ record { state = state_of f b; reply = opened shoen }
+started_steps c allowance low high goal code a b shoen at may number brought f fits =
+    let s = state_of f a in
     let R : State → ℕ → Transition = λ z m. record { state = z; reply = opened m } in
     let last = (at f).shoens_are in
     let own : suc s.last_shoen ≡ shoen = omega (arith, last, number) in
-    step_startable s self.names c allowance low high goal code (at f) may
+    step_startable s a.names c allowance low high goal code (at f) may
     ∙ ap (λ (t : Term). R (with_entry (start_goal s allowance low high t)) (suc s.last_shoen)) (sym may.code_is)
-    ∙ ap (λ (a : Account). R (with_entry (change (state_of f a))) (suc s.last_shoen)) (sym view)
-    ∙ ap (λ (z : State). R z (suc s.last_shoen)) (brought_state x change code spares numbers b r n p f fits)
-    ∙ ap (R (state_of f (account_of (noted x) n))) own
+    ∙ ap (λ (z : State). R z (suc s.last_shoen)) (brought f fits)
+    ∙ ap (R (state_of f b)) own

@@ -1,5 +1,5 @@
 -- What is shown of a shoen, and of the modules.
-use Rattle.std.proofs.Common.{◌≡◌, ◌≢◌, ℕ, zero, suc, ◌+◌, ◌<◌, ◌≤◌, ◌==◌, ◌&&◌, ◌||◌, not, nat_le, Bool, true, false, if◌then◌else◌, List, [], ◌∷◌, ◌++◌, map, take, length, count_by, refl, sym, ap, ap₂, ◌∙◌, arith}
+use Rattle.std.proofs.Common.{◌≡◌, ◌≢◌, ℕ, zero, suc, ◌+◌, ◌≤◌, ◌==◌, ◌&&◌, ◌||◌, not, nat_le, Bool, true, false, if◌then◌else◌, List, [], ◌∷◌, ◌++◌, map, take, length, count_by, refl, sym, ap, ap₂, ◌∙◌, arith}
 use Rattle.std.specs.Prelude.{Option, Some, None, find, option_map, slice_get, cond}
 use Rattle.std.specs.List.{AllPairs}
 use Rattle.std.proofs.lemmas.Bool.{eqb-true}
@@ -17,26 +17,23 @@ use Rattle.kl1_model.specs.code.Steps as asking
 use Rattle.kl1_model.specs.Asking.{module_line}
 use Rattle.kl1_model.specs.Step.{step}
 use Rattle.kl1_text.specs.declared.cell_name.CellName.{CellName}
-use Rattle.kl1_goals.specs.declared.task.Task.{Task}
-use Rattle.kl1_goals.specs.declared.task.Task.TheVariants.{Monitor, Reduces, Substitutes}
 use Rattle.kl1_goals.specs.declared.goal.Goal.{Goal}
-use Rattle.kl1_goals.specs.Lists.{is_monitor, is_monitor_task, is_goal_of}
+use Rattle.kl1_goals.specs.Lists.{is_monitor, is_goal_of}
 use Rattle.kl1_shoen_paths.specs.declared.shoen.Shoen.{Shoen}
 use Rattle.kl1_shoen.specs.Shoens.{has_number, parents_in, charged_in, is_on_path_in, AreBelow}
 use Rattle.kl1_codes.specs.Numbered.{Numbered}
 use Rattle.kl1_codes.specs.Finding.{contents}
-use Rattle.kl1_user_effects.specs.Account.{Means, task_with, goal_with, shoen_with, state_with}
+use Rattle.kl1_user_effects.specs.Account.{Means, goal_with, shoen_with, state_with}
 use Rattle.kl1_user_effects.specs.Kept.{AreOwned}
 use Rattle.kl1_user_account.specs.Asked.{condition_at, condition_by, is_alive_in}
 use Rattle.kl1_user_effects.specs.Drafts.{is_of_any}
 use Rattle.kl1_user_effects.proofs.States.{found_in}
-use Rattle.kl1_user_effects.proofs.Below.{contained_among, below_is}
+use Rattle.kl1_user_effects.proofs.Below.{below_is}
+use Rattle.kl1_user_account.proofs.Counting.{monitor_read}
+use Rattle.kl1_user_effects.proofs.Walking.{parents_read}
+use Rattle.kl1_shoen_paths.proofs.Below.{contains_among}
 
 -- ---- the tree
-
-parents_read : (t : Means) (ss : List (Shoen CellName)) → parents_of (map (shoen_with t) ss) ≡ parents_in ss
-parents_read t [] = refl
-parents_read t (s ∷ ss) = ap (λ (ps : List ℕ). s.parent ∷ ps) (parents_read t ss)
 
 -- what a shoen is charged
 pub charged_read : (t : Means) (s : State) (last : ℕ) (gs : List (Goal CellName)) (ss : List (Shoen CellName)) (work : List ℕ) (n : ℕ) → s.work ≡ work → charged_of (state_with s t last gs ss) n ≡ charged_in ss work n
@@ -52,11 +49,6 @@ condition_read t s last gs ss h Aborted n e = refl
 condition_read t s last gs ss h Living n e = ap (λ m. if h.is_stopped then Stopped else if nat_le h.allowance m then Exhausted else Running) e
 
 -- ---- goals below
-
-pub monitor_read : (t : Means) (k : Task CellName) → model.is_monitor (task_with t k) ≡ is_monitor_task k
-monitor_read t Monitor = refl
-monitor_read t (Reduces q) = refl
-monitor_read t (Substitutes x) = refl
 
 goals_read : (t : Means) (n : ℕ) (ss : List (Shoen CellName)) (ps below : List ℕ) (gs : List (Goal CellName)) → AreBelow ss n below → AreOwned (length ss) gs → ps ≡ parents_in ss →
     count_by (λ (g : model.Goal). not (model.is_monitor g.task) && is_among n (path_within g.shoen ps g.shoen)) (map (goal_with t) gs) ≡ count_by (is_alive_in below) gs
@@ -79,7 +71,7 @@ once_first : (n : ℕ) (ns : List ℕ) → AllPairs (λ a b. a ≢ b) (n ∷ ns)
 once_first n ns once = by_case (is_among n ns) refl
   where
     by_case : (b : Bool) → is_among n ns ≡ b → is_among n ns ≡ false
-    by_case true e = absurd (let c = contained_among n ns e in let lt = c.1 in once 0 (suc c.0) n (omega arith) (omega (arith, lt)) (sym c.2))
+    by_case true e = absurd (let c = contains_among n ns e in let lt = c.1 in once 0 (suc c.0) n (omega arith) (omega (arith, lt)) (sym c.2))
     by_case false e = e
 
 once_rest : (n : ℕ) (ns : List ℕ) → AllPairs (λ a b. a ≢ b) (n ∷ ns) → AllPairs (λ a b. a ≢ b) ns
@@ -165,14 +157,6 @@ asked_some t s last gs ss work n o h condition charged alive below sliced e is s
     ∙ ap (λ x. R x (charged_of S h.number) (goals_below S h.number)) (condition_read t s last gs ss h h.life charged charge ∙ sym d)
     ∙ ap (λ y. R condition y (goals_below S h.number)) charge
     ∙ ap (R condition charged) beneath
-
--- ---- the modules
-
-pub take_past : {A : Type 0} (xs : List A) (n : ℕ) → slice_get xs n ≡ None → take n xs ≡ xs
-take_past [] zero e = refl
-take_past [] (suc n) e = refl
-take_past (x ∷ xs) zero e = absurd (cc)
-take_past (x ∷ xs) (suc n) e = ap (λ (ys : List _). x ∷ ys) (take_past xs n e)
 
 -- the lines of modules
 abbrev pub lines_of : List Numbered → List (List ℕ)

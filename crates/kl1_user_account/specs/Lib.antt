@@ -8,3 +8,5 @@ pub mod Beginning
 pub mod Answering
 pub mod Viewed
 pub mod NameRows
+pub mod Bringing
+pub mod Events

@@ -19,7 +19,6 @@ ghost use Rattle.kl1_user_effects.specs.Kept.{AreOwned, AreShoensIn};
 ghost use Rattle.kl1_user_effects.specs.Naming.{AreSmall, Keeps};
 ghost use Rattle.kl1_user_account.specs.Asked.{condition_by, is_alive_in, cells_of};
 
-use crate::limits::{are_numbers, is_number};
 use crate::printing::print_cell;
 use itoa::Buffer;
 use kl1_atoms::AtomSource;
@@ -31,6 +30,7 @@ use kl1_shoen::{Shoen, ShoenTree};
 use kl1_store::{Cell, Store};
 use kl1_stream::{next_element, nth_cell};
 use kl1_text::{CellName, put_atom};
+use kl1_user_effects::{are_numbers, is_number};
 use kl1_user_events::{Listed, Refusal, Reply};
 use std::alloc::{AllocError, Global};
 

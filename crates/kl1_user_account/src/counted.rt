@@ -1,10 +1,11 @@
 // How much an account has of what is limited.
 
-ghost use Rattle.std.specs.Prelude.{◌≡◌, ◌+◌, nat_le, nat_lt, not};
+ghost use Rattle.std.specs.Prelude.{◌≡◌, nat_lt, not};
 ghost use Rattle.kl1_user_account.specs.Answering.{has_room_to_answer_beside};
 ghost use Rattle.kl1_user_account.specs.Starting.{has_room_beside};
 
 use kl1_model::Limits;
+use kl1_user_effects::is_within;
 
 /// How much an account has of what is limited: its goals, without monitors; the variables and the structures of its starts, messages,
 /// answers and commits; the shoens that it opened; and the entries of its journal; with the most that its rules allow of each.
@@ -16,13 +17,6 @@ pub(crate) struct Counted {
     pub shoens: u64,
     pub entries: u64,
     pub most: Limits,
-}
-
-/// Whether `count` and `more` together are at most `most`.
-pub(crate) fn is_within(count: u64, more: u64, most: u64) -> bool
-    ensures { result ≡ nat_le (count + more) most }
-{
-    count <= most && more <= most - count
 }
 
 impl Counted {

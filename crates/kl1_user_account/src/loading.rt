@@ -9,7 +9,8 @@ ghost use Rattle.kl1_codes.specs.Finding.{is_numbered};
 ghost use Rattle.kl1_user_effects.specs.Fitting.{Reading, Fits};
 ghost use Rattle.kl1_user_effects.specs.Naming.{AreSmall, ReadsDraft};
 ghost use Rattle.kl1_machine.specs.Machines.{IsMachine};
-ghost use Rattle.kl1_user_account.specs.Loadings.{DraftsAs, LoadsAs, StandsIn, LooksBeside, GoesBack};
+ghost use Rattle.kl1_user_account.specs.Loadings.{DraftsAs, LoadsAs, StandsIn, LooksBeside};
+ghost use Rattle.kl1_user_account.specs.Events.{GoesBack};
 
 use kl1_clause::{Code, CodeFault};
 use kl1_codes::{CodeSource, CodedModule, CodedModules, Loaded, Modules, number_by};

@@ -6,13 +6,12 @@ ghost use Rattle.kl1_model.specs.Opening.{may_start};
 ghost use Rattle.kl1_user_account.specs.Starting.{StartsAs};
 
 use crate::counted::Counted;
-use crate::limits::is_number;
 use crate::line_length::fits_start;
 use kl1_clause::GoalCode;
 use kl1_model::limits::MOST_PRIORITY;
 use kl1_read::is_goal;
 use kl1_term::Term;
-use kl1_user_effects::AccountNames;
+use kl1_user_effects::{AccountNames, is_number};
 use kl1_user_events::Refusal;
 use std::alloc::{AllocError, Global};
 

@@ -144,7 +144,7 @@ pub push_below : (bound : ℕ) (ks : List Known) (k : Known) → AreBelow bound 
 push_below bound ks k b low = more_below bound bound ks k b (omega arith) low
 
 -- a spare number is no built-in's place
-spare_number : (n : ℕ) → 2 ^ 32 ≤ n → built_in_at n ≡ None
+pub spare_number : (n : ℕ) → 2 ^ 32 ≤ n → built_in_at n ≡ None
 spare_number n le = slice_get_past built_ins n (omega arith)
 
 -- ---- the draft

@@ -71,7 +71,7 @@ last_end goals old now n at ending path i = record {
 alone_in : (n up : ℕ) (ss : List (Shoen CellName)) → path_in ss n ≡ n ∷ path_in ss up → up ≡ 0 → path_in ss n ≡ n ∷ []
 alone_in n up ss path e = path ∙ ap (λ (ps : List ℕ). n ∷ ps) (path_zero up ss e)
 
-not_false : (b : Bool) → not b ≡ true → b ≡ false
+pub not_false : (b : Bool) → not b ≡ true → b ≡ false
 not_false true e = absurd (cc)
 not_false false e = refl
 

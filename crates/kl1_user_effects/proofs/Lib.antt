@@ -28,3 +28,10 @@ pub mod Outlines
 pub mod LateFree
 pub mod Reported
 pub mod Substituting
+pub mod NamesOnce
+pub mod NameReadings
+pub mod Exchanged
+pub mod Exchanges
+pub mod Swapping
+pub mod Spares
+pub mod Messages

@@ -41,11 +41,11 @@ pub outlines_aborted : (n m : ℕ) (t u : Tree CellName) → u ≡ record t { sh
 outlines_aborted n m t u is = outlines_in n t u (map (aborted_below_in t.shoens m) t.shoens) is (aborted_all n m t.shoens t.shoens)
 
 -- control streams of the others stay
-found_case : (c : Bool) (a : ℕ) (r h : Shoen CellName) (o : Option (Shoen CellName)) → (r.number == a) ≡ c → (if c then Some r else o) ≡ Some h → (o ≡ Some h → h.number ≡ a) → h.number ≡ a
+pub found_case : (c : Bool) (a : ℕ) (r h : Shoen CellName) (o : Option (Shoen CellName)) → (r.number == a) ≡ c → (if c then Some r else o) ≡ Some h → (o ≡ Some h → h.number ≡ a) → h.number ≡ a
 found_case true a r h o e f k = let same : r ≡ h = cc in sym (ap (λ (x : Shoen CellName). x.number) same) ∙ eqb-true r.number a e
 found_case false a r h o e f k = k f
 
-found_number : (a : ℕ) (ss : List (Shoen CellName)) (h : Shoen CellName) → find (has_number a) ss ≡ Some h → h.number ≡ a
+pub found_number : (a : ℕ) (ss : List (Shoen CellName)) (h : Shoen CellName) → find (has_number a) ss ≡ Some h → h.number ≡ a
 found_number a [] h e = absurd (cc)
 found_number a (r ∷ ss) h e = found_case (r.number == a) a r h (find (has_number a) ss) refl e (found_number a ss h)
 

@@ -83,7 +83,7 @@ reported_beside (structure g ts) kind goal w last other = refl
 
 -- ---- a variable that is new to a store
 
-unbound_past : {N : Type 0} (vs : ℕ) (ss : List (Shape N)) (before bs : List (Binding N)) (v : ℕ) → vs ≤ v → Bound vs ss before bs → is_bound v bs ≡ false
+pub unbound_past : {N : Type 0} (vs : ℕ) (ss : List (Shape N)) (before bs : List (Binding N)) (v : ℕ) → vs ≤ v → Bound vs ss before bs → is_bound v bs ≡ false
 unbound_past vs ss before [] v le p = refl
 unbound_past vs ss before (b ∷ bs) v le p =
     let i = p.0.inside in
@@ -91,7 +91,7 @@ unbound_past vs ss before (b ∷ bs) v le p =
     ap (λ c. c || is_bound v bs) (ne_eqb b.variable v other) ∙ unbound_past vs ss (before ++ b ∷ []) bs v le p.1
 
 -- it means itself
-new_means : (f : Reading) (h : Held CellName) → IsFormed h → meaning f (with_variable h) (Variable h.variables) ≡ variable h.variables
+pub new_means : (f : Reading) (h : Held CellName) → IsFormed h → meaning f (with_variable h) (Variable h.variables) ≡ variable h.variables
 new_means f h p = term_of-unbound f (with_variable h) h.variables (unbound_past h.variables h.structures [] h.bindings h.variables (omega arith) p.bound)
 
 -- what means a variable was there before it
@@ -176,7 +176,7 @@ next_there h next v fresh =
 pub next_grown : (h next : Held CellName) (v : ℕ) → (v ≡ h.variables) × (next ≡ with_variable h) → Grown h next
 next_grown h next v fresh = let P : Held CellName → Type 0 = λ y. Grown h y in subst P (sym fresh.1) (Grown-variable h)
 
-asked_agree : (h mid : Held CellName) (kind : BuiltIn) (term message : Cell CellName) → IsAsked h mid kind term message → (f : Reading) → Agree h (meaning f mid) (meaning f h)
+pub asked_agree : (h mid : Held CellName) (kind : BuiltIn) (term message : Cell CellName) → IsAsked h mid kind term message → (f : Reading) → Agree h (meaning f mid) (meaning f h)
 asked_agree h mid kind term message a f x i = a.asks.others f x (in_next h x i) ∙ term_of-variable f h x
 
 pub asked_grown : (h mid : Held CellName) (kind : BuiltIn) (term message : Cell CellName) → IsAsked h mid kind term message → Grown h mid

@@ -3,7 +3,6 @@
 ghost use Rattle.std.specs.Prelude.{◌≡◌, ◌<◌, ◌≤◌, suc, length, ◌&&◌, nat_lt, OnOk};
 ghost use Rattle.kl1_model.specs.declared.limits.TheConstants.{MONITOR_PRIORITY};
 ghost use Rattle.kl1_model.specs.Rules.{limits_of};
-ghost use Rattle.kl1_model.specs.code.Steps.{clipped};
 ghost use Rattle.kl1_store.specs.Held.{IsIn, arguments_of};
 ghost use Rattle.kl1_shoen.specs.Shoens.{path_in};
 ghost use Rattle.kl1_user_effects.specs.Fitting.{Reading};
@@ -22,15 +21,8 @@ use kl1_model::{BuiltIn, Life};
 use kl1_shoen::Shoen;
 use kl1_store::{Cell, Qualified};
 use kl1_text::CellName;
-use kl1_user_effects::last_of;
+use kl1_user_effects::{clipped_in, last_of};
 use std::alloc::AllocError;
-
-/// A number clipped to the range of a shoen.
-fn clipped_in(shoen: &Shoen<CellName>, number: u64) -> u64
-    ensures { result ≡ clipped shoen.now.low shoen.now.high number }
-{
-    number.min(shoen.high).max(shoen.low)
-}
 
 impl Machine {
     /// Takes a shoen in, and after all other goals its monitor and its goal, which is this cell. Neither can step as yet.

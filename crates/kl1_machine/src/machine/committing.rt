@@ -18,7 +18,6 @@ ghost use Rattle.kl1_machine.specs.Since.{Since};
 ghost use Rattle.kl1_machine.specs.Effects.{Commits, with_goals};
 
 use crate::machine::Machine;
-use crate::streams::priority_in;
 use kl1_clause::Predicate;
 use kl1_goals::{Goal, Task};
 use kl1_goals_moves::{Needs, Trial, commit as put_body, needs_of, priorities_of};
@@ -26,17 +25,8 @@ use kl1_model::BuiltIn;
 use kl1_shoen::Shoen;
 use kl1_store::Qualified;
 use kl1_text::CellName;
+use kl1_user_effects::{is_within, priority_in};
 use std::alloc::AllocError;
-
-/// Whether `have` and `more` together are at most `most`.
-pub(super) fn keeps(most: u64, have: u64, more: u64) -> bool
-    ensures { result ≡ nat_le (have + more) most }
-{
-    if most < more {
-        return false;
-    }
-    have <= most - more
-}
 
 impl Machine {
     /// Whether what `needs` counts keeps to the limits on goals, variables and structures.
@@ -44,9 +34,9 @@ impl Machine {
         ensures { result ≡ (nat_le (count_by (λ g. not (is_monitor g)) self.now.goals.goals + needs.goals) (limits_of self.now.rules).goals && nat_le (self.now.counts.variables + needs.variables) (limits_of self.now.rules).variables && nat_le (self.now.counts.nodes + needs.nodes) (limits_of self.now.rules).nodes) }
     {
         let most = self.rules.limits();
-        keeps(most.goals, self.goals.alive(), needs.goals)
-            && keeps(most.variables, self.counts.variables, needs.variables)
-            && keeps(most.nodes, self.counts.nodes, needs.nodes)
+        is_within(self.goals.alive(), needs.goals, most.goals)
+            && is_within(self.counts.variables, needs.variables, most.variables)
+            && is_within(self.counts.nodes, needs.nodes, most.nodes)
     }
 
     /// Puts goals for cells after all others, of a shoen. Each has its own of these priorities, or if that is none, the one that is given.

@@ -13,7 +13,8 @@ ghost use Rattle.kl1_user_effects.specs.Walks.{terminated};
 ghost use Rattle.kl1_machine.specs.declared.machine.Machine.{Machine};
 ghost use Rattle.kl1_machine.specs.Machines.{IsMachine, Keeps};
 ghost use Rattle.kl1_machine.specs.Since.{Since, IsOnlyMonitor};
-ghost use Rattle.kl1_machine.specs.Effects.{Puts, Becomes, Charges, any_reached, goal_at, having_goals, having_shoens, shifting_shoens, with_shoen};
+ghost use Rattle.kl1_user_effects.specs.Drafts.{goal_at};
+ghost use Rattle.kl1_machine.specs.Effects.{Puts, Becomes, Charges, any_reached, having_goals, having_shoens, shifting_shoens, with_shoen};
 
 use crate::machine::Machine;
 use kl1_goals::{Goal, Task};

@@ -1,12 +1,11 @@
 // Shoens that terminate, and those that have reached their allowance.
 
-ghost use Rattle.std.specs.Prelude.{◌≡◌, ◌++◌, ◌∷◌, [], ◌&&◌, not, true, List, ℕ, if◌then◌else◌, OnOk};
+ghost use Rattle.std.specs.Prelude.{◌≡◌, [], true, List, ℕ, OnOk};
 ghost use Rattle.std.specs.List.{list_any};
 ghost use Rattle.kl1_model.specs.Term.{atom};
 ghost use Rattle.kl1_model.specs.Text.{text_of};
 ghost use Rattle.kl1_model.specs.Report.{report_each};
 ghost use Rattle.kl1_model.specs.Ending.{settle, after_reduction};
-ghost use Rattle.kl1_model.specs.Module.{is_among};
 ghost use Rattle.kl1_goals.specs.Lists.{is_goal_of};
 ghost use Rattle.kl1_shoen.specs.Shoens.{path_in, lives_in};
 ghost use Rattle.kl1_user_effects.specs.Endings.{finished, finished_each};
@@ -19,56 +18,8 @@ ghost use Rattle.kl1_machine.specs.Ending.{LifeEnds, LivesEnd};
 
 use crate::machine::Machine;
 use kl1_model::BuiltIn;
-use std::alloc::{AllocError, Global};
-
-/// What is found on the path of a shoen: the shoens that terminate, and those that have just been charged what they may be and go on;
-/// both innermost first.
-#[derive(Drop)]
-pub struct PathScan {
-    pub ending: Vec<u64>,
-    pub reached: Vec<u64>,
-}
-
-impl PathScan {
-    /// Nothing found.
-    pub fn new(alloc: Global) -> Self {
-        PathScan {
-            ending: Vec::new(alloc),
-            reached: Vec::new(alloc),
-        }
-    }
-}
-
-/// Whether a number is among others.
-fn is_among(numbers: &[u64], number: u64) -> bool
-    ensures { result ≡ is_among number numbers.now }
-{
-    for other in numbers {
-        if number == *other {
-            return true;
-        }
-    }
-    false
-}
-
-/// Puts the number of a shoen down, if it was charged just what it may be and doesn't end.
-fn put_reached(
-    number: u64,
-    has_reached: bool,
-    ending: &[u64],
-    reached: &mut Vec<u64>,
-) -> Result<(), AllocError>
-    ensures { OnOk result (reached.new.items ≡ reached.old.items ++ (if has_reached && not (is_among number ending.now) then number ∷ [] else [])) }
-{
-    if !has_reached {
-        return Ok(());
-    }
-    if is_among(ending, number) {
-        return Ok(());
-    }
-    reached.push(number)?;
-    Ok(())
-}
+use kl1_user_effects::{PathScan, put_reached};
+use std::alloc::AllocError;
 
 impl Machine {
     /// Whether a shoen has a goal other than its monitor.

@@ -12,10 +12,10 @@ ghost use Rattle.kl1_machine.specs.Effects.{Becomes, TurnsAs, having_goals};
 ghost use Rattle.kl1_machine.specs.Since.{Since, IsOnlyMonitor};
 
 use crate::machine::Machine;
-use crate::machine::ending::PathScan;
 use kl1_model::{BuiltIn, Message};
 use kl1_stream::Control;
 use kl1_text::CellName;
+use kl1_user_effects::PathScan;
 use std::alloc::AllocError;
 
 impl Machine {

@@ -15,9 +15,9 @@ ghost use Rattle.kl1_machine.specs.Since.{Since};
 ghost use Rattle.kl1_machine.specs.Naming.{LateAs};
 
 use crate::machine::Machine;
-use crate::machine::ending::PathScan;
 use kl1_model::BuiltIn;
 use kl1_store::Cell;
+use kl1_user_effects::PathScan;
 use std::alloc::AllocError;
 
 impl Machine {

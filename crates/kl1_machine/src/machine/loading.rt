@@ -8,9 +8,9 @@ ghost use Rattle.kl1_machine.specs.Machines.{IsMachine, Keeps};
 ghost use Rattle.kl1_machine.specs.Rescheduling.{Wakes, Reschedules, AllSettled, unready};
 
 use crate::machine::Machine;
-use crate::ready_beside::ready_clause_beside;
 use kl1_codes::{CodeSource, CodedModule, CodedModules};
 use kl1_goals_moves::Trial;
+use kl1_ready::ready_clause_beside;
 use kl1_text::CellName;
 use std::alloc::AllocError;
 

@@ -12,12 +12,12 @@ ghost use Rattle.kl1_machine.specs.Since.{Since};
 ghost use Rattle.kl1_machine.specs.Moving.{MovesAs, RunsAs};
 
 use crate::machine::Machine;
-use crate::machine::ending::PathScan;
 use kl1_clause::Predicate;
 use kl1_goals::{Goal, Task};
 use kl1_goals_moves::{Move, Trial, order_at};
 use kl1_store::Qualified;
 use kl1_text::{AtomText, CellName};
+use kl1_user_effects::PathScan;
 use std::alloc::AllocError;
 
 impl Machine {

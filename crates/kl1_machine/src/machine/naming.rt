@@ -14,14 +14,13 @@ ghost use Rattle.kl1_machine.specs.Since.{Since};
 ghost use Rattle.kl1_machine.specs.Naming.{CanBecome, CannotBecome, NamesIn, BindsName, BindsNone, NamesAs, IsFree, SparesLast, MakesName, CanPublish, Publishes};
 
 use crate::machine::Machine;
-use crate::machine::ending::PathScan;
 use kl1_atoms::AtomSource;
 use kl1_goals::Goal;
 use kl1_goals_moves::{Move, Trial};
 use kl1_model::BuiltIn;
 use kl1_store::{Cell, Qualified};
 use kl1_text::{AtomText, CellName};
-use kl1_user_effects::{Spelled, has_room};
+use kl1_user_effects::{PathScan, Spelled, has_room};
 use std::alloc::AllocError;
 
 impl Machine {

@@ -10,9 +10,9 @@ ghost use Rattle.kl1_machine.specs.Effects.{TurnsAs};
 ghost use Rattle.kl1_machine.specs.Since.{Since, IsOnlyMonitor};
 
 use crate::machine::Machine;
-use crate::machine::ending::PathScan;
 use kl1_stream::Control;
 use kl1_text::CellName;
+use kl1_user_effects::PathScan;
 use std::alloc::AllocError;
 
 impl Machine {

@@ -19,12 +19,12 @@ ghost use Rattle.kl1_machine.specs.Effects.{Tells, TurnsAs};
 ghost use Rattle.kl1_machine.specs.Plain.{ArePlain};
 
 use crate::machine::Machine;
-use crate::streams::{keep_at_times, whole};
 use kl1_goals::{Goal, Task};
 use kl1_model::BuiltIn;
 use kl1_store::{Cell, Qualified};
 use kl1_stream::{Told, append_report, close_report, exception_of, exception_with};
 use kl1_text::{CellName, NameValue};
+use kl1_user_effects::{keep_at_times, whole};
 use std::alloc::AllocError;
 
 impl Machine {

@@ -10,17 +10,12 @@ ghost use Rattle.kl1_model.specs.State.{names_of, with_names};
 ghost use Rattle.kl1_store.specs.Held.{IsIn};
 ghost use Rattle.kl1_machine.specs.declared.machine.Machine.{Machine};
 ghost use Rattle.kl1_machine.specs.Bringing.{Brings};
-ghost use Rattle.kl1_machine.specs.Machines.{IsMachine, IsBegun, Keeps};
-ghost use Rattle.kl1_machine.specs.Rested.{IsRested};
-ghost use Rattle.kl1_machine.specs.Serving.{IsServed};
+ghost use Rattle.kl1_machine.specs.Machines.{IsMachine, Keeps};
 ghost use Rattle.kl1_machine.specs.Since.{Since};
 ghost use Rattle.kl1_machine.specs.Starting.{BuildsGoal, OpensStreams};
 
-use crate::call_cache::CallCache;
 use crate::machine::Machine;
 use kl1_clause::GoalCode;
-use kl1_codes::CodeSource;
-use kl1_goals_moves::Trial;
 use kl1_match::{Scratch, put_goal, put_goal_variables, reserve_goal};
 use kl1_model::Life;
 use kl1_shoen::{Origin, Shoen};
@@ -85,7 +80,7 @@ impl Machine {
 
     /// Starts a goal in a shoen of its own, with these numbers for its names in order of first use. The names are to be used after it; goals
     /// aren't looked at.
-    fn start(
+    pub(crate) fn start(
         &mut self,
         scratch: &mut Scratch<CellName>,
         start: &Start<'_>,
@@ -124,34 +119,5 @@ impl Machine {
         };
         self.open_shoen(shoen, goal)?;
         Ok(())
-    }
-
-    /// Starts a goal in a shoen of its own, with these numbers for its names in order of first use; goals are looked at. An event has
-    /// begun. The names are to be used after it, and those that are new to be published in place of the spare numbers that stand for them.
-    pub fn start_goal<C: CodeSource>(
-        &mut self,
-        calls: &CallCache<'_, '_, C>,
-        trial: &mut Trial<CellName>,
-        scratch: &mut Scratch<CellName>,
-        start: &Start<'_>,
-        numbers: &[CellName],
-    ) -> Result<(), AllocError>
-        requires begun { IsBegun self.old }
-        requires rested { IsRested calls.now.modules.now self.old }
-        requires served { IsServed calls.now.modules.now.loaded calls.now.known calls.now.predicate }
-        requires goal { is_goal start.now.code.now ≡ true }
-        requires numbered { IsTrue (is_numbered start.now.code.now) }
-        requires variables { start.now.variables ≡ highest start.now.code.now }
-        requires numbers { length numbers.now ≡ length (with_names [] (names_of start.now.code.now)) }
-        requires low { start.now.low ≤ MONITOR_PRIORITY }
-        requires high { start.now.high ≤ MONITOR_PRIORITY }
-        requires few { self.old.counts.variables + (start.now.variables + 2) < 2 ^ 64 }
-        requires small { self.old.counts.nodes + goal_nodes start.now.code.now < 2 ^ 64 }
-        ensures ok { OnOk result (Brings (λ s. start_goal s start.now.allowance start.now.low start.now.high start.now.code.now) start.now.code.now numbers.now self.old self.new) }
-        ensures rested { OnOk result (IsRested calls.now.modules.now self.new) }
-        ensures keeps { Keeps self.old self.new }
-    {
-        self.start(scratch, start, numbers)?;
-        self.reschedule(calls, trial, 0)
     }
 }

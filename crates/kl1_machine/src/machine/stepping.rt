@@ -12,12 +12,12 @@ ghost use Rattle.kl1_machine.specs.Since.{Since};
 ghost use Rattle.kl1_machine.specs.Stepping.{StepsAs};
 
 use crate::machine::Machine;
-use crate::machine::ending::PathScan;
 use kl1_clause::Predicate;
 use kl1_goals::Goal;
 use kl1_goals_moves::{Move, Trial};
 use kl1_store::Qualified;
 use kl1_text::{AtomText, CellName};
+use kl1_user_effects::PathScan;
 use std::alloc::AllocError;
 
 impl Machine {

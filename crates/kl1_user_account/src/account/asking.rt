@@ -11,11 +11,11 @@ ghost use Rattle.kl1_codes.specs.Numbered.{ArePlaced};
 
 use crate::account::Account;
 use crate::asking::{modules_of, reports_of, status_of};
-use crate::limits::is_number;
 use crate::printing::print_cell;
 use kl1_atoms::AtomSource;
 use kl1_codes::{CodeSource, CodedModules};
 use kl1_model::limits::MOST_PRINTED_BYTES;
+use kl1_user_effects::is_number;
 use kl1_user_events::{Refusal, Reply};
 use std::alloc::AllocError;
 

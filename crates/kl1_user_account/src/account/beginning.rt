@@ -17,12 +17,12 @@ use kl1_atoms::AtomSource;
 use kl1_codes::{CodeSource, Modules};
 use kl1_goals::{GoalRow, Rules};
 use kl1_goals_moves::Trial;
-use kl1_machine::{Counts, Machine, PathScan};
+use kl1_machine::{Counts, Machine};
 use kl1_match::Scratch;
 use kl1_shoen::ShoenTree;
 use kl1_store::Store;
 use kl1_text::{AtomText, CellName};
-use kl1_user_effects::{AccountNames, publish};
+use kl1_user_effects::{AccountNames, PathScan, publish};
 use std::alloc::{AllocError, Global};
 use std::mem;
 

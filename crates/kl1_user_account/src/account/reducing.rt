@@ -10,6 +10,7 @@ ghost use Rattle.kl1_user_events.specs.Views.{reduced_or};
 ghost use Rattle.kl1_codes.specs.Numbered.{ArePlaced};
 
 use crate::account::Account;
+use crate::events::reduce_in;
 use crate::runs::note_reduction;
 use kl1_atoms::AtomSource;
 use kl1_codes::{CodeSource, CodedModules};
@@ -38,9 +39,9 @@ impl<C: CodeSource> Account<C> {
         let in_run = self.is_in_run(number, clause);
         let is_full = self.has_no_room(in_run);
         self.machine.names.reserve(1)?;
-        self.machine.begin();
         let modules = CodedModules::over(self.machine.rules, &self.modules, codes);
-        let reduced = self.machine.reduce(
+        let refused = reduce_in(
+            &mut self.machine,
             &modules,
             &mut self.trial,
             &mut self.scan,
@@ -48,14 +49,7 @@ impl<C: CodeSource> Account<C> {
             is_full,
             number,
             clause,
-        );
-        let refused = match reduced {
-            Err(memory) => {
-                self.machine.back();
-                return Err(memory);
-            }
-            Ok(refused) => refused,
-        };
+        )?;
         if let Some(refusal) = refused {
             return Ok(Some(refusal));
         }

@@ -1,6 +1,6 @@
 use Rattle.std.proofs.Common.{◌≡◌, ◌-◌, sym, ◌∙◌, arith}
 use Rattle.std.specs.Prelude.{Some}
-use Rattle.kl1_user_account.proofs.Origins.{kept_at, origin_in}
+use Rattle.kl1_user_effects.proofs.Messages.{origin_in, kept_at}
 use Rattle.kl1_user_account.proofs.Listing.{asked_bad, asked_early, asked_none, asked_some, first_named}
 use Rattle.kl1_user_account.proofs.asking.reports_of.Goals as goal
 

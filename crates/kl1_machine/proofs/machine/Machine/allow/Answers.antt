@@ -6,8 +6,8 @@ use Rattle.kl1_shoen_paths.specs.declared.shoen.Shoen.{Shoen}
 use Rattle.kl1_shoen.specs.Shoens.{changed}
 use Rattle.kl1_user_effects.specs.Outlines.{outline}
 use Rattle.kl1_user_effects.proofs.Frames.{keeps_changed}
-use Rattle.kl1_user_effects.proofs.States.{shoens_changed}
-use Rattle.kl1_machine.proofs.Shoens.{IsTree, becomes_shifting, changed_length, keeps_either, since_shifting}
+use Rattle.kl1_user_effects.proofs.States.{shoens_changed, changed_count}
+use Rattle.kl1_machine.proofs.Shoens.{IsTree, becomes_shifting, keeps_either, since_shifting}
 use Rattle.kl1_machine.proofs.machine.Machine.allow.Goals as goal
 
 pub returns-clause-ok : goal.returns-clause-ok
@@ -15,7 +15,7 @@ returns-clause-ok c =
     let m = c.args.self.now in
     let f : Shoen CellName → Shoen CellName = λ h. record h { allowance = grown h.allowance c.args.extra } in
     on_ok_weaker c.allow.result
-    (becomes_shifting m c.allow.new.self (changed c.args.number f m.shoens.shoens) (shoens_changed m.store.held c.args.number f (λ s i. record { control = i.control; tail = i.tail; origin = i.origin; low = i.low; high = i.high }) m.shoens.shoens c.requires.machine.inside.shoens) (changed_length c.args.number f m.shoens.shoens) c.requires.machine)
+    (becomes_shifting m c.allow.new.self (changed c.args.number f m.shoens.shoens) (shoens_changed m.store.held c.args.number f (λ s i. record { control = i.control; tail = i.tail; origin = i.origin; low = i.low; high = i.high }) m.shoens.shoens c.requires.machine.inside.shoens) (changed_count c.args.number f m.shoens.shoens) c.requires.machine)
     c.allow.ensures.ok
 
 pub returns-clause-since : goal.returns-clause-since

@@ -5,8 +5,9 @@ use Rattle.kl1_store.specs.declared.cell.Cell.TheVariants.{Atom}
 use Rattle.kl1_store.specs.Held.{with_binding}
 use Rattle.kl1_machine.proofs.Keeping.{keeps_store}
 use Rattle.kl1_machine.proofs.Sincing.{since_store, since_spelled}
-use Rattle.kl1_machine.proofs.Naming.{spares, bound_grows, same_grows, free_unbound}
+use Rattle.kl1_machine.proofs.Naming.{spares, bound_grows, free_unbound}
 use Rattle.kl1_machine.proofs.machine.Machine.bind_spare.Goals as goal
+use Rattle.kl1_machine.proofs.Unifying.{same_grows}
 
 pub unify_constant-requires-clause-unbound : goal.unify_constant-requires-clause-unbound
 unify_constant-requires-clause-unbound c = free_unbound c.args.variable c.args.self.now.store.held c.requires.free c.mark-before.ensures.formed c.requires.within

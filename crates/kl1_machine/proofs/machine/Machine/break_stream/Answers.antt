@@ -3,8 +3,8 @@ use Rattle.std.proofs.lemmas.Result.{on_ok_weaker}
 use Rattle.kl1_text.specs.declared.cell_name.CellName.{CellName}
 use Rattle.kl1_shoen_paths.specs.declared.shoen.Shoen.{Shoen}
 use Rattle.kl1_shoen.specs.Shoens.{changed}
-use Rattle.kl1_user_effects.proofs.States.{shoens_changed}
-use Rattle.kl1_machine.proofs.Shoens.{IsTree, becomes_left, changed_length, keeps_either, since_quiet}
+use Rattle.kl1_user_effects.proofs.States.{shoens_changed, changed_count}
+use Rattle.kl1_machine.proofs.Shoens.{IsTree, becomes_left, keeps_either, since_quiet}
 use Rattle.kl1_machine.proofs.machine.Machine.break_stream.Goals as goal
 
 pub returns-clause-ok : goal.returns-clause-ok
@@ -12,7 +12,7 @@ returns-clause-ok c =
     let m = c.args.self.now in
     let f : Shoen CellName → Shoen CellName = λ h. record h { is_broken = true } in
     on_ok_weaker c.break_stream.result
-    (becomes_left m c.break_stream.new.self (changed c.args.number f m.shoens.shoens) (shoens_changed m.store.held c.args.number f (λ s i. record { control = i.control; tail = i.tail; origin = i.origin; low = i.low; high = i.high }) m.shoens.shoens c.requires.machine.inside.shoens) (changed_length c.args.number f m.shoens.shoens) c.requires.machine)
+    (becomes_left m c.break_stream.new.self (changed c.args.number f m.shoens.shoens) (shoens_changed m.store.held c.args.number f (λ s i. record { control = i.control; tail = i.tail; origin = i.origin; low = i.low; high = i.high }) m.shoens.shoens c.requires.machine.inside.shoens) (changed_count c.args.number f m.shoens.shoens) c.requires.machine)
     c.break_stream.ensures.ok
 
 pub returns-clause-since : goal.returns-clause-since

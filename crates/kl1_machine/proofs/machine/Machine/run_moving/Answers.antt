@@ -78,7 +78,7 @@ returns-clause-ok g c clause steppable moves =
     let u = c.step_goal.new.self in
     let P : Machine → Type 0 = λ x. StepsAs (record { predicate = a.predicate; move = a.made; places = places; text = text }) c.args.goal a.cell x u in
     on_ok_weaker c.reschedule.result
-    (moved_reduces c.args.modules.now c.args.self.now u c.reschedule.new.self clause c.args.goal places text a c.requires.rested c.requires.alike c.requires.begun.formed steppable moves (subst P c.in_ok-remove.ensures.ok.is c.in_ok-step_goal.ensures.ok))
+    (moved_reduces c.args.modules.now c.args.self.now u c.reschedule.new.self clause c.args.goal places text a (record { rested = c.requires.rested; alike = c.requires.alike; formed = c.requires.begun.formed; steppable = steppable; makes = moves }) (subst P c.in_ok-remove.ensures.ok.is c.in_ok-step_goal.ensures.ok))
     c.reschedule.ensures.ok
 
 pub returns-clause-rested : goal.returns-clause-rested

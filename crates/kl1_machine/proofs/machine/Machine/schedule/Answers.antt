@@ -4,7 +4,7 @@ use Rattle.kl1_text.specs.declared.cell_name.CellName.{CellName}
 use Rattle.kl1_goals.specs.Rows.{Rowed}
 use Rattle.kl1_goals.specs.Lists.{has_number, looked_at}
 use Rattle.kl1_user_effects.specs.Kept.{IsTaskIn}
-use Rattle.kl1_machine.specs.Ready.{IsReadyAt}
+use Rattle.kl1_ready.specs.Ready.{IsReadyAt}
 use Rattle.kl1_machine.specs.Rescheduling.{Schedules}
 use Rattle.kl1_machine.proofs.Looking.{found_holds, row_of, row_keeps}
 use Rattle.kl1_machine.proofs.Scheduling.{schedules_one, schedules_none}

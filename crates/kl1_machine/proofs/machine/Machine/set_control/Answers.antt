@@ -3,9 +3,9 @@ use Rattle.std.proofs.Common.{sym, subst}
 use Rattle.kl1_text.specs.declared.cell_name.CellName.{CellName}
 use Rattle.kl1_shoen_paths.specs.declared.shoen.Shoen.{Shoen}
 use Rattle.kl1_shoen.specs.Shoens.{Tree, changed}
-use Rattle.kl1_user_effects.proofs.States.{shoens_changed}
+use Rattle.kl1_user_effects.proofs.States.{shoens_changed, changed_count}
 use Rattle.kl1_machine.specs.Since.{Since}
-use Rattle.kl1_machine.proofs.Shoens.{IsTree, becomes_told, changed_length, keeps_told, since_told}
+use Rattle.kl1_machine.proofs.Shoens.{IsTree, becomes_told, keeps_told, since_told}
 use Rattle.kl1_machine.proofs.machine.Machine.set_control.Goals as goal
 
 pub returns-clause-ok : goal.returns-clause-ok
@@ -14,7 +14,7 @@ returns-clause-ok c =
     let f : Shoen CellName → Shoen CellName = λ h. record h { control = c.args.control } in
     on_ok_weaker c.set_control.result
     (becomes_told m c.set_control.new.self c.push.new.self (changed c.args.number f m.shoens.shoens)
-    (shoens_changed m.store.held c.args.number f (λ s i. record { control = c.requires.inside; tail = i.tail; origin = i.origin; low = i.low; high = i.high }) m.shoens.shoens c.requires.machine.inside.shoens) (changed_length c.args.number f m.shoens.shoens) c.requires.machine)
+    (shoens_changed m.store.held c.args.number f (λ s i. record { control = c.requires.inside; tail = i.tail; origin = i.origin; low = i.low; high = i.high }) m.shoens.shoens c.requires.machine.inside.shoens) (changed_count c.args.number f m.shoens.shoens) c.requires.machine)
     c.set_control.ensures.ok
 
 pub returns-clause-told : goal.returns-clause-told

@@ -2,12 +2,11 @@ use Rattle.std.proofs.Common.{refl}
 use Rattle.std.proofs.lemmas.Result.{on_ok_weaker}
 use Rattle.std.specs.Prelude.{option_map}
 use Rattle.kl1_shoen.specs.Changes.{with_control}
-use Rattle.kl1_machine.proofs.Shoens.{origin_kept}
+use Rattle.kl1_machine.proofs.Shoens.{origin_kept, IsTree, becomes_left, keeps_either, since_quiet}
 use Rattle.kl1_text.specs.declared.cell_name.CellName.{CellName}
 use Rattle.kl1_shoen_paths.specs.declared.shoen.Shoen.{Shoen}
 use Rattle.kl1_shoen.specs.Shoens.{changed}
-use Rattle.kl1_user_effects.proofs.States.{shoens_changed}
-use Rattle.kl1_machine.proofs.Shoens.{IsTree, becomes_left, changed_length, keeps_either, since_quiet}
+use Rattle.kl1_user_effects.proofs.States.{shoens_changed, changed_count}
 use Rattle.kl1_machine.proofs.machine.Machine.set_origin_control.Goals as goal
 
 pub returns-clause-ok : goal.returns-clause-ok
@@ -15,7 +14,7 @@ returns-clause-ok c =
     let m = c.args.self.now in
     let f : Shoen CellName → Shoen CellName = λ h. record h { origin = option_map (with_control c.args.control) h.origin } in
     on_ok_weaker c.set_origin_control.result
-    (becomes_left m c.set_origin_control.new.self (changed c.args.number f m.shoens.shoens) (shoens_changed m.store.held c.args.number f (λ s i. record { control = i.control; tail = i.tail; origin = origin_kept m.store.held s.origin c.args.control c.requires.inside i.origin; low = i.low; high = i.high }) m.shoens.shoens c.requires.machine.inside.shoens) (changed_length c.args.number f m.shoens.shoens) c.requires.machine)
+    (becomes_left m c.set_origin_control.new.self (changed c.args.number f m.shoens.shoens) (shoens_changed m.store.held c.args.number f (λ s i. record { control = i.control; tail = i.tail; origin = origin_kept m.store.held s.origin c.args.control c.requires.inside i.origin; low = i.low; high = i.high }) m.shoens.shoens c.requires.machine.inside.shoens) (changed_count c.args.number f m.shoens.shoens) c.requires.machine)
     c.set_origin_control.ensures.ok
 
 pub returns-clause-since : goal.returns-clause-since

@@ -1,4 +1,4 @@
-use Rattle.kl1_machine.proofs.Ready.{nobody_lets}
+use Rattle.kl1_ready.proofs.Ready.{nobody_lets}
 use Rattle.kl1_machine.proofs.machine.Machine.shoen_that_lets.Goals as goal
 
 pub returns-then-self : goal.returns-then-self

@@ -3,7 +3,7 @@ use Rattle.std.proofs.lemmas.Result.{on_ok_weaker}
 use Rattle.kl1_goals.specs.Lists.{has_number, stood_by}
 use Rattle.kl1_codes.specs.Shelves.{with_last}
 use Rattle.kl1_user_effects.specs.Kept.{IsTaskIn}
-use Rattle.kl1_machine.specs.Ready.{IsReadyAt}
+use Rattle.kl1_ready.specs.Ready.{IsReadyAt}
 use Rattle.kl1_machine.proofs.Looking.{found_holds, row_of, row_keeps}
 use Rattle.kl1_machine.proofs.Waking.{wakes_one, wakes_none}
 use Rattle.kl1_machine.proofs.Keeping.{keeps_same}

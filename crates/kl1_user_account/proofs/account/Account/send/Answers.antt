@@ -2,8 +2,9 @@ use Rattle.std.proofs.Common.{◌≡◌, refl, ap₂, ◌∙◌}
 use Rattle.kl1_machine.specs.Sending.{Sends, IsRefusedMessage}
 use Rattle.kl1_user_account.proofs.Machines.{Aside, begins}
 use Rattle.kl1_user_account.proofs.Reductions.{refusal_is, none_is}
-use Rattle.kl1_user_account.proofs.Messages.{entered, sent_step, sent_kept, sent_counts, refused_message}
+use Rattle.kl1_user_account.proofs.Messages.{sent_step, sent_kept, sent_counts, refused_message}
 use Rattle.kl1_user_account.proofs.account.Account.send.Goals as goal
+use Rattle.kl1_user_account.proofs.Bringing.{noted}
 
 pub returns-in-Some-clause-step : goal.returns-in-Some-clause-step
 returns-in-Some-clause-step g c =
@@ -27,7 +28,7 @@ invariant_of-self-2 g c =
     let v = c.send-sent.new.self in
     let did = none_is (Sends program u.entries n m b v) (IsRefusedMessage u.entries n m b v) c.in-Ok.refused c.in_default.is c.in-Ok.ensures.ok in
     let y : Aside = record x { entries = c.note_entry.new.entries; run = c.note_entry.new.run } in
-    let counted : y ≡ entered x = ap₂ (λ e q. let z : Aside = record x { entries = e; run = q } in z) c.note_entry.ensures.entries c.note_entry.ensures.run in
+    let counted : y ≡ noted x = ap₂ (λ e q. let z : Aside = record x { entries = e; run = q } in z) c.note_entry.ensures.entries c.note_entry.ensures.run in
     (sent_kept x y program b v n m c.over-modules.ensures s.begun.name c.send-sent.ensures.keeps did counted s.kept, sent_counts x y program b v n m did counted s.counted)
 
 pub returns-clause-step : goal.returns-clause-step
@@ -42,5 +43,5 @@ returns-clause-step g c =
     let v = c.send-sent.new.self in
     let did = none_is (Sends program u.entries n m b v) (IsRefusedMessage u.entries n m b v) c.in-Ok.refused c.in_default.is c.in-Ok.ensures.ok in
     let y : Aside = record x { entries = c.note_entry.new.entries; run = c.note_entry.new.run } in
-    let counted : y ≡ entered x = ap₂ (λ e q. let z : Aside = record x { entries = e; run = q } in z) c.note_entry.ensures.entries c.note_entry.ensures.run in
+    let counted : y ≡ noted x = ap₂ (λ e q. let z : Aside = record x { entries = e; run = q } in z) c.note_entry.ensures.entries c.note_entry.ensures.run in
     λ f fits. sent_step x y program b v c.args.self.now n m (s.same.account x ∙ c.self.view_is) s.begun.name did counted f fits.reads

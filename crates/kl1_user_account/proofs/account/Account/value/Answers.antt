@@ -6,8 +6,9 @@ use Rattle.kl1_atoms.specs.declared.known.Known.{Known}
 use Rattle.kl1_user_effects.specs.Fitting.{Fits}
 use Rattle.kl1_user_effects.specs.Account.{Account, state_of}
 use Rattle.kl1_user_account.specs.Accounts.{kept_in}
-use Rattle.kl1_user_account.proofs.Origins.{kept_at, origin_in, goal_named, reads_none, reads_some}
+use Rattle.kl1_user_account.proofs.Origins.{goal_named, reads_none, reads_some}
 use Rattle.kl1_user_account.proofs.account.Account.value.Goals as goal
+use Rattle.kl1_user_effects.proofs.Messages.{kept_at, origin_in}
 
 pub print_cell-requires-clause-cell : goal.print_cell-requires-clause-cell
 print_cell-requires-clause-cell g c =

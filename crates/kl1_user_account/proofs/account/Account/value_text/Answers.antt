@@ -5,8 +5,9 @@ use Rattle.kl1_atoms.specs.declared.known.Known.{Known}
 use Rattle.kl1_user_effects.specs.Fitting.{Fits}
 use Rattle.kl1_user_effects.specs.Account.{Account, meaning, state_of}
 use Rattle.kl1_user_account.specs.Accounts.{kept_in}
-use Rattle.kl1_user_account.proofs.Origins.{kept_at, origin_in, goal_named, none_shown, kept_shown}
+use Rattle.kl1_user_account.proofs.Origins.{goal_named, none_shown, kept_shown}
 use Rattle.kl1_user_account.proofs.account.Account.value_text.Goals as goal
+use Rattle.kl1_user_effects.proofs.Messages.{kept_at, origin_in}
 
 pub print_cell-requires-clause-cell : goal.print_cell-requires-clause-cell
 print_cell-requires-clause-cell g c =

@@ -7,7 +7,7 @@ use Rattle.kl1_shoen_paths.specs.declared.shoen.Shoen.{Shoen}
 use Rattle.kl1_codes.specs.Shelves.{Program}
 use Rattle.kl1_user_account.specs.Viewed.{AwaitsMessage, Awaits}
 use Rattle.kl1_user_account.proofs.Awaiting.{nobody_awaits, monitor_awaits}
-use Rattle.kl1_user_account.proofs.Goals.{control_in}
+use Rattle.kl1_ready.proofs.SettledStays.{control_in}
 use Rattle.kl1_user_account.proofs.viewing.awaiting.await_as_monitor.Goals as goal
 
 pub await_message-requires : goal.await_message-requires

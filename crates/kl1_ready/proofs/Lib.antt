@@ -1,0 +1,5 @@
+mod Serving
+pub mod Ready
+pub mod SettledStays
+mod Numbers
+pub mod Plans

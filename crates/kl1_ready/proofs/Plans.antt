@@ -1,0 +1,209 @@
+-- What goals are to do: moves that are found are those of the definitions.
+use Rattle.std.proofs.Common.{◌≡◌, ℕ, ◌==◌, if◌then◌else◌, Bool, true, false, List, [], ◌∷◌, length, refl, sym, ap, ◌∙◌, arith, subst}
+use Rattle.std.specs.Prelude.{Option, Some, None, MatchOption, option_map, slice_get}
+use Rattle.std.proofs.lemmas.Bool.{eq-eqb, ne_eqb}
+use Rattle.kl1_model.specs.Text.{text_of}
+use Rattle.kl1_model.specs.Term.{Term}
+use Rattle.kl1_model.specs.Module.{Module}
+use Rattle.kl1_model.specs.Look.{goal_look}
+use Rattle.kl1_model.specs.Control as model_control
+use Rattle.kl1_model.specs.declared.rules.Rules.{Rules}
+use Rattle.kl1_model.specs.State as model
+use Rattle.kl1_model.specs.Reduction as reduction
+use Rattle.kl1_model.specs.Reduction.{Action, reads, moves, read_action, task_action}
+use Rattle.kl1_model.specs.code.Steps.{substitute_move, monitor_action}
+use Rattle.kl1_model.specs.code.Waits.{move_by}
+use Rattle.kl1_text.specs.Reading.{Reads}
+use Rattle.kl1_text.specs.declared.cell_name.CellName.{CellName}
+use Rattle.kl1_atoms.specs.Names.{AreNames}
+use Rattle.kl1_atoms.specs.Knowing.{are_names}
+use Rattle.kl1_store.specs.declared.cell.Cell.{Cell}
+use Rattle.kl1_store.specs.declared.qualified.Qualified.{Qualified}
+use Rattle.kl1_store.specs.Held.{Held, arguments_of}
+use Rattle.kl1_stream.specs.declared.control.Control.{Control}
+use Rattle.kl1_stream.specs.declared.control.Control.TheVariants.{Awaits, Tells, TellsOther, Ends, BreaksOff}
+use Rattle.kl1_stream.specs.Controls.{control_as}
+use Rattle.kl1_clause.specs.declared.predicate.Predicate.{Predicate}
+use Rattle.kl1_match.specs.declared.place.Place.{Place}
+use Rattle.kl1_goals_moves.specs.declared.moves.Move.{Move}
+use Rattle.kl1_goals_moves.specs.declared.moves.Move.TheVariants as made
+use Rattle.kl1_goals_moves.specs.declared.order.ExecuteArguments.{ExecuteArguments}
+use Rattle.kl1_goals_moves.specs.Orders.{order_at, IsOrder}
+use Rattle.kl1_goals_moves.specs.Moves.{IsMove, MoveIn}
+use Rattle.kl1_goals_moves.specs.Substitutes.{move_by_clause, substitute_move_of, SubstituteMoves}
+use Rattle.kl1_goals.specs.declared.task.Task.TheVariants.{Monitor, Reduces, Substitutes}
+use Rattle.kl1_goals.specs.declared.goal.Goal.{Goal}
+use Rattle.kl1_shoen_paths.specs.declared.shoen.Shoen.{Shoen}
+use Rattle.kl1_shoen.specs.Shoens.{shoen_in}
+use Rattle.kl1_codes.specs.Finding.{contents}
+use Rattle.kl1_codes.specs.Shelves.{Program}
+use Rattle.kl1_user_effects.specs.Fitting.{Reading, built, reading_of, reading_fits}
+use Rattle.kl1_user_effects.specs.Account.{meaning, task_with, shoen_with, aim, whole}
+use Rattle.kl1_user_effects.specs.Works.{worked, Made}
+use Rattle.kl1_user_effects.proofs.States.{found_in}
+use Rattle.kl1_ready.specs.declared.planning.Plan.{Plan}
+use Rattle.kl1_ready.specs.declared.planning.Plan.TheVariants as plan
+use Rattle.kl1_ready.specs.declared.planning.PlannedMove.{PlannedMove}
+use Rattle.kl1_ready.specs.Plans.{CanDo, ReadsBy, MovesBy, IsPlan, DoesNothing, is_read, move_or_go}
+
+-- ---- what a monitor can do
+
+-- what the monitor of a shoen that is there can do
+pub monitor_does : (program : Program) (h : Held CellName) (w : Made) (c : ℕ) (g : Goal CellName) (f : Reading) (o : Option (Shoen CellName)) (a : Option Action) → g.task ≡ Monitor → shoen_in g.shoen w.shoens ≡ o → monitor_action (option_map (shoen_with (meaning f h)) o) c ≡ a → CanDo program h w g c f a
+monitor_does program h w c g f o a task found e s is =
+    let z = worked f s h w in
+    let t = meaning f h in
+    ap (λ k. task_action z g.shoen (task_with t k) c) task
+    ∙ ap (λ h. monitor_action h c) (found_in t g.shoen w.shoens ∙ ap (option_map (shoen_with t)) found)
+    ∙ e
+
+-- it takes no other clause than 0
+pub monitor_takes : (h : Option model.Shoen) (c : ℕ) → (c ≡ 0 → ⊥) → monitor_action h c ≡ None
+monitor_takes None c ne = refl
+monitor_takes (Some h) c ne = ap (λ b. if b then read_action (model_control.control_of h.control) else None) (ne_eqb c 0 ne)
+
+-- by 0 it reads what stands before it
+pub monitor_reads : (h : model.Shoen) (c : ℕ) (k : model_control.Control) → c ≡ 0 → k ≡ model_control.control_of h.control → monitor_action (Some h) c ≡ read_action k
+monitor_reads h c k zero same = ap (λ b. if b then read_action (model_control.control_of h.control) else None) (eq-eqb c 0 zero) ∙ ap read_action (sym same)
+
+-- what isn't a variable is read
+pub is_some_read : (f : Reading) (h : Held CellName) (k : Control CellName) → is_read k ≡ true → read_action (control_as f h k) ≡ Some (reads (control_as f h k))
+is_some_read f h (Awaits v) e = absurd (cc)
+is_some_read f h (Tells m rest) e = refl
+is_some_read f h (TellsOther m rest) e = refl
+is_some_read f h Ends e = refl
+is_some_read f h (BreaksOff x) e = refl
+
+-- a variable is waited for
+pub is_none_read : (f : Reading) (h : Held CellName) (k : Control CellName) → is_read k ≡ false → read_action (control_as f h k) ≡ None
+is_none_read f h (Awaits v) e = refl
+is_none_read f h (Tells m rest) e = absurd (cc)
+is_none_read f h (TellsOther m rest) e = absurd (cc)
+is_none_read f h Ends e = absurd (cc)
+is_none_read f h (BreaksOff x) e = absurd (cc)
+
+-- ---- what any other goal can do
+
+-- it makes the move of its term, if there is one
+pub goal_does : (program : Program) (h : Held CellName) (w : Made) (c : ℕ) (g : Goal CellName) (f : Reading) (x : Qualified CellName) (o : Option reduction.Move) → program.rules ≡ w.rules → g.task ≡ Reduces x → move_by program.rules (contents program.loaded) (aim f h x) c ≡ o →
+    CanDo program h w g c f (option_map (moves (aim f h x)) o)
+goal_does program h w c g f x o rules task found s is =
+    let z = worked f s h w in
+    let t = meaning f h in
+    ap (λ k. task_action z g.shoen (task_with t k) c) task
+    ∙ ap (λ (ms : List Module). option_map (moves (aim f h x)) (move_by w.rules ms (aim f h x) c)) is
+    ∙ ap (λ (r : Rules). option_map (moves (aim f h x)) (move_by r (contents program.loaded) (aim f h x) c)) (sym rules)
+    ∙ ap (option_map (moves (aim f h x))) found
+
+substitute_acts : (t : Term) (c : ℕ) → (if c == 0 then option_map (moves t) (substitute_move (goal_look t)) else None) ≡ option_map (moves t) (move_by_clause t c)
+substitute_acts t c = by_case (c == 0)
+  where
+    by_case : (b : Bool) → (if b then option_map (moves t) (substitute_move (goal_look t)) else None) ≡ option_map (moves t) (if b then substitute_move (goal_look t) else None)
+    by_case true = refl
+    by_case false = refl
+
+-- a substitute makes the move of what its variable is, if there is one
+pub substitute_does : (program : Program) (h : Held CellName) (w : Made) (c : ℕ) (g : Goal CellName) (f : Reading) (y : Cell CellName) (o : Option reduction.Move) → g.task ≡ Substitutes y → move_by_clause (meaning f h y) c ≡ o → CanDo program h w g c f (option_map (moves (aim f h (whole y))) o)
+substitute_does program h w c g f y o task found s is =
+    let z = worked f s h w in
+    let t = meaning f h in
+    ap (λ k. task_action z g.shoen (task_with t k) c) task ∙ substitute_acts (t y) c ∙ ap (option_map (moves (t y))) found
+
+-- ---- moves that are found
+
+-- six cells are an order
+order_there : (h : Held CellName) (s : ℕ) (xs : List (Cell CellName)) → xs ≡ arguments_of h s → length xs ≡ 6 → (o : ExecuteArguments CellName) × IsOrder h s o
+order_there h s [] e n = absurd (omega (arith, n))
+order_there h s (g ∷ []) e n = absurd (omega (arith, n))
+order_there h s (g ∷ l ∷ []) e n = absurd (omega (arith, n))
+order_there h s (g ∷ l ∷ u ∷ []) e n = absurd (omega (arith, n))
+order_there h s (g ∷ l ∷ u ∷ a ∷ []) e n = absurd (omega (arith, n))
+order_there h s (g ∷ l ∷ u ∷ a ∷ k ∷ []) e n = absurd (omega (arith, n))
+order_there h s (g ∷ l ∷ u ∷ a ∷ k ∷ r ∷ []) e n =
+    let o : ExecuteArguments CellName = record { goal = g; low = l; high = u; allowance = a; control = k; reports = r } in (
+      o,
+      record {
+        goal_is = ap (λ (xs : List (Cell CellName)). slice_get xs 0) (sym e);
+        low_is = ap (λ (xs : List (Cell CellName)). slice_get xs 1) (sym e);
+        high_is = ap (λ (xs : List (Cell CellName)). slice_get xs 2) (sym e);
+        allowance_is = ap (λ (xs : List (Cell CellName)). slice_get xs 3) (sym e);
+        control_is = ap (λ (xs : List (Cell CellName)). slice_get xs 4) (sym e);
+        reports_is = ap (λ (xs : List (Cell CellName)). slice_get xs 5) (sym e);
+      },
+    )
+order_there h s (g ∷ l ∷ u ∷ a ∷ k ∷ r ∷ x ∷ xs) e n = absurd (omega (arith, n))
+
+-- a move that is found is one of the definitions
+pub found_move : (f : Reading) (h : Held CellName) (o : Option reduction.Move) (p : Predicate CellName) (places : List (Place CellName)) (text : List ℕ) (m : Move CellName) → MoveIn h p places text (Some m) → IsMove f h o p places text (Some m) → (n : reduction.Move) × (o ≡ Some n)
+found_move f h o p places text (made.Commits place) i k = (reduction.commits k.candidate, k.moves)
+found_move f h o p places text (made.Raises b) i k = (reduction.raises (text_of b), k)
+found_move f h o p places text (made.Unifies a b) i k = (reduction.unifies (meaning f h a) (meaning f h b), k)
+found_move f h o p places text (made.Names a) i k = (reduction.names text (meaning f h a), k)
+found_move f h o p places text (made.Opens s) i k = let r = order_there h s (arguments_of h s) refl i.1 in (reduction.opens (order_at f h r.0), k r.0 r.1)
+found_move f h o p places text made.Goes i k = (reduction.goes, k)
+found_move f h o p places text made.GivesWay i k = (reduction.gives_way, k)
+
+gives : (o : Option reduction.Move) (m : reduction.Move) → o ≡ Some m → o ≡ Some (move_or_go o)
+gives None m e = absurd (cc)
+gives (Some n) m e = refl
+
+-- and so it is what the goal does
+pub allowed : (f : Reading) (h : Held CellName) (o : Option reduction.Move) (p : Predicate CellName) (places : List (Place CellName)) (text : List ℕ) (m : Move CellName) → MoveIn h p places text (Some m) → IsMove f h o p places text (Some m) → o ≡ Some (move_or_go o)
+allowed f h o p places text m inside is =
+    let found = found_move f h o p places text m inside is in
+    gives o found.0 found.1
+
+-- a substitute's move, told of cells
+pub substitute_moves : (f : Reading) (h : Held CellName) (o : Option reduction.Move) (p : Predicate CellName) (places : List (Place CellName)) (text : List ℕ) (m : Move CellName) → substitute_move_of (Some m) o → IsMove f h o p places text (Some m)
+substitute_moves f h o p places text (made.Commits place) s = absurd s
+substitute_moves f h o p places text (made.Raises b) s = s
+substitute_moves f h o p places text (made.Unifies a b) s = absurd s
+substitute_moves f h o p places text (made.Names a) s = absurd s
+substitute_moves f h o p places text (made.Opens n) s = absurd s
+substitute_moves f h o p places text made.Goes s = absurd s
+substitute_moves f h o p places text made.GivesWay s = s
+
+-- its cells are of the store, since it has none
+pub substitute_inside : (h : Held CellName) (o : Option reduction.Move) (p : Predicate CellName) (places : List (Place CellName)) (text : List ℕ) (m : Move CellName) → substitute_move_of (Some m) o → MoveIn h p places text (Some m)
+substitute_inside h o p places text (made.Commits place) s = absurd s
+substitute_inside h o p places text (made.Raises b) s = tt
+substitute_inside h o p places text (made.Unifies a b) s = absurd s
+substitute_inside h o p places text (made.Names a) s = absurd s
+substitute_inside h o p places text (made.Opens n) s = absurd s
+substitute_inside h o p places text made.Goes s = absurd s
+substitute_inside h o p places text made.GivesWay s = tt
+
+-- there is a reading of the names of the language
+no_names : AreNames []
+no_names =
+    are_names (λ n t. ⊥) [] (record { names = λ t n e. absurd e; not_built_in = λ t n e. absurd e; from_64 = λ t n e. absurd e; one_text = λ t u n d e. absurd e; one_number = λ t m n d e. absurd e })
+    (record { by_text = λ t n e. absurd (cc); by_number = λ t n e. absurd (cc) })
+
+-- the move of a substitute has no cells
+pub inside_by : (h : Held CellName) (y : Cell CellName) (c : ℕ) (p : Predicate CellName) (places : List (Place CellName)) (text : List ℕ) (o : Option (Move CellName)) (m : Move CellName) → o ≡ Some m → ((f : Reading) → Reads built f → SubstituteMoves (meaning f h y) c o) → MoveIn h p places text (Some m)
+inside_by h y c p places text o m found given =
+    let f = reading_of [] in
+    let S : Option (Move CellName) → Type 0 = λ q. SubstituteMoves (meaning f h y) c q in
+    substitute_inside h (move_by_clause (meaning f h y) c) p places text m (subst S found (given f (reading_fits [] no_names).reads))
+
+-- ---- plans
+
+-- a plan for any places
+pub plan_by : (program : Program) (h : Held CellName) (w : Made) (g : Goal CellName) (c : ℕ) (places : List (Place CellName)) (text : List ℕ) (o : Option Plan) →
+    MatchOption o (DoesNothing program h w g c) (λ p. (ps : List (Place CellName)) (t : List ℕ) → IsPlan program h w g c ps t p) → MatchOption o (DoesNothing program h w g c) (IsPlan program h w g c places text)
+plan_by program h w g c places text None a = a
+plan_by program h w g c places text (Some p) a = a places text
+
+-- a plan that was found to read
+pub plan_reads : (program : Program) (h : Held CellName) (w : Made) (g : Goal CellName) (c : ℕ) (places : List (Place CellName)) (text : List ℕ) (o : Option Plan) (control : Control CellName) → o ≡ Some (plan.Reads control) → MatchOption o (DoesNothing program h w g c) (IsPlan program h w g c places text) →
+    ReadsBy program h w g c control
+plan_reads program h w g c places text o control e a =
+    let D : Option Plan → Type 0 = λ q. MatchOption q (DoesNothing program h w g c) (IsPlan program h w g c places text) in
+    subst D e a
+
+-- one to make a move
+pub plan_moves : (program : Program) (h : Held CellName) (w : Made) (g : Goal CellName) (c : ℕ) (places : List (Place CellName)) (text : List ℕ) (o : Option Plan) (x : PlannedMove) → o ≡ Some (plan.Moves x) → MatchOption o (DoesNothing program h w g c) (IsPlan program h w g c places text) →
+    MovesBy program h w g c places text x
+plan_moves program h w g c places text o x e a =
+    let D : Option Plan → Type 0 = λ q. MatchOption q (DoesNothing program h w g c) (IsPlan program h w g c places text) in
+    subst D e a

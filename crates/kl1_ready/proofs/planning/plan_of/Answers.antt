@@ -1,0 +1,33 @@
+use Rattle.std.proofs.Common.{subst}
+use Rattle.std.specs.Prelude.{Option, MatchOption, ◌≡◌}
+use Rattle.std.proofs.lemmas.Result.{IfOk-weaker}
+use Rattle.kl1_text.specs.declared.cell_name.CellName.{CellName}
+use Rattle.kl1_goals.specs.declared.task.Task.{Task}
+use Rattle.kl1_goals_moves.specs.Moves.{taken_places}
+use Rattle.kl1_user_effects.specs.Kept.{IsTaskIn}
+use Rattle.kl1_user_effects.specs.Works.{Made}
+use Rattle.kl1_ready.specs.declared.planning.Plan.{Plan}
+use Rattle.kl1_ready.specs.Plans.{IsPlan, DoesNothing}
+use Rattle.kl1_ready.proofs.Plans.{plan_by}
+use Rattle.kl1_ready.proofs.planning.plan_of.Goals as goal
+
+pub returns-in-Monitor : goal.returns-in-Monitor
+returns-in-Monitor g c w rules shoens =
+    plan_by c.args.modules.now c.args.store.now.held w c.args.goal c.args.clause (taken_places c.args.trial.now) c.args.trial.now.text c.plan_reading.result (c.plan_reading.ensures c.args.modules.now w shoens)
+
+pub plan_move-requires-clause-cell : goal.plan_move-requires-clause-cell
+plan_move-requires-clause-cell g c = let P : Task CellName → Type 0 = λ t. IsTaskIn c.args.store.now.held t in subst P c.in-Reduces.is c.requires.task
+
+pub returns-in-Reduces : goal.returns-in-Reduces
+returns-in-Reduces g c =
+    let program = c.args.modules.now in
+    let h = c.args.store.now.held in
+    let D : Made → Option Plan → Type 0 = λ w o. MatchOption o (DoesNothing program h w c.args.goal c.args.clause) (IsPlan program h w c.args.goal c.args.clause (taken_places c.plan_move.new.trial) c.plan_move.new.trial.text) in
+    IfOk-weaker c.plan_move.result (λ o. (w : Made) → w.rules ≡ program.rules → D w o) (λ o. (w : Made) → w.rules ≡ program.rules → w.shoens ≡ c.args.shoens.now.shoens → D w o) (λ o all w rules shoens. all w rules) c.plan_move.ensures
+
+pub plan_substitute-requires-clause-cell : goal.plan_substitute-requires-clause-cell
+plan_substitute-requires-clause-cell g c = let P : Task CellName → Type 0 = λ t. IsTaskIn c.args.store.now.held t in subst P c.in-Substitutes.is c.requires.task
+
+pub returns-in-Substitutes : goal.returns-in-Substitutes
+returns-in-Substitutes g c w rules shoens =
+    plan_by c.args.modules.now c.args.store.now.held w c.args.goal c.args.clause (taken_places c.args.trial.now) c.args.trial.now.text c.plan_substitute.result (c.plan_substitute.ensures w)
