@@ -12,7 +12,7 @@ use Rattle.kl1_goals.specs.declared.goal.Goal.{Goal}
 use Rattle.kl1_goals.specs.Tables.{AreBefore}
 use Rattle.kl1_shoen_paths.specs.declared.shoen.Shoen.{Shoen}
 use Rattle.kl1_shoen.specs.Shoens.{Tree}
-use Rattle.kl1_user_effects.specs.declared.spelled.Spelled.{Spelled}
+use Rattle.kl1_user_effects.specs.declared.draft.Spelled.{Spelled}
 use Rattle.kl1_user_effects.specs.Kept.{IsTaskIn, IsOwned, AreUpTo}
 use Rattle.kl1_user_effects.proofs.Goals.{goals_in_append, owned_append, up_to_append, up_to_more}
 use Rattle.kl1_user_effects.proofs.Substituting.{has_grown}

@@ -30,7 +30,7 @@ use Rattle.kl1_store.proofs.Grows.{Grown-same}
 use Rattle.kl1_match.proofs.Cells.{at_structure}
 use Rattle.kl1_goals.specs.declared.goal.Goal.{Goal}
 use Rattle.kl1_codes.specs.Numbered.{Numbered}
-use Rattle.kl1_user_effects.specs.declared.spelled.Spelled.{Spelled}
+use Rattle.kl1_user_effects.specs.declared.draft.Spelled.{Spelled}
 use Rattle.kl1_user_effects.specs.Fitting.{Reading, reading_of, reading_fits}
 use Rattle.kl1_user_effects.specs.Account.{meaning, aim, goal_with, texts_of}
 use Rattle.kl1_user_effects.specs.Works.{Made, worked, IsMadeIn}

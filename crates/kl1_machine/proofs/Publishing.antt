@@ -12,7 +12,7 @@ use Rattle.kl1_atoms.specs.Knowing.{still_known}
 use Rattle.kl1_store.specs.declared.cell.Cell.TheVariants.{Atom}
 use Rattle.kl1_store.specs.Constants.{Rebinds}
 use Rattle.kl1_store.specs.Hooks.{Kept}
-use Rattle.kl1_user_effects.specs.declared.spelled.Spelled.{Spelled}
+use Rattle.kl1_user_effects.specs.declared.draft.Spelled.{Spelled}
 use Rattle.kl1_user_effects.specs.Account.{texts_of}
 use Rattle.kl1_user_effects.specs.Naming.{NameShelf, AreSmall}
 use Rattle.kl1_user_effects.specs.Calling.{keeps_names, IsNewName}

@@ -15,7 +15,7 @@ use Rattle.kl1_goals.specs.declared.goal.Goal.{Goal}
 use Rattle.kl1_goals.specs.Lists.{has_number, is_monitor, is_monitor_task, is_monitor_of}
 use Rattle.kl1_goals.specs.Tables.{AreSingle}
 use Rattle.kl1_codes.specs.Shelves.{Program}
-use Rattle.kl1_user_effects.specs.declared.spelled.Spelled.{Spelled}
+use Rattle.kl1_user_effects.specs.declared.draft.Spelled.{Spelled}
 use Rattle.kl1_user_effects.specs.Fitting.{Reading}
 use Rattle.kl1_user_effects.specs.Naming.{NameShelf, AreSmall}
 use Rattle.kl1_user_effects.specs.Calling.{IsNewName}

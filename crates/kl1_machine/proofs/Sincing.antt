@@ -9,7 +9,7 @@ use Rattle.kl1_goals.specs.declared.task.Task.{Task}
 use Rattle.kl1_goals.specs.declared.goal.Goal.{Goal}
 use Rattle.kl1_goals.specs.Lists.{is_monitor}
 use Rattle.kl1_goals.specs.Rows.{Rowed}
-use Rattle.kl1_user_effects.specs.declared.spelled.Spelled.{Spelled}
+use Rattle.kl1_user_effects.specs.declared.draft.Spelled.{Spelled}
 use Rattle.kl1_user_effects.specs.Settled.{control_at}
 use Rattle.kl1_user_effects.proofs.Goals.{filter_append, filter_in, filter_owned, filter_up_to}
 use Rattle.kl1_machine.specs.declared.machine.Machine.{Machine}

@@ -28,7 +28,7 @@ use Rattle.kl1_shoen.specs.Shoens.{is_enabled_at}
 use Rattle.kl1_codes.specs.Numbered.{Numbered}
 use Rattle.kl1_codes.specs.Finding.{contents}
 use Rattle.kl1_codes.specs.Shelves.{Program}
-use Rattle.kl1_user_effects.specs.declared.spelled.Spelled.{Spelled}
+use Rattle.kl1_user_effects.specs.declared.draft.Spelled.{Spelled}
 use Rattle.kl1_user_effects.specs.Fitting.{Reading, Fits}
 use Rattle.kl1_user_effects.specs.Account.{Means, meaning, task_with, goal_with, aim}
 use Rattle.kl1_user_effects.specs.Settled.{IsEnabled}

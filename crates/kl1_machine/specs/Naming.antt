@@ -23,7 +23,7 @@ use Rattle.kl1_goals_moves.specs.declared.moves.Move.{Move}
 use Rattle.kl1_goals_moves.specs.declared.moves.Move.TheVariants as move
 use Rattle.kl1_goals.specs.declared.goal.Goal.{Goal}
 use Rattle.kl1_codes.specs.Numbered.{Numbered}
-use Rattle.kl1_user_effects.specs.declared.spelled.Spelled.{Spelled}
+use Rattle.kl1_user_effects.specs.declared.draft.Spelled.{Spelled}
 use Rattle.kl1_user_effects.specs.Fitting.{Reading, Fits, built}
 use Rattle.kl1_user_effects.specs.Account.{texts_of, meaning, goal_with, aim}
 use Rattle.kl1_user_effects.specs.Works.{Knows}

@@ -11,8 +11,7 @@ ghost use Rattle.kl1_model.specs.Choice.{first, quiet};
 ghost use Rattle.kl1_codes.specs.Numbered.{ArePlaced};
 ghost use Rattle.kl1_user_effects.specs.Fitting.{Reading, Fits};
 ghost use Rattle.kl1_user_effects.specs.Account.{state_of, texts_of};
-ghost use Rattle.kl1_user_effects.specs.Naming.{Keeps};
-ghost use Rattle.kl1_user_account.specs.Beginning.{IsNameList};
+ghost use Rattle.kl1_user_effects.specs.Naming.{IsNameList, Keeps};
 ghost use Rattle.kl1_user_events.specs.Views.{event_of, is_logout, query_of, reply_of, reduced_or, chosen_of};
 
 use kl1_atoms::AtomSource;

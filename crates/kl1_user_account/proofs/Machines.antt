@@ -128,9 +128,6 @@ pub record IsSame (m b : Machine) : Type 0 where
   pub hooks : b.store.hooks ≡ m.store.hooks
   pub known : b.goals.shoens ≡ m.goals.shoens
 
-pub same_self : (m : Machine) → IsSame m m
-same_self m = record { account = λ x. refl; hooks = refl; known = refl }
-
 pub same_then : (m b c : Machine) → IsSame m b → IsSame b c → IsSame m c
 same_then m b c one two = record { account = λ x. two.account x ∙ one.account x; hooks = two.hooks ∙ one.hooks; known = two.known ∙ one.known }
 
@@ -145,10 +142,6 @@ same_kept x m b s k =
 -- the charged work is counted as before
 pub same_counts : (x : Aside) (m b : Machine) → IsSame m b → CountsWork (length m.shoens.work) x.entries x.run → CountsWork (length b.shoens.work) x.entries x.run
 same_counts x m b s c = subst (λ n. CountsWork n x.entries x.run) (sym (ap (λ (a : Account). length a.work) (s.account x))) c
-
--- all that always holds of an account
-pub same_both : (x : Aside) (m b : Machine) → IsSame m b → IsKept (account_of x m) m.store.hooks m.goals.shoens × CountsWork (length m.shoens.work) x.entries x.run → IsKept (account_of x b) b.store.hooks b.goals.shoens × CountsWork (length b.shoens.work) x.entries x.run
-same_both x m b s k = (same_kept x m b s k.0, same_counts x m b s k.1)
 
 -- a machine that has room for more names is the same
 pub roomed_same : (m b : Machine) → b ≡ record m { names = b.names } → b.names.names ≡ m.names.names → IsSame m b
@@ -208,17 +201,3 @@ begins x m b names same is begun k =
 -- its machine rests by the modules that are lent
 pub begun_rested : (x : Aside) (m b : Machine) (program : Program) → Begins x m b → program ≡ program_in x b → IsRested program b
 begun_rested x m b program g is = rested_by (program_in x b) program b (sym is) (kept_rested x b g.kept)
-
--- what always holds of an account whose machine went back
-pub back_both : (x : Aside) (m b n : Machine) → Begins x m b → IsBack b n → IsKept (account_of x n) n.store.hooks n.goals.shoens × CountsWork (length n.shoens.work) x.entries x.run
-back_both x m b n g i = same_both x b n (back_same b n i) (g.kept, g.counted)
-
--- and it is what it was
-pub back_account : (x : Aside) (m b n : Machine) → Begins x m b → IsBack b n → account_of x n ≡ account_of x m
-back_account x m b n g i = (back_same b n i).account x ∙ g.same.account x
-
--- what always holds of an account whose machine is as when the event began
-pub still_both : (x : Aside) (m b n : Machine) → Begins x m b → n ≡ b → IsKept (account_of x n) n.store.hooks n.goals.shoens × CountsWork (length n.shoens.work) x.entries x.run
-still_both x m b n g is =
-    let P : Machine → Type 0 = λ z. IsKept (account_of x z) z.store.hooks z.goals.shoens × CountsWork (length z.shoens.work) x.entries x.run in
-    subst P (sym is) (g.kept, g.counted)

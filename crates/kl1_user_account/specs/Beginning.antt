@@ -3,7 +3,6 @@ use Rattle.std.specs.Prelude.{ℕ, List, []}
 use Rattle.kl1_model.specs.declared.rules.Rules.{Rules}
 use Rattle.kl1_atoms.specs.declared.known.Known.{Known}
 use Rattle.kl1_store.specs.Held.{nothing_held, with_variable}
-pub use Rattle.kl1_clause.specs.NameList.{IsNameList}
 use Rattle.kl1_user_effects.specs.Account.{Account}
 
 -- an account of this name, which keeps to these rules, in which nothing has happened but that it has used these names, and that `sessions` sessions are open; its store

@@ -19,7 +19,7 @@ pub(crate) struct Counted {
 }
 
 /// Whether `count` and `more` together are at most `most`.
-pub(crate) fn is_within(count: u64, more: u64, most: u64) -> bool
+fn is_within(count: u64, more: u64, most: u64) -> bool
     ensures { result ≡ nat_le (count + more) most }
 {
     count <= most && more <= most - count

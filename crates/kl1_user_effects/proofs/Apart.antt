@@ -45,6 +45,11 @@ pub change_both : (n m : ℕ) (f g : Shoen → Shoen) (s : State) → ((h : Shoe
     change_shoen n f (change_shoen m g s) ≡ change_shoen m g (change_shoen n f s)
 change_both n m f g s e a b = ap (λ (hs : List Shoen). let z : State = record s { shoens = hs } in z) (both_changed n m f g e a b s.shoens)
 
+-- ---- a shoen by its number, after another has ended
+
+if_found : (c d : Bool) (h : Shoen) (o : Option Shoen) (g : Shoen → Shoen) → (if c then Some (if d then over h else h) else option_map g o) ≡ option_map g (if c then Some h else o) → (if c then Some (if d then over h else h) else option_map g o) ≡ option_map g (if c then Some h else o)
+if_found c d h o g e = e
+
 -- a shoen, ended if it has this number
 abbrev ended_if : ℕ → Shoen → Shoen
 ended_if n h = if h.number == n then over h else h

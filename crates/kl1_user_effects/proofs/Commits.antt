@@ -1,7 +1,8 @@
 -- Goals that commit, and goals that go.
-use Rattle.std.proofs.Common.{◌≡◌, ℕ, suc, ◌+◌, ◌-◌, not, ◌&&◌, false, List, [], ◌∷◌, ◌++◌, length, map, refl, sym, ap, ap₂, ◌∙◌, arith}
-use Rattle.std.specs.Prelude.{cond, unwrap_or, nat_le, find, count_by, Option, Some, None, option_map}
-use Rattle.std.proofs.lemmas.List.{map-append}
+use Rattle.std.proofs.Common.{◌≡◌, ℕ, suc, ◌+◌, ◌-◌, ◌<◌, ◌≤◌, not, ◌&&◌, true, false, List, [], ◌∷◌, ◌++◌, length, map, drop, get_or, refl, sym, ap, ap₂, ◌∙◌, subst, arith}
+use Rattle.std.specs.Prelude.{cond, unwrap_or, nat_le, filter, find, count_by, Option, Some, None, option_map}
+use Rattle.std.specs.List.{AllByRecursion}
+use Rattle.std.proofs.lemmas.List.{map-append, append-nil, drop_more, drop_all}
 use Rattle.std.proofs.lemmas.List.Sums.{sum_by-cons}
 use Rattle.kl1_model.specs.Term.{Term}
 use Rattle.kl1_model.specs.Module.{Clause, goals_of}
@@ -11,7 +12,8 @@ use Rattle.kl1_model.specs.Nodes.{goals_nodes}
 use Rattle.kl1_model.specs.State as model
 use Rattle.kl1_model.specs.State.{State, limits_of, shoen_at}
 use Rattle.kl1_model.specs.code.Steps.{clipped, priority_of}
-use Rattle.kl1_model.specs.Reduction.{goals_from, has_room_for, committed}
+use Rattle.kl1_model.specs.Reduction.{goals_from, has_room_for, commits, or_exhaustion, committed, raised, moved}
+use Rattle.kl1_model.specs.Report.{exhaustion}
 use Rattle.kl1_text.specs.declared.cell_name.CellName.{CellName}
 use Rattle.kl1_store.specs.declared.qualified.Qualified.{Qualified}
 use Rattle.kl1_store.specs.Held.{Held}
@@ -20,21 +22,37 @@ use Rattle.kl1_store.specs.Sound.{Grown}
 use Rattle.kl1_goals.specs.declared.task.Task.{Task}
 use Rattle.kl1_goals.specs.declared.task.Task.TheVariants.{Monitor, Reduces, Substitutes}
 use Rattle.kl1_goals.specs.declared.goal.Goal.{Goal}
-use Rattle.kl1_goals.specs.Lists.{is_monitor, is_monitor_task}
+use Rattle.kl1_goals.specs.Lists.{is_other, is_monitor, is_monitor_task}
 use Rattle.kl1_shoen_paths.specs.declared.shoen.Shoen.{Shoen}
-use Rattle.kl1_shoen.specs.Shoens.{has_number}
+use Rattle.kl1_shoen.specs.Shoens.{Tree, has_number}
+use Rattle.kl1_clause.specs.declared.predicate.Predicate.{Predicate}
+use Rattle.kl1_match.specs.declared.place.Place.{Place}
+use Rattle.kl1_goals_moves.specs.Moves.{IsCandidate}
 use Rattle.kl1_goals_moves.specs.Bodies.{IsBody}
 use Rattle.kl1_codes.specs.Numbered.{Numbered}
-use Rattle.kl1_user_effects.specs.Fitting.{Reading}
+use Rattle.kl1_user_effects.specs.declared.draft.Draft.{Draft}
+use Rattle.kl1_text.specs.Reading.{Reads}
+use Rattle.kl1_user_effects.specs.Fitting.{Reading, built}
 use Rattle.kl1_user_effects.specs.Account.{Means, meaning, task_with, goal_with, shoen_with, aim}
 use Rattle.kl1_user_effects.specs.Kept.{AreGoalsIn, IsOwned, AreOwned}
-use Rattle.kl1_user_effects.specs.Drafts.{goals_for}
-use Rattle.kl1_user_effects.specs.Moving.{priorities_by}
+use Rattle.kl1_user_effects.specs.Drafts.{goals_left, goals_for, made_of, DraftsAll, HasBegun}
+use Rattle.kl1_user_effects.specs.Moving.{priorities_by, Commits}
 use Rattle.kl1_user_effects.specs.Works.{Made, worked, IsMadeIn, Knows, Turns}
 use Rattle.kl1_user_effects.proofs.Aims.{aim_is}
 use Rattle.kl1_user_effects.proofs.States.{Agree, same_goals, same_shoens}
-use Rattle.kl1_user_effects.proofs.Works.{finds, grown_made}
+use Rattle.kl1_user_effects.proofs.Works.{finds, turns_as, grown_made}
 use Rattle.kl1_user_effects.proofs.Goals.{goals_in_append, owned_append, count_read}
+use Rattle.kl1_user_effects.proofs.Joining.{early_left, left_more}
+
+-- ---- a goal that goes
+
+-- the goals of an account without one
+pub left_of : (d : Draft) (goals : List (Goal CellName)) (n : ℕ) → HasBegun d → d.removed ≡ n → d.added.items ≡ [] → goals_left (goals ++ d.added.items) d ≡ filter (is_other n) goals
+left_of d goals n b r none =
+    ap (λ (ks : List (Goal CellName)). goals_left (goals ++ ks) d) none
+    ∙ ap (λ (gs : List (Goal CellName)). goals_left gs d) (append-nil goals)
+    ∙ early_left d goals b
+    ∙ ap (λ m. filter (is_other m) goals) r
 
 -- ---- the goals of a body
 
@@ -54,6 +72,11 @@ pub goals_for_owned : (count last shoen : ℕ) (ps : List ℕ) (xs : List (Quali
 goals_for_owned count last shoen ps [] o = tt
 goals_for_owned count last shoen [] (x ∷ xs) o = tt
 goals_for_owned count last shoen (p ∷ ps) (x ∷ xs) o = (record { low = o.low; high = o.high }, goals_for_owned count (suc last) shoen ps xs o)
+
+pub goals_for_above : (n last shoen : ℕ) (ps : List ℕ) (xs : List (Qualified CellName)) → n ≤ last → AllByRecursion (λ g. n < g.number) (goals_for last shoen ps xs)
+goals_for_above n last shoen ps [] le = tt
+goals_for_above n last shoen [] (x ∷ xs) le = tt
+goals_for_above n last shoen (p ∷ ps) (x ∷ xs) le = (omega arith, goals_for_above n (suc last) shoen ps xs (omega arith))
 
 one_clipped : (t : Means) (h : Shoen CellName) (own : ℕ) (p : Option ℕ) → priority_of (Some (shoen_with t h)) own p ≡ unwrap_or (option_map (clipped h.low h.high) p) own
 one_clipped t h own None = refl
@@ -149,3 +172,69 @@ room_read f s h w clause alive goals fresh nodes a b c d =
     ∙ ap (λ n. nat_le (alive + n) most.goals && nat_le (w.variables + fresh_variables clause) most.variables && nat_le (w.nodes + goals_nodes (goals_of clause.body)) most.nodes) (sym b)
     ∙ ap (λ n. nat_le (alive + goals) most.goals && nat_le (w.variables + n) most.variables && nat_le (w.nodes + goals_nodes (goals_of clause.body)) most.nodes) (sym c)
     ∙ ap (λ n. nat_le (alive + goals) most.goals && nat_le (w.variables + fresh) most.variables && nat_le (w.nodes + n) most.nodes) (sym d)
+
+-- ---- drafts
+
+-- a draft whose goal finds no room for the body
+pub drafts_exhausted : (p : Predicate CellName) (place : ℕ) (places : List (Place CellName)) (goal : Goal CellName) (x : Qualified CellName) (goals : List (Goal CellName)) (h k : Held CellName) (t u : Tree CellName) (d e : Draft) (alive count fresh nodes : ℕ) →
+    alive ≡ count_by (λ g. not (is_monitor g)) (goals_left (goals ++ d.added.items) d) →
+    ((f : Reading) (c : Candidate) → IsCandidate f h p place places c → (count ≡ length c.clause.body) × ((fresh ≡ fresh_variables c.clause) × (nodes ≡ goals_nodes (goals_of c.clause.body)))) →
+    (nat_le (alive + count) (limits_of d.rules).goals && nat_le (d.variables + fresh) (limits_of d.rules).variables && nat_le (d.nodes + nodes) (limits_of d.rules).nodes) ≡ false →
+    DraftsAll (λ f. raised (goal_with (meaning f h) goal) exhaustion (aim f h x)) h k t u d e → Commits p place places goal x goals h k t u d e
+drafts_exhausted p place places goal x goals h k t u d e alive count fresh nodes there needs full raises ms c candidate names i =
+    let w = made_of goals names t d in
+    turns_as ms (λ f. raised (goal_with (meaning f h) goal) exhaustion (aim f h x)) (λ f. moved (goal_with (meaning f h) goal) (aim f h x) (commits (c f))) h k w (made_of goals names u e)
+    (λ f knows s.
+    let n = needs f (c f) (candidate f knows) in
+    let S = worked f s h w in
+    ap (λ b. or_exhaustion b (goal_with (meaning f h) goal) (aim f h x) (committed (goal_with (meaning f h) goal) (c f) S) S) (room_read f s h w (c f).clause alive count fresh nodes there n.0 n.1.0 n.1.1 ∙ full))
+    (raises ms goals names i)
+
+-- a draft whose goal has committed
+pub drafts_committed : (p : Predicate CellName) (place : ℕ) (places : List (Place CellName)) (goal : Goal CellName) (x : Qualified CellName) (goals : List (Goal CellName)) (h k : Held CellName) (t : Tree CellName) (d e : Draft) (alive count fresh nodes : ℕ) (sh : Shoen CellName) (ps : List (Option ℕ)) (cells : List (Qualified CellName)) →
+    HasBegun d → Grown h k → alive ≡ count_by (λ g. not (is_monitor g)) (goals_left (goals ++ d.added.items) d) →
+    ((f : Reading) (c : Candidate) → IsCandidate f h p place places c → (count ≡ length c.clause.body) × ((fresh ≡ fresh_variables c.clause) × (nodes ≡ goals_nodes (goals_of c.clause.body)))) →
+    (nat_le (alive + count) (limits_of d.rules).goals && nat_le (d.variables + fresh) (limits_of d.rules).variables && nat_le (d.nodes + nodes) (limits_of d.rules).nodes) ≡ true →
+    find (has_number goal.shoen) t.shoens ≡ Some sh → sh.number ≡ goal.shoen → IsOwned (length t.shoens) goal → AreQualifiedIn k cells →
+    ((f : Reading) (c : Candidate) → IsCandidate f h p place places c → ps ≡ body_priorities c.clause) →
+    ((f : Reading) → Reads built f → (c : Candidate) → IsCandidate f h p place places c → IsBody f c h k cells) →
+    e.added.items ≡ d.added.items ++ goals_for d.last_goal sh.number (priorities_by (Some sh) goal.priority ps) cells → e.last_goal ≡ d.last_goal + length cells → e.variables ≡ d.variables + fresh → e.nodes ≡ d.nodes + nodes →
+    e ≡ record d { added = e.added; last_goal = e.last_goal; variables = e.variables; nodes = e.nodes; cells = e.cells } → Commits p place places goal x goals h k t t d e
+drafts_committed p place places goal x goals h k t d e alive count fresh nodes sh ps cells b g there needs room found number own inside priorities body added last variables structures is ms c candidate names i =
+    let w = made_of goals names t d in
+    let le = b.removed in
+    let qs = priorities_by (Some sh) goal.priority ps in
+    let more = goals_for d.last_goal goal.shoen qs cells in
+    let T : Made → Type 0 = λ m. Turns ms (λ f. committed (goal_with (meaning f h) goal) (c f)) h k w m in
+    let same : with_body w goal.shoen qs cells fresh nodes ≡ made_of goals names t e =
+    ap (λ (gs : List (Goal CellName)). let z : Made = record w { goals = gs; last_goal = d.last_goal + length cells; variables = d.variables + fresh; nodes = d.nodes + nodes } in z) (sym (left_more d goals d.added.items more b (goals_for_above d.removed d.last_goal goal.shoen qs cells le)))
+    ∙ ap (λ n. let z : Made = record w { goals = goals_left (goals ++ (d.added.items ++ goals_for d.last_goal n qs cells)) d; last_goal = d.last_goal + length cells; variables = d.variables + fresh; nodes = d.nodes + nodes } in z) (sym number)
+    ∙ ap (λ (gs : List (Goal CellName)). let z : Made = record w { goals = goals_left (goals ++ gs) d; last_goal = d.last_goal + length cells; variables = d.variables + fresh; nodes = d.nodes + nodes } in z) (sym added)
+    ∙ ap (λ n. let z : Made = record w { goals = goals_left (goals ++ e.added.items) d; last_goal = n; variables = d.variables + fresh; nodes = d.nodes + nodes } in z) (sym last)
+    ∙ ap (λ n. let z : Made = record w { goals = goals_left (goals ++ e.added.items) d; last_goal = e.last_goal; variables = n; nodes = d.nodes + nodes } in z) (sym variables)
+    ∙ ap (λ n. let z : Made = record w { goals = goals_left (goals ++ e.added.items) d; last_goal = e.last_goal; variables = e.variables; nodes = n } in z) (sym structures)
+    ∙ ap (made_of goals names t) (sym is) in
+    turns_as ms (λ f. committed (goal_with (meaning f h) goal) (c f)) (λ f. moved (goal_with (meaning f h) goal) (aim f h x) (commits (c f))) h k w (made_of goals names t e)
+    (λ f knows s.
+    let n = needs f (c f) (candidate f knows) in
+    let S = worked f s h w in
+    ap (λ y. or_exhaustion y (goal_with (meaning f h) goal) (aim f h x) (committed (goal_with (meaning f h) goal) (c f) S) S) (room_read f s h w (c f).clause alive count fresh nodes there n.0 n.1.0 n.1.1 ∙ room))
+    (subst T same
+    (commit_turns ms h k w goal (Some sh) ps fresh nodes cells c i g found own inside (λ f knows. priorities f (c f) (candidate f knows)) (λ f knows. (needs f (c f) (candidate f knows)).1.0) (λ f knows. (needs f (c f) (candidate f knows)).1.1)
+    (λ f knows. body f knows.reads (c f) (candidate f knows))))
+
+-- goals for the cells that are left come after those so far
+pub one_added : (last shoen : ℕ) (o : Option (Shoen CellName)) (own i : ℕ) (d : Option ℕ) (x : Qualified CellName) (ps : List (Option ℕ)) (xs : List (Qualified CellName)) (sh : Shoen CellName) → i < length ps → i < length xs →
+    goals_for last shoen (priorities_by (Some sh) own (drop i ps)) (drop i xs)
+    ≡ record { number = suc last; task = Reduces (get_or xs i x); shoen = shoen; priority = unwrap_or (option_map (clipped sh.low sh.high) (get_or ps i d)) own; standing = None; is_enabled = false } ∷ goals_for (suc last) shoen (priorities_by (Some sh) own (drop (i + 1) ps)) (drop (i + 1) xs)
+one_added last shoen o own i d x ps xs sh a b =
+    ap (λ (qs : List (Option ℕ)). goals_for last shoen (priorities_by (Some sh) own qs) (drop i xs)) (drop_more ps i d a)
+    ∙ ap (λ (ys : List (Qualified CellName)). goals_for last shoen (priorities_by (Some sh) own (get_or ps i d ∷ drop (i + 1) ps)) ys) (drop_more xs i x b)
+
+nothing_for : (last shoen : ℕ) (ys : List (Qualified CellName)) → goals_for last shoen [] ys ≡ []
+nothing_for last shoen [] = refl
+nothing_for last shoen (y ∷ ys) = refl
+
+-- if there is no priority more there is no goal more
+pub none_added : (last shoen i own : ℕ) (sh : Shoen CellName) (ps : List (Option ℕ)) (ys : List (Qualified CellName)) → length ps ≤ i → goals_for last shoen (priorities_by (Some sh) own (drop i ps)) ys ≡ []
+none_added last shoen i own sh ps ys le = ap (λ (qs : List (Option ℕ)). goals_for last shoen (priorities_by (Some sh) own qs) ys) (drop_all i ps le) ∙ nothing_for last shoen ys

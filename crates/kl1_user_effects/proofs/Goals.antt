@@ -14,7 +14,7 @@ use Rattle.kl1_goals.specs.Lists.{is_monitor_task, is_monitor_of, is_goal_of, is
 use Rattle.kl1_user_effects.specs.Fitting.{Reading}
 use Rattle.kl1_user_effects.specs.Account.{Means, task_with, goal_with}
 use Rattle.kl1_user_effects.specs.Kept.{AreGoalsIn, AreOwned, AreUpTo}
-use Rattle.kl1_user_effects.specs.Drafts.{is_of_any}
+use Rattle.kl1_user_effects.specs.Drafts.{is_of_any, without_monitors, staying}
 
 tests_same : (n : ℕ) (t : Means) (k : Task CellName) (b : Bool) → (b && model.is_monitor (task_with t k)) ≡ (b && is_monitor_task k)
 tests_same n t Monitor b = refl
@@ -113,10 +113,44 @@ filter_append p (g ∷ gs) ks = kept (p g) (filter_append p gs ks)
     kept true e = ap (λ (xs : List (Goal CellName)). g ∷ xs) e
     kept false e = e
 
+pub any_append : (p : Goal CellName → Bool) (gs ks : List (Goal CellName)) → list_any p (gs ++ ks) ≡ (list_any p gs || list_any p ks)
+any_append p [] ks = refl
+any_append p (g ∷ gs) ks = ap (λ b. p g || b) (any_append p gs ks) ∙ regroup (p g) (list_any p gs) (list_any p ks)
+  where
+    regroup : (a b c : Bool) → (a || (b || c)) ≡ ((a || b) || c)
+    regroup true b c = refl
+    regroup false b c = refl
+
+pub any_left : (p : Goal CellName → Bool) (gs ks : List (Goal CellName)) → list_any p gs ≡ true → list_any p (gs ++ ks) ≡ true
+any_left p gs ks e = any_append p gs ks ∙ ap (λ b. b || list_any p ks) e
+
+-- ---- goals that stay
+
+-- without one monitor more
+pub one_more : (ns : List ℕ) (n : ℕ) (gs : List (Goal CellName)) → without_monitors (ns ++ n ∷ []) gs ≡ filter (no_monitor n) (without_monitors ns gs)
+one_more [] n gs = refl
+one_more (m ∷ ns) n gs = one_more ns n (filter (λ g. not (is_monitor_of m g)) gs)
+
 -- if no shoen was aborted each goal stays
 pub all_stay : (gs : List (Goal CellName)) → filter (λ g. not (is_of_any [] g)) gs ≡ gs
 all_stay [] = refl
 all_stay (g ∷ gs) = ap (λ (xs : List (Goal CellName)). g ∷ xs) (all_stay gs)
+
+pub without_in : (h : Held CellName) (ns : List ℕ) (gs : List (Goal CellName)) → AreGoalsIn h gs → AreGoalsIn h (without_monitors ns gs)
+without_in h [] gs i = i
+without_in h (n ∷ ns) gs i = without_in h ns (filter (λ g. not (is_monitor_of n g)) gs) (filter_in h (λ g. not (is_monitor_of n g)) gs i)
+
+pub without_owned : (count : ℕ) (ns : List ℕ) (gs : List (Goal CellName)) → AreOwned count gs → AreOwned count (without_monitors ns gs)
+without_owned count [] gs i = i
+without_owned count (n ∷ ns) gs i = without_owned count ns (filter (λ g. not (is_monitor_of n g)) gs) (filter_owned count (λ g. not (is_monitor_of n g)) gs i)
+
+pub staying_in : (h : Held CellName) (removed : ℕ) (aborted : List ℕ) (ended : List ℕ) (gs : List (Goal CellName)) → AreGoalsIn h gs → AreGoalsIn h (staying removed aborted ended gs)
+staying_in h removed aborted ended gs i =
+    without_in h ended (filter (λ g. not (is_of_any aborted g)) (filter (is_other removed) gs)) (filter_in h (λ g. not (is_of_any aborted g)) (filter (is_other removed) gs) (filter_in h (is_other removed) gs i))
+
+pub staying_owned : (count removed : ℕ) (aborted : List ℕ) (ended : List ℕ) (gs : List (Goal CellName)) → AreOwned count gs → AreOwned count (staying removed aborted ended gs)
+staying_owned count removed aborted ended gs i =
+    without_owned count ended (filter (λ g. not (is_of_any aborted g)) (filter (is_other removed) gs)) (filter_owned count (λ g. not (is_of_any aborted g)) (filter (is_other removed) gs) (filter_owned count (is_other removed) gs i))
 
 -- goals of which some are of shoens that were aborted, as they are read
 pub below_read : (t : Means) (p : ℕ → Bool) (aborted : List ℕ) (gs : List (Goal CellName)) → AllByRecursion (λ g. p g.shoen ≡ is_of_any aborted g) gs → filter (λ g. not (p g.shoen)) (map (goal_with t) gs) ≡ map (goal_with t) (filter (λ g. not (is_of_any aborted g)) gs)

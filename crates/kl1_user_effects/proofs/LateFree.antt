@@ -10,12 +10,13 @@ use Rattle.kl1_store.specs.declared.cell.Cell.TheVariants.{Variable, Integer, At
 use Rattle.kl1_store.specs.Held.{Held, IsIn, is_bound, found}
 use Rattle.kl1_store.specs.Sound.{IsFormed, Grown, IsBoundTo}
 use Rattle.kl1_store.proofs.Walking.{found_itself, bound_at}
+use Rattle.kl1_atoms.specs.Knowing.{no_names}
 use Rattle.kl1_store.proofs.Terms.{term_of-unbound}
 use Rattle.kl1_stream.specs.Reports.{HasSent, ClosedAs, EndsAt}
 use Rattle.kl1_stream.proofs.Tails.{BreaksOff, off_is}
 use Rattle.kl1_shoen_paths.specs.declared.shoen.Shoen.{Shoen}
 use Rattle.kl1_shoen.specs.Shoens.{has_number, changed}
-use Rattle.kl1_user_effects.specs.Fitting.{Reading, built}
+use Rattle.kl1_user_effects.specs.Fitting.{Reading, built, reading_of, reading_fits}
 use Rattle.kl1_user_effects.specs.Account.{meaning, shoen_with}
 use Rattle.kl1_user_effects.specs.Late.{is_variable, is_tail_of, IsNoTail, StaysFree, KeepsFree}
 use Rattle.kl1_user_effects.proofs.Works.{torn}
@@ -148,3 +149,10 @@ unbound_by h f v formed inside e = by_case (found v h.bindings) refl
     by_case (Integer i) is = let b = bound (Integer i) is (λ q. absurd (cc)) in absurd (off_none h f v (Integer i) tt formed b.inside (b.means f ∙ e))
     by_case (Atom a) is = let b = bound (Atom a) is (λ q. absurd (cc)) in absurd (off_none h f v (Atom a) tt formed b.inside (b.means f ∙ e))
     by_case (Structure s) is = let b = bound (Structure s) is (λ q. absurd (cc)) in absurd (off_none h f v (Structure s) tt formed b.inside (b.means f ∙ e))
+
+-- a variable that stays free of meaning anything else stays unbound
+pub free_unbound : (v : ℕ) (h k : Held CellName) → StaysFree v h k → IsFormed k → v < k.variables → is_bound v h.bindings ≡ false → is_bound v k.bindings ≡ false
+free_unbound v h k free formed inside unbound =
+    let f = reading_of [] in
+    let fits = reading_fits [] no_names in
+    unbound_by k f v formed inside (free f fits.reads (term_of-unbound f h v unbound))

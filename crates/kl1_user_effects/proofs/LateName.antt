@@ -8,7 +8,7 @@ use Rattle.kl1_model.specs.Module.{is_among}
 use Rattle.kl1_model.specs.Term.{Term, variable, integer, atom, structure, Terms, none, more, occurs, replace, replace_each}
 use Rattle.kl1_model.specs.Meaning.{nil, cell}
 use Rattle.kl1_model.specs.State.{Task, monitor, reduces, substitutes, Goal, Origin, Shoen, State, shoen_at, replace_in_task, replace_in_goal, replace_in_origin, replace_in_shoen, replace_in_state, change_shoen, is_monitor, is_living}
-use Rattle.kl1_model.specs.Tree.{parents_of, path_within, path, is_living_child}
+use Rattle.kl1_model.specs.Tree.{parents_of, path_within, path, charge, is_living_child}
 use Rattle.kl1_model.specs.Report.{broken_at, has_made_last, report_tail, reported_on, reported_at, report, report_each, closed_at, close, exhausted_report, terminated_report}
 use Rattle.kl1_model.specs.code.Steps.{report_of, close_of}
 use Rattle.kl1_model.specs.Ending.{has_goal, has_living_child, lives, ends_now, without_monitor, ended_at, ending_of, has_reached, newly_exhausted, after_reduction}
@@ -262,6 +262,10 @@ unmonitored n v t (g ∷ gs) =
 -- a monitor goes before a variable is replaced or after that
 pub monitor_replaced : (n v : ℕ) (t : Term) (s : State) → without_monitor n (replace_in_state v t s) ≡ replace_in_state v t (without_monitor n s)
 monitor_replaced n v t s = ap (λ (gs : List Goal). let z : State = record (replace_in_state v t s) { goals = gs } in z) (unmonitored n v t s.goals)
+
+-- a charge is made before a variable is replaced or after that
+pub charge_replaced : (n v : ℕ) (t : Term) (s : State) → charge n (replace_in_state v t s) ≡ replace_in_state v t (charge n s)
+charge_replaced n v t s = refl
 
 parents_replaced : (v : ℕ) (t : Term) (hs : List Shoen) → parents_of (map (replace_in_shoen v t) hs) ≡ parents_of hs
 parents_replaced v t [] = refl

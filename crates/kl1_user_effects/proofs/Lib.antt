@@ -14,12 +14,16 @@ pub mod ModuleNames
 pub mod Wholes
 pub mod Apart
 pub mod Walking
+pub mod Finishing
 pub mod TreesIn
 pub mod Effects
 pub mod Below
 pub mod Ends
 pub mod Joining
 pub mod Calling
+pub mod Moved
+pub mod Coming
+pub mod Counts
 pub mod Arriving
 pub mod LateName
 pub mod LateDrafts

@@ -9,11 +9,37 @@ use Rattle.kl1_store.specs.declared.cell.Cell.{Cell}
 use Rattle.kl1_store.specs.declared.cell.Cell.TheVariants.{Variable}
 use Rattle.kl1_shoen_paths.specs.declared.shoen.Shoen.{Shoen}
 use Rattle.kl1_shoen.specs.Shoens.{Tree, has_number, changed, AreNumbered, is_on_path_in, aborted_below_in}
+use Rattle.kl1_user_effects.specs.Frames.{KeepsFrames, KeepsLives, Stays}
 use Rattle.kl1_user_effects.specs.Outlines.{outline, KeepsOutlines, KeepsOthers}
-use Rattle.kl1_user_effects.proofs.Frames.{found_stays}
+use Rattle.kl1_user_effects.proofs.Frames.{keeps_same, keeps_then, keeps_changed, found_stays}
+
+-- what stays of shoens that have frames
+pub frames_outlines : (n : ℕ) (xs ys : List (Shoen CellName)) → KeepsFrames xs ys → KeepsOutlines n xs ys
+frames_outlines n [] ys p = tt
+frames_outlines n (x ∷ xs) [] p = absurd p
+frames_outlines n (x ∷ xs) (y ∷ ys) p = (ap (outline n) p.0, frames_outlines n xs ys p.1)
+
+pub lives_outlines : (n : ℕ) (xs ys : List (Shoen CellName)) → KeepsLives xs ys → KeepsOutlines n xs ys
+lives_outlines n [] ys p = tt
+lives_outlines n (x ∷ xs) [] p = absurd p
+lives_outlines n (x ∷ xs) (y ∷ ys) p = (ap (outline n) p.0, lives_outlines n xs ys p.1)
+
+pub outlines_same : (n : ℕ) (ss : List (Shoen CellName)) → KeepsOutlines n ss ss
+outlines_same n ss = keeps_same (outline n) ss
+
+-- one after another
+pub outlines_then : (n : ℕ) (t u v : Tree CellName) → KeepsOutlines n t.shoens u.shoens → KeepsOutlines n u.shoens v.shoens → KeepsOutlines n t.shoens v.shoens
+outlines_then n t u v p q = keeps_then (outline n) t.shoens u.shoens v.shoens p q
+
+-- and a change after which reports came
+pub outlines_told : (n : ℕ) (t u v : Tree CellName) → KeepsOutlines n t.shoens u.shoens → Stays u v → KeepsOutlines n t.shoens v.shoens
+outlines_told n t u v p q = keeps_then (outline n) t.shoens u.shoens v.shoens p (lives_outlines n u.shoens v.shoens q.shoens)
 
 pub outlines_in : (n : ℕ) (t u : Tree CellName) (ss : List (Shoen CellName)) → u ≡ record t { shoens = ss } → KeepsOutlines n t.shoens ss → KeepsOutlines n t.shoens u.shoens
 outlines_in n t u ss is p = let P : List (Shoen CellName) → Type 0 = λ xs. KeepsOutlines n t.shoens xs in subst P (sym (ap (λ (x : Tree CellName). x.shoens) is)) p
+
+pub outlines_changed : (n m : ℕ) (t u : Tree CellName) (g : Shoen CellName → Shoen CellName) → ((h : Shoen CellName) → outline n (g h) ≡ outline n h) → u ≡ record t { shoens = changed m g t.shoens } → KeepsOutlines n t.shoens u.shoens
+outlines_changed n m t u g e is = outlines_in n t u (changed m g t.shoens) is (keeps_changed (outline n) g m t.shoens e)
 
 -- a shoen of the number with another control stream
 controlled_one : (n : ℕ) (x : Cell CellName) (h : Shoen CellName) (b : Bool) → has_number n h ≡ b → outline n (if b then record h { control = x } else h) ≡ outline n h

@@ -1,6 +1,6 @@
 -- Reports, the end of a stream, exceptions and unifications.
-use Rattle.std.proofs.Common.{◌≡◌, ℕ, ◌-◌, true, false, if◌then◌else◌, Bool, List, refl, sym, ap, ◌∙◌, subst}
-use Rattle.std.specs.Prelude.{find, Some}
+use Rattle.std.proofs.Common.{◌≡◌, ℕ, suc, ◌-◌, true, false, if◌then◌else◌, Bool, List, refl, sym, ap, ◌∙◌, subst}
+use Rattle.std.specs.Prelude.{find, Some, None}
 use Rattle.kl1_model.specs.declared.built_in.BuiltIn.{BuiltIn}
 use Rattle.kl1_model.specs.Text.{text_of}
 use Rattle.kl1_model.specs.Term.{Term, variable, integer, atom, structure, replace}
@@ -19,17 +19,55 @@ use Rattle.kl1_store.specs.declared.unified.Unified.TheVariants.{Bound, Clash}
 use Rattle.kl1_store.specs.Held.{Held, IsIn}
 use Rattle.kl1_store.specs.Sound.{Grown}
 use Rattle.kl1_store.specs.Unification.{UnifiesAs}
-use Rattle.kl1_stream.specs.Reports.{EndsAt, ClosedAs}
+use Rattle.kl1_stream.specs.declared.told.Told.TheVariants.{Dropped, Broken, Sent}
+use Rattle.kl1_stream.specs.Reports.{ToldAs, EndsAt, ClosedAs}
 use Rattle.kl1_stream.specs.Exceptions.{IsException}
 use Rattle.kl1_goals.specs.declared.goal.Goal.{Goal}
 use Rattle.kl1_shoen_paths.specs.declared.shoen.Shoen.{Shoen}
-use Rattle.kl1_shoen.specs.Shoens.{has_number}
+use Rattle.kl1_shoen.specs.Shoens.{Tree, has_number, changed}
 use Rattle.kl1_codes.specs.Numbered.{Numbered}
+use Rattle.kl1_user_effects.specs.declared.draft.Draft.{Draft}
 use Rattle.kl1_user_effects.specs.Fitting.{Reading, built}
 use Rattle.kl1_user_effects.specs.Account.{meaning, goal_with, aim}
+use Rattle.kl1_user_effects.specs.Drafts.{made_of, DraftsAll}
 use Rattle.kl1_user_effects.specs.Works.{Made, worked, IsMadeIn, Turns}
 use Rattle.kl1_user_effects.proofs.States.{replaced_state, all_replaced}
-use Rattle.kl1_user_effects.proofs.Works.{base, read_as, finds, rereads, turns_then, turns_as, grown_made}
+use Rattle.kl1_user_effects.proofs.Works.{base, read_as, finds, rereads, turns_then, turns_as, turns_none, grown_made, torn, tailed, last_made, report_turns, no_report_turns}
+
+-- ---- reports
+
+-- a report that was dropped
+pub drafts_dropped : (h k : Held CellName) (t : Tree CellName) (d : Draft) (n : ℕ) (sh : Shoen CellName) (m : Cell CellName) → Grown h k → find (has_number n) t.shoens ≡ Some sh → ToldAs built h k sh.tail sh.is_broken (last_made d.rules d.reports) m Dropped →
+    DraftsAll (λ f. report n (meaning f h m)) h k t t d d
+drafts_dropped h k t d n sh m g e told ms goals names i = report_turns ms h k (made_of goals names t d) n sh m Dropped g i e told
+
+-- a report on which the stream broke
+pub drafts_broken : (h k : Held CellName) (t u : Tree CellName) (d : Draft) (n : ℕ) (sh : Shoen CellName) (m : Cell CellName) → Grown h k → find (has_number n) t.shoens ≡ Some sh → ToldAs built h k sh.tail sh.is_broken (last_made d.rules d.reports) m Broken →
+    u.shoens ≡ changed n torn t.shoens → u.work ≡ t.work → DraftsAll (λ f. report n (meaning f h m)) h k t u d d
+drafts_broken h k t u d n sh m g e told is same ms goals names i =
+    let T : Made → Type 0 = λ w. Turns ms (λ f. report n (meaning f h m)) h k (made_of goals names t d) w in
+    subst T (retree (made_of goals names t d) u (changed n torn t.shoens) is same) (report_turns ms h k (made_of goals names t d) n sh m Broken g i e told)
+  where
+    retree : (w : Made) (u : Tree CellName) (ss : List (Shoen CellName)) → u.shoens ≡ ss → u.work ≡ w.work → record w { shoens = ss } ≡ record w { shoens = u.shoens; work = u.work }
+    retree w u ss a b =
+        ap (λ (x : List (Shoen CellName)). let z : Made = record w { shoens = x } in z) (sym a)
+        ∙ ap (λ (x : List ℕ). let z : Made = record w { shoens = u.shoens; work = x } in z) (sym b)
+
+-- a report that was made
+pub drafts_sent : (h k : Held CellName) (t u : Tree CellName) (d : Draft) (n next : ℕ) (sh : Shoen CellName) (m : Cell CellName) → Grown h k → find (has_number n) t.shoens ≡ Some sh → ToldAs built h k sh.tail sh.is_broken (last_made d.rules d.reports) m (Sent next) →
+    u.shoens ≡ changed n (tailed next) t.shoens → u.work ≡ t.work → DraftsAll (λ f. report n (meaning f h m)) h k t u d (record d { reports = suc d.reports })
+drafts_sent h k t u d n next sh m g e told is same ms goals names i =
+    let T : Made → Type 0 = λ w. Turns ms (λ f. report n (meaning f h m)) h k (made_of goals names t d) w in
+    subst T (retree (record (made_of goals names t d) { reports = suc d.reports }) u (changed n (tailed next) t.shoens) is same) (report_turns ms h k (made_of goals names t d) n sh m (Sent next) g i e told)
+  where
+    retree : (w : Made) (u : Tree CellName) (ss : List (Shoen CellName)) → u.shoens ≡ ss → u.work ≡ w.work → record w { shoens = ss } ≡ record w { shoens = u.shoens; work = u.work }
+    retree w u ss a b =
+        ap (λ (x : List (Shoen CellName)). let z : Made = record w { shoens = x } in z) (sym a)
+        ∙ ap (λ (x : List ℕ). let z : Made = record w { shoens = u.shoens; work = x } in z) (sym b)
+
+-- a report of a shoen that isn't there
+pub drafts_unheard : (h : Held CellName) (t : Tree CellName) (d : Draft) (n : ℕ) (m : Cell CellName) → find (has_number n) t.shoens ≡ None → DraftsAll (λ f. report n (meaning f h m)) h h t t d d
+drafts_unheard h t d n m e ms goals names i = no_report_turns ms h (made_of goals names t d) n m i e
 
 -- ---- the end of a stream
 
@@ -54,6 +92,12 @@ closed_turns ms h k w n sh g i e c = record {
       ap (λ o. close_of o (worked f s h w)) (finds s (meaning f h) (h.variables - 1) w n (Some sh) e)
       ∙ closes_by f h k s w sh.tail sh.is_broken knows.reads i c.variables c.broken (λ q. c.whole q f knows.reads);
 }
+
+-- the end of the stream of a shoen that isn't there
+pub drafts_unclosed : (h : Held CellName) (t : Tree CellName) (d : Draft) (n : ℕ) → find (has_number n) t.shoens ≡ None → DraftsAll (λ f. close n) h h t t d d
+drafts_unclosed h t d n e ms goals names i =
+    let w = made_of goals names t d in
+    turns_none ms (λ f. close n) h w i (λ f knows s. ap (λ o. close_of o (worked f s h w)) (finds s (meaning f h) (h.variables - 1) w n None e))
 
 -- ---- exceptions
 

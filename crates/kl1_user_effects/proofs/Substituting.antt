@@ -1,9 +1,11 @@
 -- Exceptions: with a report alone, and with a substitute in the place of the goal.
-use Rattle.std.proofs.Common.{◌≡◌, ℕ, suc, ◌+◌, ◌-◌, ◌<◌, ◌≤◌, ◌==◌, not, ◌&&◌, ◌||◌, Bool, true, false, if◌then◌else◌, List, [], ◌∷◌, ◌++◌, length, take, refl, sym, ap, ◌∙◌, subst, arith}
+use Rattle.std.proofs.Common.{◌≡◌, ℕ, suc, ◌+◌, ◌-◌, ◌<◌, ◌≤◌, ◌==◌, not, ◌&&◌, ◌||◌, Bool, true, false, if◌then◌else◌, List, [], ◌∷◌, ◌++◌, length, map, take, refl, sym, ap, ◌∙◌, subst, arith}
 use Rattle.std.specs.Prelude.{find, Option, Some, None, is_some, option_map}
 use Rattle.std.proofs.lemmas.Bool.{ne_eqb}
 use Rattle.std.proofs.lemmas.List.{map-append, take_all}
 use Rattle.kl1_model.specs.declared.built_in.BuiltIn.{BuiltIn}
+use Rattle.kl1_model.specs.declared.limits.TheConstants.{MONITOR_PRIORITY}
+use Rattle.kl1_model.specs.Text.{text_of}
 use Rattle.kl1_model.specs.Term.{Term, variable, integer, atom, structure, occurs}
 use Rattle.kl1_model.specs.State as model
 use Rattle.kl1_model.specs.State.{State, has_substitutes}
@@ -16,28 +18,37 @@ use Rattle.kl1_store.specs.declared.qualified.Qualified.{Qualified}
 use Rattle.kl1_store.specs.declared.cell.Cell.{Cell}
 use Rattle.kl1_store.specs.declared.cell.Cell.TheVariants.{Variable, Integer, Atom, Structure}
 use Rattle.kl1_store.specs.declared.binding.Binding.{Binding}
+use Rattle.kl1_store.specs.declared.point.Point.{Point}
 use Rattle.kl1_store.specs.Held.{Shape, Held, IsIn, is_bound, with_variable}
-use Rattle.kl1_store.specs.Hooks.{Kept, HasGrown}
+use Rattle.kl1_store.specs.Hooks.{Kept, point_of, HasGrown}
 use Rattle.kl1_store.specs.Sound.{Bound, IsFormed, Grown}
 use Rattle.kl1_store.proofs.Terms.{term_of-variable, term_of-unbound}
 use Rattle.kl1_store.proofs.Grows.{Grown-variable, Grown-trans}
 use Rattle.kl1_stream.specs.Exceptions.{IsExceptionWith}
 use Rattle.kl1_goals.specs.declared.task.Task.{Task}
+use Rattle.kl1_goals.specs.declared.task.Task.TheVariants.{Substitutes}
 use Rattle.kl1_goals.specs.declared.goal.Goal.{Goal}
+use Rattle.kl1_goals.specs.Lists.{is_monitor_task}
 use Rattle.kl1_shoen_paths.specs.declared.shoen.Shoen.{Shoen}
-use Rattle.kl1_shoen.specs.Shoens.{has_number}
+use Rattle.kl1_shoen.specs.Shoens.{Tree, has_number}
 use Rattle.kl1_codes.specs.Numbered.{Numbered}
+use Rattle.kl1_user_effects.specs.declared.draft.Draft.{Draft}
 use Rattle.kl1_user_effects.specs.Fitting.{Reading, built}
 use Rattle.kl1_user_effects.specs.Account.{meaning, aim, task_with, goal_with, shoen_with}
 use Rattle.kl1_user_effects.specs.Wholes.{IsWhole}
 use Rattle.kl1_user_effects.specs.Kept.{IsTaskIn, IsOwned, AreShoensIn}
-use Rattle.kl1_user_effects.specs.Drafts.{one_for}
+use Rattle.kl1_user_effects.specs.Drafts.{goals_left, made_of, DraftsAll, HasBegun, one_for}
 use Rattle.kl1_user_effects.specs.Late.{is_variable, is_tail_of, IsNoTail, KeepsFree}
+use Rattle.kl1_user_effects.specs.Reports.{IsTold, IsDropped}
+use Rattle.kl1_user_effects.specs.Leaving.{Comes, AreMet}
 use Rattle.kl1_user_effects.specs.Works.{Made, worked, IsMadeIn, Knows, Turns}
-use Rattle.kl1_user_effects.proofs.States.{Agree, found_shoen_in}
-use Rattle.kl1_user_effects.proofs.Works.{turns_then, turns_as}
+use Rattle.kl1_user_effects.proofs.States.{Agree, found_in, found_shoen_in}
+use Rattle.kl1_user_effects.proofs.Works.{read_as, rereads, grown_made, last_made, turns_then, turns_as}
 use Rattle.kl1_user_effects.proofs.Goals.{goals_in_append, owned_append}
+use Rattle.kl1_user_effects.proofs.Joining.{left_more}
+use Rattle.kl1_user_effects.proofs.Arriving.{comes_none, met_none, comes_one, met_one}
 use Rattle.kl1_user_effects.proofs.LateFree.{off_none, no_higher}
+use Rattle.kl1_user_effects.proofs.Reported.{dropped_is, unmade_turns}
 use Rattle.kl1_user_effects.proofs.Streams.{grown_turns}
 
 -- ---- a goal in the place of one that goes
@@ -62,6 +73,22 @@ replaced_turns ms h w goal task i j own =
           let S = worked f s h w in
           ap (λ (gs : List model.Goal). let z : State = record S { goals = gs; last_goal = suc w.last_goal } in z) (sym (map-append (goal_with t) w.goals one));
     }
+
+-- a draft with a goal of another task in the place of one
+pub drafts_replaced : (h : Held CellName) (t : Tree CellName) (d e : Draft) (goal : Goal CellName) (task : Task CellName) → HasBegun d → IsTaskIn h task → IsOwned (length t.shoens) goal →
+    e.added.items ≡ d.added.items ++ one_for d.last_goal goal task → e.last_goal ≡ suc d.last_goal → e ≡ record d { added = e.added; last_goal = e.last_goal } →
+    DraftsAll (λ f. replaced_by (goal_with (meaning f h) goal) (task_with (meaning f h) task)) h h t t d e
+drafts_replaced h t d e goal task b j own added last is ms goals names i =
+    let w = made_of goals names t d in
+    let one = one_for d.last_goal goal task in
+    let le = b.removed in
+    let T : Made → Type 0 = λ m. Turns ms (λ f. replaced_by (goal_with (meaning f h) goal) (task_with (meaning f h) task)) h h w m in
+    let same : with_one w goal task ≡ made_of goals names t e =
+    ap (λ (gs : List (Goal CellName)). let z : Made = record w { goals = gs; last_goal = suc d.last_goal } in z) (sym (left_more d goals d.added.items one b (omega arith, tt)))
+    ∙ ap (λ (gs : List (Goal CellName)). let z : Made = record w { goals = goals_left (goals ++ gs) d; last_goal = suc d.last_goal } in z) (sym added)
+    ∙ ap (λ n. let z : Made = record w { goals = goals_left (goals ++ e.added.items) d; last_goal = n } in z) (sym last)
+    ∙ ap (made_of goals names t) (sym is) in
+    subst T same (replaced_turns ms h w goal task i j own)
 
 -- ---- a message with a new variable
 
@@ -179,6 +206,12 @@ next_grown h next v fresh = let P : Held CellName → Type 0 = λ y. Grown h y i
 asked_agree : (h mid : Held CellName) (kind : BuiltIn) (term message : Cell CellName) → IsAsked h mid kind term message → (f : Reading) → Agree h (meaning f mid) (meaning f h)
 asked_agree h mid kind term message a f x i = a.asks.others f x (in_next h x i) ∙ term_of-variable f h x
 
+asked_means : (h mid : Held CellName) (kind : BuiltIn) (term message : Cell CellName) → IsAsked h mid kind term message → (f : Reading) → Reads built f → meaning f mid message ≡ exception_with (text_of kind) (meaning f h term) (variable h.variables)
+asked_means h mid kind term message a f reads =
+    a.asks.means f reads
+    ∙ ap (λ (t : Term). exception_with (text_of kind) t (meaning f (with_variable h) (Variable h.variables))) (term_of-variable f h term)
+    ∙ ap (λ (t : Term). exception_with (text_of kind) (meaning f h term) t) (new_means f h a.formed)
+
 pub asked_grown : (h mid : Held CellName) (kind : BuiltIn) (term message : Cell CellName) → IsAsked h mid kind term message → Grown h mid
 asked_grown h mid kind term message a = Grown-trans h (with_variable h) mid (Grown-variable h) a.grown
 
@@ -196,6 +229,25 @@ new_stays h mid k kind term message ss n a i free f reads =
     let more : mid.variables ≡ h.variables + 1 = a.asks.variables in
     free h.variables (omega (arith, more)) (new_no_tail h mid ss n a.formed i (asked_agree h mid kind term message a)) f reads
     (a.asks.others f (Variable h.variables) (omega arith) ∙ new_means f h a.formed)
+
+-- whether the exception is reported is told of the exception without the variable
+pub told_here : (h mid k : Held CellName) (kind : BuiltIn) (term message : Cell CellName) (t : Tree CellName) (d : Draft) (n : ℕ) (made : Bool) → IsAsked h mid kind term message → AreShoensIn h t.shoens → IsTold n message mid k t.shoens d made →
+    (f : Reading) → Reads built f → (s : State) (goals : List (Goal CellName)) (names : List (List ℕ)) → is_reported n (exception (text_of kind) (meaning f h term)) (worked f s h (made_of goals names t d)) ≡ made
+told_here h mid k kind term message t d n made a i told f reads s goals names =
+    let E = exception (text_of kind) (meaning f h term) in
+    let M = exception_with (text_of kind) (meaning f h term) (variable h.variables) in
+    let last = last_made d.rules d.reports in
+    ap (λ (p : Option model.Shoen). is_reported_of p E last) (found_in (meaning f h) n t.shoens)
+    ∙ reported_here f h mid t.shoens n last (text_of kind) (meaning f h term) a.formed i (asked_agree h mid kind term message a f)
+    ∙ ap (λ (p : Option model.Shoen). is_reported_of p M last) (sym (found_in (meaning f mid) n t.shoens))
+    ∙ ap (λ (m : Term). is_reported_of (model.shoen_at n (map (shoen_with (meaning f mid)) t.shoens)) m last) (sym (asked_means h mid kind term message a f reads))
+    ∙ sym (told.is f reads s goals)
+
+-- ---- drafts after reports
+
+-- a draft that has begun still has after a report
+pub told_begun : (d e : Draft) → e ≡ record d { reports = e.reports } → HasBegun d → HasBegun e
+told_begun d e is b = let P : Draft → Type 0 = λ x. HasBegun x in subst P (sym is) (record { aborted = b.aborted; ended = b.ended; removed = b.removed })
 
 -- ---- exceptions by the rules
 
@@ -224,9 +276,101 @@ unreported_turns ms h k w v goal kind x two unmade t =
     ∙ ap (λ b. if b then substituted_by G kind T S else report goal.shoen (exception kind T) S) (unmade f knows s))
     t
 
+-- a store with one variable more
+new_turns : (ms : List Numbered) (h : Held CellName) (w : Made) → IsMadeIn h w → Turns ms (λ f s. record s { last_variable = suc s.last_variable }) h (with_variable h) w w
+new_turns ms h w i = record {
+  inside = grown_made h (with_variable h) w (Grown-variable h) i;
+  states = λ f knows s.
+      let some = i.some in
+      let last : suc (h.variables - 1) ≡ (h.variables + 1) - 1 = omega arith in
+      rereads s (meaning f h) (meaning f (with_variable h)) (suc (h.variables - 1)) h w (λ x j. sym (term_of-variable f h x)) i
+      ∙ ap (λ n. read_as s (meaning f (with_variable h)) n w) last;
+}
+
+-- what becomes of a state whose goal gets a substitute for this term, with this message and this last variable
+abbrev substituted_at : Goal CellName → State → ℕ → Term → Term → State
+substituted_at goal s new message awaited =
+    record (report goal.shoen message (record s { last_variable = new })) {
+      goals = (report goal.shoen message (record s { last_variable = new })).goals ++ record { number = suc (report goal.shoen message (record s { last_variable = new })).last_goal; task = model.substitutes awaited; shoen = goal.shoen; priority = goal.priority } ∷ [];
+      last_goal = suc (report goal.shoen message (record s { last_variable = new })).last_goal;
+    }
+
+substituted_state : (f : Reading) (h mid k : Held CellName) (w : Made) (goal : Goal CellName) (kind : BuiltIn) (term message : Cell CellName) (s : State) → has_substitutes w.rules ≡ true → 0 < h.variables → is_reported goal.shoen (exception (text_of kind) (meaning f h term)) (worked f s h w) ≡ true →
+    meaning f mid message ≡ exception_with (text_of kind) (meaning f h term) (variable h.variables) → meaning f k (Variable h.variables) ≡ variable h.variables →
+    raised (goal_with (meaning f h) goal) (text_of kind) (meaning f h term) (worked f s h w) ≡ substituted_at goal (worked f s h w) (suc (h.variables - 1)) (meaning f mid message) (meaning f k (Variable h.variables))
+substituted_state f h mid k w goal kind term message s two some reported means stays =
+    let S = worked f s h w in
+    let G = goal_with (meaning f h) goal in
+    let K = text_of kind in
+    let T = meaning f h term in
+    let new : suc (h.variables - 1) ≡ h.variables = omega arith in
+    ap (λ b. if b && is_reported goal.shoen (exception K T) S then substituted_by G K T S else report goal.shoen (exception K T) S) two
+    ∙ ap (λ b. if b then substituted_by G K T S else report goal.shoen (exception K T) S) reported
+    ∙ ap (λ v. substituted_at goal S (suc (h.variables - 1)) (exception_with K T (variable v)) (variable v)) new
+    ∙ ap (λ (m : Term). substituted_at goal S (suc (h.variables - 1)) m (variable h.variables)) (sym means)
+    ∙ ap (λ (x : Term). substituted_at goal S (suc (h.variables - 1)) (meaning f mid message) x) (sym stays)
+
+-- an exception that is reported with a new variable, for which a substitute waits in the place of the goal
+pub drafts_substituted : (h mid k : Held CellName) (t u : Tree CellName) (d e x : Draft) (goal : Goal CellName) (kind : BuiltIn) (term message : Cell CellName) → has_substitutes d.rules ≡ true → IsAsked h mid kind term message → AreShoensIn h t.shoens →
+    IsTold goal.shoen message mid k t.shoens d true → KeepsFree goal.shoen t.shoens mid k → DraftsAll (λ f. report goal.shoen (meaning f mid message)) mid k t u d e → DraftsAll (λ f. replaced_by (goal_with (meaning f k) goal) (task_with (meaning f k) (Substitutes (Variable h.variables)))) k k u u e x →
+    DraftsAll (λ f. raised (goal_with (meaning f h) goal) (text_of kind) (meaning f h term)) h k t u d x
+drafts_substituted h mid k t u d e x goal kind term message two a shoens told free reporting replacing ms goals names i =
+    let w = made_of goals names t d in
+    let v = made_of goals names u e in
+    let z = made_of goals names u x in
+    let new : Reading → State → State = λ f s. record s { last_variable = suc s.last_variable } in
+    let tells : Reading → State → State = λ f. report goal.shoen (meaning f mid message) in
+    let stands : Reading → State → State = λ f. replaced_by (goal_with (meaning f k) goal) (task_with (meaning f k) (Substitutes (Variable h.variables))) in
+    let first = new_turns ms h w i in
+    let second = grown_turns ms (with_variable h) mid w a.grown a.asks.variables a.asks.others first.inside in
+    let both = turns_then ms new (λ f s. s) h (with_variable h) mid w w w first second in
+    let third = reporting ms goals names both.inside in
+    let so_far = turns_then ms new tells h mid k w w v both third in
+    let all = turns_then ms (λ f s. tells f (new f s)) stands h k k w v z so_far (replacing ms goals names third.inside) in
+    turns_as ms (λ f s. stands f (tells f (new f s))) (λ f. raised (goal_with (meaning f h) goal) (text_of kind) (meaning f h term)) h k w z
+    (λ f knows s. substituted_state f h mid k w goal kind term message s two i.some (told_here h mid k kind term message t d goal.shoen true a shoens told f knows.reads s goals names) (asked_means h mid kind term message a f knows.reads)
+    (new_stays h mid k kind term message t.shoens goal.shoen a shoens free f knows.reads))
+    all
+
+-- with what the code has for the substitute: a goal with the variable's number
+pub drafts_asked : (h mid k : Held CellName) (t u : Tree CellName) (d e x : Draft) (goal : Goal CellName) (kind : BuiltIn) (term message : Cell CellName) (v : ℕ) (made : Bool) → has_substitutes d.rules ≡ true → HasBegun d → IsOwned (length t.shoens) goal → IsAsked h mid kind term message → AreShoensIn h t.shoens → v ≡ h.variables →
+    made ≡ true → IsTold goal.shoen message mid k t.shoens d made → KeepsFree goal.shoen t.shoens mid k → DraftsAll (λ f. report goal.shoen (meaning f mid message)) mid k t u d e → Grown mid k → length u.shoens ≡ length t.shoens → e ≡ record d { reports = e.reports } →
+    x.added.items ≡ e.added.items ++ one_for e.last_goal goal (Substitutes (Variable v)) → x.last_goal ≡ suc e.last_goal → x ≡ record e { added = x.added; last_goal = x.last_goal } →
+    DraftsAll (λ f. raised (goal_with (meaning f h) goal) (text_of kind) (meaning f h term)) h k t u d x
+drafts_asked h mid k t u d e x goal kind term message v made two begun own a shoens number so told free reporting g count first added last is =
+    let N : ℕ → Type 0 = λ n. x.added.items ≡ e.added.items ++ one_for e.last_goal goal (Substitutes (Variable n)) in
+    let T : Bool → Type 0 = λ b. IsTold goal.shoen message mid k t.shoens d b in
+    let O : ℕ → Type 0 = λ n. IsOwned n goal in
+    drafts_substituted h mid k t u d e x goal kind term message two a shoens (subst T so told) free reporting
+    (drafts_replaced k u e x goal (Substitutes (Variable h.variables)) (told_begun d e first begun) (new_in h mid k kind term message a g) (subst O (sym count) own) (subst N number added) last is)
+
+-- going back to a mark from before the new variable, after a report that wasn't made, leaves the store as it was, and what a report
+-- without the variable leaves of the rest
+pub drafts_unsubstituted : (h mid k : Held CellName) (t u : Tree CellName) (d e : Draft) (goal : Goal CellName) (kind : BuiltIn) (term message : Cell CellName) → has_substitutes d.rules ≡ true → IsAsked h mid kind term message → AreShoensIn h t.shoens →
+    IsTold goal.shoen message mid k t.shoens d false → IsDropped goal.shoen t u d e → DraftsAll (λ f. raised (goal_with (meaning f h) goal) (text_of kind) (meaning f h term)) h h t u d e
+drafts_unsubstituted h mid k t u d e goal kind term message two a shoens told dropped ms goals names i =
+    let w = made_of goals names t d in
+    let unmade : (f : Reading) → Knows ms f → (s : State) → is_reported goal.shoen (exception (text_of kind) (meaning f h term)) (worked f s h w) ≡ false =
+    λ f knows s. told_here h mid k kind term message t d goal.shoen false a shoens told f knows.reads s goals names in
+    let T : Made → Type 0 = λ m. Turns ms (λ f. report goal.shoen (exception (text_of kind) (meaning f h term))) h h w m in
+    unreported_turns ms h h w (made_of goals names u e) goal (text_of kind) term two unmade
+    (subst T (dropped_is goals names t u d e goal.shoen dropped) (unmade_turns ms h w goal.shoen (λ f. exception (text_of kind) (meaning f h term)) i unmade))
+
 -- a store that has only grown, by no hook, still has all that it had
 pub has_grown : (old new : Kept CellName) → Grown old.held new.held → new.hooks ≡ old.hooks → HasGrown old new
 has_grown old new grown hooks = record { held = grown; hooks = ap (take (length old.hooks)) hooks ∙ take_all (length old.hooks) old.hooks (omega arith) }
+
+-- so it can go back to its mark
+pub can_go_back : (old new : Kept CellName) (mark : Point) → mark ≡ point_of old → IsFormed old.held → Grown old.held new.held → new.hooks ≡ old.hooks → (k : Kept CellName) × ((mark ≡ point_of k) × (IsFormed k.held × HasGrown k new))
+can_go_back old new mark is formed grown hooks = (old, (is, (formed, has_grown old new grown hooks)))
+
+-- and is then as it was
+pub went_back : (old new back : Kept CellName) (mark : Point) → ((k : Kept CellName) → mark ≡ point_of k → HasGrown k new → back.held ≡ k.held) → mark ≡ point_of old → Grown old.held new.held → new.hooks ≡ old.hooks → back.held ≡ old.held
+went_back old new back mark held is grown hooks = held old is (has_grown old new grown hooks)
+
+-- a store after a new variable, and after what has come since
+pub grown_since : (h next mid k : Held CellName) (v : ℕ) → (v ≡ h.variables) × (next ≡ with_variable h) → Grown next mid → Grown mid k → Grown h k
+grown_since h next mid k v fresh g more = Grown-trans h mid k (Grown-trans h next mid (next_grown h next v fresh) g) more
 
 -- ---- goals that were made whole
 
@@ -238,3 +382,31 @@ whole_turns ms h mid k w v goal kind cell x g e i next =
     turns_as ms (λ f. raised (goal_with (meaning f mid) goal) kind (meaning f mid x)) (λ f. raised (goal_with (meaning f h) goal) kind (aim f h cell)) h k w v
     (λ f knows s. ap (λ t. raised (goal_with (meaning f h) goal) kind t (worked f s h w)) (sym (e.means f knows.reads)))
     (turns_then ms (λ f s. s) (λ f. raised (goal_with (meaning f mid) goal) kind (meaning f mid x)) h mid k w w v first (next first.inside))
+
+-- ---- what comes
+
+-- after a report alone none comes
+pub comes_told : (k : Held CellName) (n count : ℕ) (d e : Draft) → e ≡ record d { reports = e.reports } → d.added.items ≡ [] → Comes k n count d e
+comes_told k n count d e is none = let last : e.last_goal ≡ d.last_goal = ap (λ (x : Draft). x.last_goal) is in comes_none k n count d e (ap (λ (x : Draft). x.added.items) is ∙ none) (omega (arith, last))
+
+pub met_told : (d e : Draft) → e ≡ record d { reports = e.reports } → d.added.items ≡ [] → AreMet e.added.items
+met_told d e is none = met_none e (ap (λ (x : Draft). x.added.items) is ∙ none)
+
+-- a substitute comes in the place of a goal, after a report
+pub comes_substitute : (k : Held CellName) (n count : ℕ) (d e x : Draft) (g : Goal CellName) (task : Task CellName) → HasBegun d → e ≡ record d { reports = e.reports } → x ≡ record e { added = x.added; last_goal = x.last_goal } → d.added.items ≡ [] → count ≡ n →
+    x.added.items ≡ e.added.items ++ one_for e.last_goal g task → x.last_goal ≡ suc e.last_goal → IsOwned n g → g.priority ≤ MONITOR_PRIORITY → is_monitor_task task ≡ false → IsTaskIn k task → Comes k n count d x
+comes_substitute k n count d e x g task begun first second none same added last own level other inside =
+    let low = own.low in
+    let high = own.high in
+    let last_is : e.last_goal ≡ d.last_goal = ap (λ (y : Draft). y.last_goal) first in
+    let is : x.added.items ≡ one_for d.last_goal g task = added ∙ ap (λ (gs : List (Goal CellName)). gs ++ one_for e.last_goal g task) (ap (λ (y : Draft). y.added.items) first ∙ none) ∙ ap (λ m. one_for m g task) last_is in
+    comes_one k n count d x g task begun (ap (λ (y : Draft). y.removed) second ∙ ap (λ (y : Draft). y.removed) first) (ap (λ (y : Draft). y.aborted.items) second ∙ ap (λ (y : Draft). y.aborted.items) first)
+    (ap (λ (y : Draft). y.ended.items) second ∙ ap (λ (y : Draft). y.ended.items) first) is (last ∙ ap suc last_is) low (omega (arith, high, same)) level other inside
+
+pub met_substitute : (d e x : Draft) (g : Goal CellName) (task : Task CellName) → e ≡ record d { reports = e.reports } → d.added.items ≡ [] → x.added.items ≡ e.added.items ++ one_for e.last_goal g task → is_monitor_task task ≡ false → AreMet x.added.items
+met_substitute d e x g task first none added other =
+    met_one x e.last_goal g task (added ∙ ap (λ (gs : List (Goal CellName)). gs ++ one_for e.last_goal g task) (ap (λ (y : Draft). y.added.items) first ∙ none)) other
+
+-- after a report alone nothing else is another
+pub told_rest : (d e : Draft) → e ≡ record d { reports = e.reports } → e ≡ record d { reports = e.reports; added = e.added; last_goal = e.last_goal }
+told_rest d e is = is ∙ sym (ap (λ (y : Draft). let z : Draft = record d { reports = e.reports; added = y.added; last_goal = y.last_goal } in z) is)

@@ -5,16 +5,22 @@ use Rattle.kl1_model.specs.Text.{is_text}
 use Rattle.kl1_model.specs.Term.{atom}
 use Rattle.kl1_model.specs.Unify.{mgu}
 use Rattle.kl1_model.specs.State.{with_name}
-use Rattle.kl1_model.specs.Reduction.{equation}
+use Rattle.kl1_model.specs.Reduction.{or_exhaustion, equation}
+use Rattle.kl1_model.specs.code.Steps.{named_by}
 use Rattle.kl1_text.specs.declared.cell_name.CellName.{CellName}
 use Rattle.kl1_atoms.specs.declared.known.Known.{Known}
 use Rattle.kl1_atoms.specs.Names.{number_by}
 use Rattle.kl1_store.specs.declared.cell.Cell.{Cell}
+use Rattle.kl1_store.specs.declared.qualified.Qualified.{Qualified}
 use Rattle.kl1_store.specs.Held.{Held}
+use Rattle.kl1_goals.specs.declared.goal.Goal.{Goal}
+use Rattle.kl1_shoen.specs.Shoens.{Tree}
 use Rattle.kl1_codes.specs.Numbered.{Numbered}
+use Rattle.kl1_user_effects.specs.declared.draft.Draft.{Draft}
 use Rattle.kl1_user_effects.specs.Fitting.{Reading}
-use Rattle.kl1_user_effects.specs.Account.{texts_of, meaning}
+use Rattle.kl1_user_effects.specs.Account.{texts_of, meaning, goal_with, aim}
 use Rattle.kl1_user_effects.specs.Works.{Knows}
+use Rattle.kl1_user_effects.specs.Drafts.{Drafts}
 
 -- the first spare number, which stands for a name whose number isn't known yet
 abbrev pub spare : CellName
@@ -44,3 +50,10 @@ ReadsKnown f h known text a (Some n) = f (record { number = n }) ≡ text
 -- each reading that knows these modules does, by the number by which an account with these names knows the text
 abbrev pub ReadsName : List Numbered → Held CellName → List Known → List ℕ → Cell CellName → Type 0
 ReadsName ms h known text a = (f : Reading) → Knows ms f → ReadsKnown f h known text a (number_by known text)
+
+-- a goal, which is this cell and has been removed, has used a text as a name and unified a term with it, or has raised an exception if
+-- that would be a name too many; the account uses these names
+abbrev pub NamesTerm : Goal CellName → List ℕ → List Known → Cell CellName → Qualified CellName → Held CellName → Held CellName → Tree CellName → Tree CellName → Draft → Draft → Type 0
+NamesTerm g text known a x old new t u before after =
+    (ms : List Numbered) → ReadsName ms old known text a → (goals : List (Goal CellName)) →
+    Drafts ms (λ f s. or_exhaustion (nat_le (length (with_name s.names text)) MOST_NAMES) (goal_with (meaning f old) g) (aim f old x) (named_by (goal_with (meaning f old) g) (aim f old x) text (meaning f old a) s) s) old new goals (texts_of known) t u before after

@@ -15,4 +15,5 @@ pub mod Wholes
 pub mod Late
 pub mod Frames
 pub mod Outlines
+pub mod Leaving
 pub mod Reports

@@ -4,6 +4,7 @@ use Rattle.std.specs.List.{AllByRecursion}
 use Rattle.kl1_text.specs.declared.cell_name.CellName.{CellName}
 use Rattle.kl1_atoms.specs.declared.known.Known.{Known}
 use Rattle.kl1_atoms.specs.Names.{number_by, PublishesWithin}
+pub use Rattle.kl1_clause.specs.NameList.{IsNameList}
 use Rattle.kl1_user_effects.specs.Fitting.{Reading, Fits}
 
 -- names with their numbers, in order of first use, and how many more there is room for

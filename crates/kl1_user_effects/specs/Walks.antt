@@ -1,6 +1,6 @@
 -- Which shoens of a path terminate and which have just reached their allowance, by the lists that an account keeps.
-use Rattle.std.specs.Prelude.{◌≡◌, ℕ, not, ◌&&◌, Bool, if◌then◌else◌, List, [], ◌∷◌, ◌++◌, filter}
-use Rattle.std.specs.List.{list_any}
+use Rattle.std.specs.Prelude.{◌≡◌, ℕ, not, ◌&&◌, Bool, false, if◌then◌else◌, List, [], ◌∷◌, ◌++◌, filter}
+use Rattle.std.specs.List.{list_any, AllByRecursion}
 use Rattle.kl1_model.specs.declared.life.Life.TheVariants.{Terminated}
 use Rattle.kl1_model.specs.Module.{is_among}
 use Rattle.kl1_text.specs.declared.cell_name.CellName.{CellName}
@@ -40,3 +40,7 @@ pub record EndsLives (goals : List (Goal CellName)) (old new : Tree CellName) (n
 pub record EndsOne (goals : List (Goal CellName)) (old new : Tree CellName) (n : ℕ) (before after : List ℕ) : Type 0 where
   pub ending_is : after ≡ before ++ (if ends_in goals old.shoens n then n ∷ [] else [])
   pub tree_is : new ≡ (if ends_in goals old.shoens n then record old { shoens = changed n terminated old.shoens } else old)
+
+-- none of these shoens has one of these goals other than its monitor
+abbrev pub HaveNoGoals : List ℕ → List (Goal CellName) → Type 0
+HaveNoGoals ns goals = AllByRecursion (λ n. list_any (is_goal_of n) goals ≡ false) ns

@@ -1,10 +1,24 @@
-//! What the parts of an account mean: states by readings of its numbers, changes of states, and names with their numbers.
+//! What goals and messages do to an account, drafted.
 #![tactic(auto)]
 
-mod last;
+mod children;
+mod committing;
+mod draft;
+mod late;
+mod moving;
 mod names;
-mod spelled;
+mod naming;
+mod obeying;
+mod reporting;
+mod settling;
 
-pub use last::last_of;
-pub use names::{AccountNames, draft_row, has_room, publish};
-pub use spelled::Spelled;
+pub use children::{open_child, open_shoen};
+pub use committing::{commit, last_of};
+pub use draft::{Change, Draft, Spelled};
+pub use late::{late_law, settle_late};
+pub use moving::do_move;
+pub use names::{AccountNames, draft_row, publish};
+pub use naming::{has_room, name_term};
+pub use obeying::{hear, obey};
+pub use reporting::{close, raise, raise_whole, report, report_each, report_name, unify};
+pub use settling::{Walk, after_reduction, end_lives, find_reached, settle};

@@ -7,7 +7,6 @@ ghost use Rattle.kl1_atoms.specs.Names.{number_by, added, AreNames};
 ghost use Rattle.kl1_clause.specs.NameList.{with_texts, IsNameList};
 ghost use Rattle.kl1_user_effects.specs.Account.{texts_of};
 ghost use Rattle.kl1_user_effects.specs.Fitting.{Reading, Fits};
-ghost use Rattle.kl1_user_effects.specs.Calling.{keeps_names};
 ghost use Rattle.kl1_user_effects.specs.Naming.{AreSmall, ReadsDraft, AreNumbersOf, Keeps};
 
 use indexmap::IndexMap;
@@ -121,16 +120,6 @@ impl AccountNames {
             }
         }
         count
-    }
-}
-
-/// Whether an account with these names may use a text as a name: one that is used or built in is no name more.
-pub fn has_room(names: &AccountNames, text: &AtomText) -> bool
-    ensures { result ≡ keeps_names names.now.names text.now }
-{
-    match names.number_of(text) {
-        Some(_) => names.len() <= MOST_NAMES,
-        None => names.len() < MOST_NAMES,
     }
 }
 

@@ -8,8 +8,8 @@ ghost use Rattle.kl1_model.specs.Step.{step};
 ghost use Rattle.kl1_store.specs.Held.{nothing_held, with_variable};
 ghost use Rattle.kl1_user_effects.specs.Account.{state_of};
 ghost use Rattle.kl1_user_effects.specs.Fitting.{Reading, Fits};
-ghost use Rattle.kl1_user_effects.specs.Naming.{AreSmall, Keeps};
-ghost use Rattle.kl1_user_account.specs.Beginning.{IsNameList, begun};
+ghost use Rattle.kl1_user_effects.specs.Naming.{AreSmall, IsNameList, Keeps};
+ghost use Rattle.kl1_user_account.specs.Beginning.{begun};
 
 use crate::account::Account;
 use crate::account_name::AccountName;

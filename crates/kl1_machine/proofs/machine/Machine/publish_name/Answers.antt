@@ -2,7 +2,7 @@ use Rattle.std.proofs.Common.{refl, sym, subst, arith}
 use Rattle.std.specs.Prelude.{List, Option}
 use Rattle.kl1_atoms.specs.declared.known.Known.{Known}
 use Rattle.kl1_atoms.specs.Names.{HasRoom}
-use Rattle.kl1_user_effects.specs.declared.spelled.Spelled.{Spelled}
+use Rattle.kl1_user_effects.specs.declared.draft.Spelled.{Spelled}
 use Rattle.kl1_user_effects.proofs.Publishing.{keeps_same, keeps_more, adds_to}
 use Rattle.kl1_machine.specs.Naming.{IsBoundLast}
 use Rattle.kl1_machine.proofs.Publishing.{new_name, room_for_name, named_one, published_none, published_alone, published_at}

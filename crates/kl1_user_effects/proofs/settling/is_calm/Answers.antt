@@ -1,0 +1,12 @@
+use Rattle.std.proofs.Common.{not, sym, ap, ◌∙◌, arith}
+use Rattle.kl1_user_effects.proofs.Ends.{kept_alone, unreached_alone}
+use Rattle.kl1_user_effects.proofs.settling.is_calm.Goals as goal
+
+pub returns-clause-lives : goal.returns-clause-lives
+returns-clause-lives c = λ has.
+    kept_alone c.args.draft.now c.args.number c.reached_step-step.result.up c.args.goals.now.goals c.args.shoens.now.shoens c.reached_step-step.ensures.path (omega (arith, c.if-step-ne0.false))
+    (sym c.has_goal.ensures ∙ has)
+
+pub returns-clause-unreached : goal.returns-clause-unreached
+returns-clause-unreached c = λ ending has.
+    unreached_alone c.args.shoens.now.shoens c.args.shoens.now.work ending c.args.number c.reached_step-step.result.up c.reached_step-step.result.holds c.reached_step-step.ensures.path (omega (arith, c.if-step-ne0.false)) c.reached_step-step.ensures.reached (ap not c.if-step.false)
