@@ -6,7 +6,6 @@ pub mod Tabling
 pub mod Flagging
 pub mod Linking
 pub mod Chaining
-pub mod Rowing
-pub mod Looking
+pub mod Restoring
 pub mod Walking
 pub mod Capping

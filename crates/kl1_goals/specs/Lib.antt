@@ -5,4 +5,3 @@ pub mod Slots
 pub mod Tallies
 pub mod Chains
 pub mod Keeping
-pub mod Rows

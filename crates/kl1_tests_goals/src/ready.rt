@@ -1,5 +1,6 @@
 // Checks of the queue of places and the table of goals.
 
+mod back;
 mod checks;
 mod goals;
 mod queue;

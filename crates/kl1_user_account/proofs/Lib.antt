@@ -7,7 +7,6 @@ pub mod Choosing
 pub mod StartLines
 pub mod PrintLengths
 pub mod Begun
-pub mod NamesOnce
 pub mod StartChecks
 pub mod StartSteps
 pub mod Statuses
@@ -27,5 +26,4 @@ mod Messages
 mod Bringing
 mod Loaded
 mod Started
-mod Answered
-pub mod NameRows
+pub mod Words

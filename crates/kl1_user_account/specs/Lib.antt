@@ -8,3 +8,4 @@ pub mod Beginning
 pub mod Answering
 pub mod Viewed
 pub mod NameRows
+pub mod Bringing

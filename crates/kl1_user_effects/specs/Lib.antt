@@ -16,3 +16,5 @@ pub mod Late
 pub mod Frames
 pub mod Outlines
 pub mod Reports
+pub mod Exchanging
+pub mod Messages

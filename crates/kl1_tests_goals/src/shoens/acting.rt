@@ -63,7 +63,8 @@ fn charge(tree: &mut ShoenTree<AtomNo>, number: u64) -> Result<(), AllocError>
     if tree.len() < number {
         return Err(AllocError);
     }
-    tree.charge(number)
+    tree.charge(number)?;
+    Ok(())
 }
 
 /// Changes a shoen, by an act that does so.

@@ -1,0 +1,6 @@
+mod Serving
+pub mod Ready
+pub mod SettledStays
+mod Numbers
+pub mod Plans
+pub mod Words

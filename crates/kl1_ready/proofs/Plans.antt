@@ -1,0 +1,141 @@
+-- What goals are to do: moves that are found are those of the definitions.
+use Rattle.kl1_ready.proofs.Words.{◌≡◌, ℕ, ◌==◌, if◌then◌else◌, Bool, true, false, List, [], length, get_or, refl, sym, ap, ◌∙◌, arith, subst, Option, Some, None, MatchOption, option_map, eq-eqb, ne_eqb, MatchOption-at_some, slice_get-get_or, text_of, Term, Module, goal_look, Rules, reads, moves, read_action, task_action, substitute_move, monitor_action, move_by, Reads, CellName, AreNames, are_names, Cell, Variable, Qualified, Held, IsIn, arguments_of, Control, Awaits, Tells, TellsOther, Ends, BreaksOff, control_as, Predicate, AreSome, Place, Move, ExecuteArguments, order_at, IsOrder, IsMove, MoveIn, move_by_clause, substitute_move_of, SubstituteMoves, Monitor, Reduces, Substitutes, Goal, is_monitor, Shoen, shoen_in, contents, Program, Reading, built, reading_of, reading_fits, meaning, task_with, shoen_with, aim, whole, worked, Made, Knows, found_in, Plan, PlannedMove, Serves, CanDo, ReadsBy, MovesBy, IsPlan, DoesNothing, is_read, move_or_go}
+use Rattle.kl1_model.specs.Control as model_control
+use Rattle.kl1_model.specs.State as model
+use Rattle.kl1_model.specs.Reduction as reduction
+use Rattle.kl1_goals_moves.specs.declared.moves.Move.TheVariants as made
+use Rattle.kl1_ready.specs.declared.planning.Plan.TheVariants as plan
+
+-- ---- what a monitor can do
+
+-- what the monitor of a shoen does, if there is one
+pub monitor_does : (program : Program) (h : Held CellName) (w : Made) (c : ℕ) (g : Goal CellName) (f : Reading) (o : Option (Shoen CellName)) → g.task ≡ Monitor → shoen_in g.shoen w.shoens ≡ o → CanDo program h w g c f (monitor_action (option_map (shoen_with (meaning f h)) o) c)
+monitor_does program h w c g f o task found s is =
+    let t = meaning f h in
+    ap (λ k. task_action (worked f s h w) g.shoen (task_with t k) c) task ∙ ap (λ h. monitor_action h c) (found_in t g.shoen w.shoens ∙ ap (option_map (shoen_with t)) found)
+
+-- it takes no other clause than 0
+pub monitor_takes : (h : Option model.Shoen) (c : ℕ) → (c ≡ 0 → ⊥) → monitor_action h c ≡ None
+monitor_takes None c ne = refl
+monitor_takes (Some h) c ne = ap (λ b. if b then read_action (model_control.control_of h.control) else None) (ne_eqb c 0 ne)
+
+-- by 0 it reads what stands before it, unless that is a variable
+pub monitor_reads : (f : Reading) (h : Held CellName) (s : Shoen CellName) (c : ℕ) (k : Control CellName) (b : Bool) → c ≡ 0 → control_as f h k ≡ model_control.control_of (meaning f h s.control) → is_read k ≡ b → monitor_action (Some (shoen_with (meaning f h) s)) c ≡ (if b then Some (reads (control_as f h k)) else None)
+monitor_reads f h s c k b zero same e =
+    ap (λ b. if b then read_action (model_control.control_of (meaning f h s.control)) else None) (eq-eqb c 0 zero)
+    ∙ ap read_action (sym same)
+    ∙ by_front k
+    ∙ ap (λ b. if b then Some (reads (control_as f h k)) else None) e
+  where
+    by_front : (k : Control CellName) → read_action (control_as f h k) ≡ (if is_read k then Some (reads (control_as f h k)) else None)
+    by_front (Awaits v) = refl
+    by_front (Tells m rest) = refl
+    by_front (TellsOther m rest) = refl
+    by_front Ends = refl
+    by_front (BreaksOff x) = refl
+
+-- ---- what any other goal can do
+
+-- it makes the move of its term, if there is one
+pub goal_does : (program : Program) (h : Held CellName) (w : Made) (c : ℕ) (g : Goal CellName) (f : Reading) (x : Qualified CellName) → w.rules ≡ program.rules → g.task ≡ Reduces x → CanDo program h w g c f (option_map (moves (aim f h x)) (move_by program.rules (contents program.loaded) (aim f h x) c))
+goal_does program h w c g f x rules task s is =
+    ap (λ k. task_action (worked f s h w) g.shoen (task_with (meaning f h) k) c) task
+    ∙ ap (λ (ms : List Module). option_map (moves (aim f h x)) (move_by w.rules ms (aim f h x) c)) is
+    ∙ ap (λ (r : Rules). option_map (moves (aim f h x)) (move_by r (contents program.loaded) (aim f h x) c)) rules
+
+-- a substitute makes the move of what its variable is, if there is one
+pub substitute_does : (program : Program) (h : Held CellName) (w : Made) (c : ℕ) (g : Goal CellName) (f : Reading) (y : Cell CellName) → g.task ≡ Substitutes y → CanDo program h w g c f (option_map (moves (aim f h (whole y))) (move_by_clause (meaning f h y) c))
+substitute_does program h w c g f y task s is = ap (λ k. task_action (worked f s h w) g.shoen (task_with (meaning f h) k) c) task ∙ by_case (meaning f h y) (c == 0)
+  where
+    by_case : (t : Term) (b : Bool) → (if b then option_map (moves t) (substitute_move (goal_look t)) else None) ≡ option_map (moves t) (if b then substitute_move (goal_look t) else None)
+    by_case t true = refl
+    by_case t false = refl
+
+-- ---- moves that are found
+
+-- six cells are an order
+order_there : (h : Held CellName) (s : ℕ) → length (arguments_of h s) ≡ 6 → (o : ExecuteArguments CellName) × IsOrder h s o
+order_there h s n =
+    let xs = arguments_of h s in
+    let none : Cell CellName = Variable 0 in
+    let o : ExecuteArguments CellName = record { goal = get_or xs 0 none; low = get_or xs 1 none; high = get_or xs 2 none; allowance = get_or xs 3 none; control = get_or xs 4 none; reports = get_or xs 5 none } in (
+      o,
+      record {
+        goal_is = slice_get-get_or xs 0 none (omega (arith, n));
+        low_is = slice_get-get_or xs 1 none (omega (arith, n));
+        high_is = slice_get-get_or xs 2 none (omega (arith, n));
+        allowance_is = slice_get-get_or xs 3 none (omega (arith, n));
+        control_is = slice_get-get_or xs 4 none (omega (arith, n));
+        reports_is = slice_get-get_or xs 5 none (omega (arith, n));
+      },
+    )
+
+gives : (o : Option reduction.Move) (m : reduction.Move) → o ≡ Some m → o ≡ Some (move_or_go o)
+gives None m e = absurd (cc)
+gives (Some n) m e = refl
+
+-- a move that is found is one of the definitions
+allowed : (f : Reading) (h : Held CellName) (o : Option reduction.Move) (p : Predicate CellName) (places : List (Place CellName)) (text : List ℕ) (m : Move CellName) → MoveIn h p places text (Some m) → IsMove f h o p places text (Some m) → o ≡ Some (move_or_go o)
+allowed f h o p places text (made.Commits place) i k = gives o (reduction.commits k.candidate) k.moves
+allowed f h o p places text (made.Raises b) i k = gives o (reduction.raises (text_of b)) k
+allowed f h o p places text (made.Unifies a b) i k = gives o (reduction.unifies (meaning f h a) (meaning f h b)) k
+allowed f h o p places text (made.Names a) i k = gives o (reduction.names text (meaning f h a)) k
+allowed f h o p places text (made.Opens s) i k = let r = order_there h s i.1 in gives o (reduction.opens (order_at f h r.0)) (k r.0 r.1)
+allowed f h o p places text made.Goes i k = gives o reduction.goes k
+allowed f h o p places text made.GivesWay i k = gives o reduction.gives_way k
+
+-- a substitute's move, told of cells, of which it has none
+pub substitute_moves : (f : Reading) (h : Held CellName) (o : Option reduction.Move) (p : Predicate CellName) (places : List (Place CellName)) (text : List ℕ) (m : Option (Move CellName)) → substitute_move_of m o → IsMove f h o p places text m × MoveIn h p places text m
+substitute_moves f h o p places text None s = (s, tt)
+substitute_moves f h o p places text (Some (made.Commits place)) s = absurd s
+substitute_moves f h o p places text (Some (made.Raises b)) s = (s, tt)
+substitute_moves f h o p places text (Some (made.Unifies a b)) s = absurd s
+substitute_moves f h o p places text (Some (made.Names a)) s = absurd s
+substitute_moves f h o p places text (Some (made.Opens n)) s = absurd s
+substitute_moves f h o p places text (Some made.Goes) s = absurd s
+substitute_moves f h o p places text (Some made.GivesWay) s = (s, tt)
+
+-- there is a reading of the names of the language
+no_names : AreNames []
+no_names =
+    are_names (λ n t. ⊥) [] (record { names = λ t n e. absurd e; not_built_in = λ t n e. absurd e; from_64 = λ t n e. absurd e; one_text = λ t u n d e. absurd e; one_number = λ t m n d e. absurd e })
+    (record { by_text = λ t n e. absurd (cc); by_number = λ t n e. absurd (cc) })
+
+-- the move of a substitute has no cells
+pub inside_by : (h : Held CellName) (y : Cell CellName) (c : ℕ) (p : Predicate CellName) (places : List (Place CellName)) (text : List ℕ) (o : Option (Move CellName)) → ((f : Reading) → Reads built f → SubstituteMoves (meaning f h y) c o) → MoveIn h p places text o
+inside_by h y c p places text o given = let f = reading_of [] in (substitute_moves f h (move_by_clause (meaning f h y) c) p places text o (given f (reading_fits [] no_names).reads)).1
+
+-- ---- plans
+
+-- a move that was found of a goal that is no monitor and is this cell, or none: it is what the goal does for each reading
+pub record IsFound (program : Program) (h : Held CellName) (w : Made) (g : Goal CellName) (c : ℕ) (places : List (Place CellName)) (text : List ℕ) (x : Qualified CellName) (p : Predicate CellName) (o : Option (Move CellName)) : Type 0 where
+  pub reduces : is_monitor g ≡ false
+  pub cell : IsIn h x.cell
+  pub inside : MoveIn h p places text o
+  pub move : Reading → Option reduction.Move
+  pub is : (f : Reading) → Knows program.loaded f → IsMove f h (move f) p places text o
+  pub does : (f : Reading) → Knows program.loaded f → CanDo program h w g c f (option_map (moves (aim f h x)) (move f))
+
+-- if one was found, it is what the goal is to do, if its predicate has these clauses
+pub move_found : {program : Program} {h : Held CellName} {w : Made} {g : Goal CellName} {c : ℕ} {places : List (Place CellName)} {text : List ℕ} {o : Option (Move CellName)} (a : PlannedMove) → o ≡ Some a.made → IsFound program h w g c places text a.cell a.predicate o → AreSome a.predicate.names.now a.predicate.clauses.now →
+    Serves program.loaded a.kind a.predicate → MovesBy program h w g c places text a
+move_found {program = program} {h = h} {places = places} {text = text} a e i some serves =
+    let inside = subst (MoveIn h a.predicate places text) e i.inside in
+    let is : (f : Reading) → Knows program.loaded f → IsMove f h (i.move f) a.predicate places text (Some a.made) = λ f knows. subst (IsMove f h (i.move f) a.predicate places text) e (i.is f knows) in
+    let there : (f : Reading) → Knows program.loaded f → i.move f ≡ Some (move_or_go (i.move f)) = λ f knows. allowed f h (i.move f) a.predicate places text a.made inside (is f knows) in
+    record {
+      runnable = record { reduces = i.reduces; cell = i.cell; some = some; serves = serves; inside = inside };
+      move = λ f. move_or_go (i.move f);
+      is = λ f knows. subst (λ q. IsMove f h q a.predicate places text (Some a.made)) (there f knows) (is f knows);
+      does = λ f knows s is. i.does f knows s is ∙ ap (option_map (moves (aim f h a.cell))) (there f knows);
+    }
+
+-- a plan that was found to read
+pub plan_reads : (program : Program) (h : Held CellName) (w : Made) (g : Goal CellName) (c : ℕ) (places : List (Place CellName)) (text : List ℕ) (o : Option Plan) (control : Control CellName) → o ≡ Some (plan.Reads control) → MatchOption o (DoesNothing program h w g c) (IsPlan program h w g c places text) →
+    ReadsBy program h w g c control
+plan_reads program h w g c places text o control e a = MatchOption-at_some (DoesNothing program h w g c) (IsPlan program h w g c places text) (plan.Reads control) e a
+
+-- one to make a move
+pub plan_moves : (program : Program) (h : Held CellName) (w : Made) (g : Goal CellName) (c : ℕ) (places : List (Place CellName)) (text : List ℕ) (o : Option Plan) (x : PlannedMove) → o ≡ Some (plan.Moves x) → MatchOption o (DoesNothing program h w g c) (IsPlan program h w g c places text) →
+    MovesBy program h w g c places text x
+plan_moves program h w g c places text o x e a = MatchOption-at_some (DoesNothing program h w g c) (IsPlan program h w g c places text) (plan.Moves x) e a

@@ -1,0 +1,51 @@
+-- Predicates that goals call, found or known.
+use Rattle.kl1_ready.proofs.Words.{◌≡◌, ℕ, ◌==◌, ◌&&◌, true, List, map, refl, sym, ap, subst, ◌∙◌, Option, and_parts, eqb-true, Clause, Term, clauses_of, CellName, Held, AreCompiled, FoundAs, Predicate, Call, Kind, Calls, call_at, IsKind, HasPredicate, Numbered, contents, Finds, Reading, Knows, Serves, calls_same}
+use Rattle.kl1_goals_moves.specs.declared.kind.Kind.TheVariants as kinds
+
+-- a predicate that was found serves whatever goals call it
+pub call_serves : (ms : List Numbered) (kind : Kind CellName) (c : Call CellName) (found : Option (Predicate CellName)) (p : Predicate CellName) → kind ≡ Calls c → Finds ms c.module_name c.name c.count found →
+    ((f : CellName → List ℕ) (cs : List Clause) → FoundAs f cs found → AreCompiled (map f p.names.now) p.clauses.now cs) → Serves ms kind p
+call_serves ms kind c found p e finds compiled =
+    subst (λ k. Serves ms k p) (sym e) (λ f knows call asks. compiled f (clauses_of (contents ms) call) (finds f knows.reads knows.rows call asks))
+
+-- what serves goals of a kind is the predicate of each of them
+pub serves_has : (ms : List Numbered) (kind : Kind CellName) (p : Predicate CellName) → Serves ms kind p → (f : Reading) → Knows ms f → (h : Held CellName) (t : Term) → IsKind f h t kind → HasPredicate f h (contents ms) kind p
+serves_has ms (Calls c) p s f knows h t is = s f knows (call_at f h c) (record { module_is = refl; name_is = refl; counted = is.counted })
+serves_has ms (kinds.Unifies left right) p s f knows h t is = tt
+serves_has ms (kinds.Assigns left right) p s f knows h t is = tt
+serves_has ms (kinds.Spells codes target) p s f knows h t is = tt
+serves_has ms (kinds.Executes n) p s f knows h t is = tt
+serves_has ms kinds.Goes p s f knows h t is = tt
+serves_has ms (kinds.Waits v) p s f knows h t is = tt
+serves_has ms kinds.Nothing p s f knows h t is = tt
+
+-- the predicate of a call is what was found of it, or none
+pub call_has : (ms : List Numbered) (kind : Kind CellName) (c : Call CellName) (found : Option (Predicate CellName)) (p : Predicate CellName) → kind ≡ Calls c → Finds ms c.module_name c.name c.count found →
+    ((f : CellName → List ℕ) (cs : List Clause) → FoundAs f cs found → AreCompiled (map f p.names.now) p.clauses.now cs) →
+    (f : Reading) → Knows ms f → (h : Held CellName) (t : Term) → IsKind f h t kind → HasPredicate f h (contents ms) kind p
+call_has ms kind c found p e finds compiled = serves_has ms kind p (call_serves ms kind c found p e finds compiled)
+
+name_is : (a b : CellName) → a.number ≡ b.number → a ≡ b
+name_is a b e = ap (λ n. let c : CellName = record { number = n } in c) e
+
+-- what serves a call serves goals that call the same
+serves_same : (ms : List Numbered) (c : Call CellName) (kind : Kind CellName) (p : Predicate CellName) → calls_same c kind ≡ true → Serves ms (Calls c) p → Serves ms kind p
+serves_same ms c (Calls d) p e s = λ f knows call asks.
+    let one = and_parts (d.module_name.number == c.module_name.number && d.name.number == c.name.number) (d.count == c.count) e in
+    let two = and_parts (d.module_name.number == c.module_name.number) (d.name.number == c.name.number) one.0 in
+    s f knows call
+    (record {
+      module_is = asks.module_is ∙ ap f (name_is d.module_name c.module_name (eqb-true d.module_name.number c.module_name.number two.0));
+      name_is = asks.name_is ∙ ap f (name_is d.name c.name (eqb-true d.name.number c.name.number two.1));
+      counted = asks.counted ∙ eqb-true d.count c.count one.1;
+    })
+serves_same ms c (kinds.Unifies left right) p e s = tt
+serves_same ms c (kinds.Assigns left right) p e s = tt
+serves_same ms c (kinds.Spells codes target) p e s = tt
+serves_same ms c (kinds.Executes n) p e s = tt
+serves_same ms c kinds.Goes p e s = tt
+serves_same ms c (kinds.Waits v) p e s = tt
+serves_same ms c kinds.Nothing p e s = tt
+
+pub serves_too : (ms : List Numbered) (known kind : Kind CellName) (c : Call CellName) (p : Predicate CellName) → known ≡ Calls c → calls_same c kind ≡ true → Serves ms known p → Serves ms kind p
+serves_too ms known kind c p e same s = serves_same ms c kind p same (subst (λ k. Serves ms k p) e s)

@@ -1,0 +1,3 @@
+pub mod Serving
+pub mod Ready
+pub mod Plans

@@ -1,0 +1,107 @@
+-- Readings by which a spare number stands for a name that another number has, and goals that are read as the same.
+use Rattle.kl1_user_effects.proofs.Words.{◌≡◌, ℕ, ◌<◌, ◌==◌, ◌^◌, ◌⊎◌, List, [], ◌∷◌, ◌++◌, map, sym, ap, ap₂, ◌∙◌, subst, inl, inr, arith, bytes_eq, Option, Some, None, option_map, cases_Bool, bytes_eq-Decides, map-append, Control, control_of, shoen_at, place_of, built_in_of, place-below, CellName, Known, number_in, number_by, Adds, option_cases, adds_one, still_known, Hook, Held, Goal, Shoen, shoen_in, contents, Program, HangsOnEach, Reading, Fits, Means, meaning, task_with, goal_with, shoen_with, texts_of, AreSmall, spare, control_with, task_clause, awaited_by_task, IsSettled, AreSettled, exchanged}
+use Rattle.kl1_model.specs.State as model
+use Rattle.kl1_user_effects.proofs.Swaps.{same_name, number_test, swap_first, exchange_fits}
+use Rattle.kl1_user_effects.proofs.KnownNames.{not_known}
+use Rattle.kl1_user_effects.proofs.States.{found_in}
+
+-- ---- a name that is new, by the spare number
+
+-- names, and after them a text by the spare number
+abbrev pub with_spare : List Known → List ℕ → List Known
+with_spare names text = names ++ record { text = text; number = record { number = 2 ^ 32 } } ∷ []
+
+small_in : (names : List Known) (t : List ℕ) (n : ℕ) → AreSmall names → number_in names t ≡ Some n → n < 2 ^ 32
+small_in [] t n a e = absurd (cc)
+small_in (k ∷ names) t n a e = elim (cases_Bool (bytes_eq k.text t)) [
+  | inl same ↦ let found : Some k.number.number ≡ Some n = rw same at e in let is : k.number.number ≡ n = cc in let low = a.0 in omega (arith, is, low)
+  | inr other ↦ small_in names t n a.1 (rw other at e)
+]
+
+-- the number of a name that is known has 32 bits
+pub small_by : (names : List Known) (t : List ℕ) (n : ℕ) → AreSmall names → number_by names t ≡ Some n → n < 2 ^ 32
+small_by names t n a e = elim (option_cases (built_in_of t)) [
+  | inl none ↦ small_in names t n a (rw none at e)
+  | inr some ↦ let found : Some (place_of some.0) ≡ Some n = rw some.1 at e in let is : place_of some.0 ≡ n = cc in let low = place-below some.0 in omega (arith, is, low)
+]
+
+spare_adds : (names : List Known) (text : List ℕ) → number_by names text ≡ None → Adds names text (record { number = 2 ^ 32 }) (with_spare names text)
+spare_adds names text new = let n = not_known names text new in adds_one names text (record { number = 2 ^ 32 }) n.0 n.1
+
+-- the texts of names with one after them
+pub spare_texts : (names : List Known) (text : List ℕ) → texts_of (with_spare names text) ≡ texts_of names ++ text ∷ []
+spare_texts names text = map-append (λ (k : Known). k.text) names (record { text = text; number = record { number = 2 ^ 32 } } ∷ [])
+
+-- a reading that fits them fits the names before
+pub spare_fits : (names : List Known) (text : List ℕ) → number_by names text ≡ None → (g : Reading) → Fits (with_spare names text) g → Fits names g
+spare_fits names text new g fits = record {
+  reads = fits.reads;
+  texts = λ t n e. fits.texts t n (still_known names text (record { number = 2 ^ 32 }) (with_spare names text) (spare_adds names text new) t n e);
+}
+
+-- it reads the spare number as the text
+pub spare_reads : (names : List Known) (text : List ℕ) → number_by names text ≡ None → (g : Reading) → Fits (with_spare names text) g → g spare ≡ text
+spare_reads names text new g fits = fits.texts text (2 ^ 32) ((spare_adds names text new).number)
+
+-- a name is found among names and one more if it was, or is that one
+more_by_text : (ks : List Known) (k : Known) (t : List ℕ) (n : ℕ) → number_in (ks ++ k ∷ []) t ≡ Some n → (number_in ks t ≡ Some n) ⊎ ((k.text ≡ t) × (k.number.number ≡ n))
+more_by_text [] k t n e = elim (cases_Bool (bytes_eq k.text t)) [
+  | inl same ↦ inr ((bytes_eq-Decides k.text t).0 same, (let found : Some k.number.number ≡ Some n = rw same at e in cc))
+  | inr other ↦ let none : None ≡ Some n = rw other at e in cc
+]
+more_by_text (x ∷ ks) k t n e = elim (cases_Bool (bytes_eq x.text t)) [
+  | inl same ↦ inl (rw same (rw same at e))
+  | inr other ↦ elim (more_by_text ks k t n (rw other at e)) [ inl was ↦ inl (rw other was) | inr is ↦ inr is ]
+]
+
+-- and so is one that is known
+by_text : (ks : List Known) (k : Known) (t : List ℕ) (n : ℕ) → number_by (ks ++ k ∷ []) t ≡ Some n → (number_by ks t ≡ Some n) ⊎ ((k.text ≡ t) × (k.number.number ≡ n))
+by_text ks k t n e = elim (option_cases (built_in_of t)) [
+  | inl none ↦ elim (more_by_text ks k t n (rw none at e)) [ inl was ↦ inl (rw none was) | inr is ↦ inr is ]
+  | inr some ↦ inl (rw some.1 (rw some.1 at e))
+]
+
+-- a reading that reads a number as a text that is new fits the text by the spare number, when the two are exchanged
+pub exchanged_fits : (names : List Known) (text : List ℕ) (k : CellName) (f : Reading) → AreSmall names → number_by names text ≡ None → f k ≡ text → Fits names f → Fits (with_spare names text) (exchanged spare k f)
+exchanged_fits names text k f small new reads fits =
+    let before = exchange_fits names text spare k f new (λ u m was e. let low = small_by names u m small was in omega (arith, e, low)) reads fits in
+    record {
+      reads = before.reads;
+      texts = λ t n e. elim (by_text names (record { text = text; number = record { number = 2 ^ 32 } }) t n e) [
+        | inl was ↦ before.texts t n was
+        | inr is ↦ ap (exchanged spare k f) (same_name (record { number = n }) spare (sym is.1)) ∙ ap f (swap_first (λ (m j : CellName). m.number == j.number) number_test spare k) ∙ reads ∙ is.0
+      ];
+    }
+
+-- ---- goals that are read as the same
+
+-- what stands at the front of a shoen's control stream, by what the shoens are
+abbrev front_of : Option model.Shoen → Option Control
+front_of o = option_map (λ (h : model.Shoen). control_of h.control) o
+
+control_read : (t : Means) (ss : List (Shoen CellName)) (n : ℕ) → control_with t ss n ≡ front_of (shoen_at n (map (shoen_with t) ss))
+control_read t ss n = rw (found_in t n ss) (elim (option_cases (shoen_in n ss)) [ inl none ↦ rw none | inr some ↦ rw some.1 ])
+
+-- two ways to read shoens read the same control streams if they read the same shoens
+control_alike : (t u : Means) (ss : List (Shoen CellName)) (n : ℕ) → map (shoen_with t) ss ≡ map (shoen_with u) ss → control_with t ss n ≡ control_with u ss n
+control_alike t u ss n e = control_read t ss n ∙ ap (λ (hs : List model.Shoen). front_of (shoen_at n hs)) e ∙ sym (control_read u ss n)
+
+settled_one : (f g : Reading) (hooks : List Hook) (h k : Held CellName) (program : Program) (ss : List (Shoen CellName)) (x : Goal CellName) → map (shoen_with (meaning f h)) ss ≡ map (shoen_with (meaning g k)) ss → goal_with (meaning f h) x ≡ goal_with (meaning g k) x →
+    IsSettled f hooks h program ss x → IsSettled g hooks k program ss x
+settled_one f g hooks h k program ss x shoens goal s =
+    let front : control_with (meaning f h) ss x.shoen ≡ control_with (meaning g k) ss x.shoen = control_alike (meaning f h) (meaning g k) ss x.shoen shoens in
+    let task : task_with (meaning f h) x.task ≡ task_with (meaning g k) x.task = ap (λ (y : model.Goal). y.task) goal in
+    let H : List ℕ → Type 0 = λ vs. HangsOnEach hooks x.number vs in
+    record {
+      standing = s.standing ∙ ap₂ (λ (c : Option Control) (y : model.Task). task_clause program.rules (contents program.loaded) c y) front task;
+      hung = subst H (ap₂ (λ (c : Option Control) (y : model.Task). awaited_by_task program.rules (contents program.loaded) c y) front task) s.hung;
+    }
+
+-- goals that are settled for one reading are for another by which they and the shoens are the same
+pub settled_alike : (f g : Reading) (hooks : List Hook) (h k : Held CellName) (program : Program) (ss : List (Shoen CellName)) (gs : List (Goal CellName)) → map (shoen_with (meaning f h)) ss ≡ map (shoen_with (meaning g k)) ss → map (goal_with (meaning f h)) gs ≡ map (goal_with (meaning g k)) gs →
+    AreSettled f hooks h program ss gs → AreSettled g hooks k program ss gs
+settled_alike f g hooks h k program ss [] shoens goals s = tt
+settled_alike f g hooks h k program ss (x ∷ gs) shoens goals s =
+    let first : goal_with (meaning f h) x ≡ goal_with (meaning g k) x = cc in
+    let rest : map (goal_with (meaning f h)) gs ≡ map (goal_with (meaning g k)) gs = cc in
+    (settled_one f g hooks h k program ss x shoens first s.0, settled_alike f g hooks h k program ss gs shoens rest s.1)

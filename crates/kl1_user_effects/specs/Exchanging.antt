@@ -1,0 +1,61 @@
+-- Numbers and spare numbers that stand for one another.
+use Rattle.std.specs.Prelude.{◌≡◌, ℕ, suc, ◌+◌, ◌<◌, ◌≤◌, ◌==◌, ◌^◌, ◌⊎◌, if◌then◌else◌, List, [], ◌∷◌, ◌++◌, length, get_or, Some, None}
+use Rattle.std.specs.List.{Contains}
+use Rattle.kl1_text.specs.declared.cell_name.CellName.{CellName}
+use Rattle.kl1_atoms.specs.declared.known.Known.{Known}
+use Rattle.kl1_atoms.specs.Names.{number_by}
+use Rattle.kl1_store.specs.Held.{Held}
+use Rattle.kl1_store.specs.Renames.{held_renamed}
+use Rattle.kl1_user_effects.specs.Fitting.{Reading}
+
+-- a number, if one stands for another and that for this
+abbrev pub swapped : CellName → CellName → CellName → CellName
+swapped a b n = if n.number == a.number then b else if n.number == b.number then a else n
+
+-- a reading that reads each of two numbers as the other
+abbrev pub exchanged : CellName → CellName → Reading → Reading
+exchanged a b f n = f (swapped a b n)
+
+-- a number, if one stands for another and that for this; a number stands for itself
+abbrev pub swapped_one : CellName → CellName → CellName → CellName
+swapped_one a b n = if a.number == b.number then n else swapped a b n
+
+-- a number, if each of these numbers and the one at its place among others stand for one another, the first two first
+abbrev pub swapped_all : List CellName → List CellName → CellName → CellName
+swapped_all [] ns c = c
+swapped_all (s ∷ ss) [] c = c
+swapped_all (s ∷ ss) (n ∷ ns) c = swapped_all ss ns (swapped_one s n c)
+
+-- what is held, if each of these numbers and the one at its place among others stand for one another, the first two first
+abbrev pub held_exchanged : List CellName → List CellName → Held CellName → Held CellName
+held_exchanged ss ns h = held_renamed (swapped_all ss ns) h
+
+-- both of two numbers, and none if they are one
+abbrev pub pair_of : CellName → CellName → List ℕ
+pair_of a b = if a.number == b.number then [] else a.number ∷ b.number ∷ []
+
+-- the numbers that these exchanges can change
+abbrev pub touched : List CellName → List CellName → List ℕ
+touched [] ns = []
+touched (s ∷ ss) [] = []
+touched (s ∷ ss) (n ∷ ns) = pair_of s n ++ touched ss ns
+
+-- numbers in order, among which all are that these exchanges can change
+pub record IsRowOf (ss ns : List CellName) (row : List ℕ) : Type 0 where
+  pub rises : (i j : ℕ) → i ≤ j → j < length row → get_or row i 0 ≤ get_or row j 0
+  pub others : (n : ℕ) → (Contains row n → ⊥) → Contains (touched ss ns) n → ⊥
+
+-- the reading by which what was held meant what it means when these numbers and others stand for one another
+abbrev pub read_exchanged : List CellName → List CellName → Reading → Reading
+read_exchanged ss ns f c = f (swapped_all ss ns c)
+
+-- the number of a name among names, or the spare number of a place if it is new
+abbrev pub IsSpared : List Known → ℕ → List ℕ → CellName → Type 0
+IsSpared names place t c = (number_by names t ≡ Some c.number) ⊎ ((number_by names t ≡ None) × (c.number ≡ 2 ^ 32 + place))
+
+-- the numbers of names among names, and the spare numbers of the places of those that are new, of which the first has this place
+abbrev pub AreSpared : List Known → ℕ → List (List ℕ) → List CellName → Type 0
+AreSpared names place [] [] = Unit {0}
+AreSpared names place [] (c ∷ cs) = ⊥
+AreSpared names place (t ∷ ts) [] = ⊥
+AreSpared names place (t ∷ ts) (c ∷ cs) = IsSpared names place t c × AreSpared names (suc place) ts cs
