@@ -7,5 +7,6 @@ pub mod Flagging
 pub mod Linking
 pub mod Chaining
 pub mod Restoring
+pub mod Looking
 pub mod Walking
 pub mod Capping

@@ -1,9 +1,8 @@
 // What a table of goals was when an event began.
 
-ghost use Rattle.std.specs.Prelude.{◌≡◌, ◌<◌, ◌≤◌, List, set, length, OnOk};
+ghost use Rattle.std.specs.Prelude.{◌≡◌, ◌-◌, ◌<◌, ◌≤◌, set, length, OnOk};
 ghost use Rattle.kl1_goals.specs.declared.slot.Slot.{Slot};
 ghost use Rattle.kl1_goals.specs.declared.tally.Tally.{Tally};
-ghost use Rattle.kl1_goals.specs.Tallies.{HasChanged};
 ghost use Rattle.kl1_goals.specs.Keeping.{places_then, kept_then};
 
 use crate::slot::Slot;
@@ -53,7 +52,7 @@ pub(crate) fn note_tally<N: NameValue>(
 ) -> Result<(), AllocError>
     requires low { 0 < shoen }
     requires high { shoen ≤ length tallies.now.items }
-    ensures ok { OnOk result ((f : Tally → Tally) (ts : List Tally) → HasChanged shoen f tallies.now.items ts → kept_then begun.new ts ≡ kept_then begun.old tallies.now.items) }
+    ensures ok { OnOk result ((t : Tally) → kept_then begun.new (set tallies.now.items (shoen - 1) t) ≡ kept_then begun.old tallies.now.items) }
     ensures same { kept_then begun.new tallies.now.items ≡ kept_then begun.old tallies.now.items }
     ensures rest { begun.new ≡ record begun.old { tallies = begun.new.tallies } }
 {

@@ -58,7 +58,10 @@ pub(crate) fn let_step<N: NameValue>(
         return;
     }
     slot.goal.is_enabled = is_enabled;
-    slot.rank(queue, place);
+    match slot.priority() {
+        None => queue.remove(place),
+        Some(priority) => queue.put(place, priority),
+    }
 }
 
 /// Unlinks the last place.

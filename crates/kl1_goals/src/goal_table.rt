@@ -9,7 +9,7 @@ ghost use Rattle.kl1_goals.specs.Tables.{IsNext, IsKnown, IsOfShoen, AreInOrder,
 use crate::begun::{Begun, note_slot, note_tally};
 use crate::goal::Goal;
 use crate::noting::{cut_ranks, let_each_step, put_slots_back, relink};
-use crate::places::{append, bury, count_upto, first_held, held_place, look_at, tidy};
+use crate::places::{append, bury, count_upto, first_held, held_place, look_at, stand, tidy};
 use crate::room::make_room;
 use crate::slot::Slot;
 use crate::tally::{Tally, exchange_last, lower, lower_alive, raise, raise_alive, tally_of};
@@ -59,7 +59,7 @@ impl<N: NameValue> Model for GoalTable<N> {
     ghost use Rattle.std.specs.Prelude.{length};
     ghost use Rattle.kl1_goals.specs.Slots.{goals_in};
     ghost use Rattle.kl1_goals.specs.Tables.{Tabled};
-    ghost use Rattle.kl1_goals.specs.Keeping.{AreTables, parts, places_then};
+    ghost use Rattle.kl1_goals.specs.Keeping.{AreTables, places_then};
 
     ghost Value = { Tabled N };
 
@@ -72,7 +72,7 @@ impl<N: NameValue> Model for GoalTable<N> {
       begun_last = t.begun.last;
     } };
 
-    ghost invariant = { λ t. AreTables (parts t.slots.items t.empty t.queue.ranks t.tallies.items t.alive t.last) t.begun };
+    ghost invariant = { λ t. AreTables t.slots.items t.empty t.queue.ranks t.tallies.items t.alive t.last t.begun };
 }
 
 impl<N: NameValue> GoalTable<N> {
@@ -161,17 +161,16 @@ impl<N: NameValue> GoalTable<N> {
         let Some(place) = held_place(&self.slots, self.seen, number) else {
             return Ok(());
         };
+        note_slot(&mut self.begun, &self.slots, place)?;
         self.seen = place;
-        let is_enabled = self.slots[place].goal.is_enabled;
-        look_at(
-            &mut self.begun,
+        stand(
             &mut self.slots,
             self.empty,
             &mut self.queue,
             place,
             standing,
-            is_enabled,
-        )
+        );
+        Ok(())
     }
 
     /// From now on goal `number` has this clause by which it could step, or none, and may step, or may not.
@@ -187,16 +186,17 @@ impl<N: NameValue> GoalTable<N> {
         let Some(place) = held_place(&self.slots, self.seen, number) else {
             return Ok(());
         };
+        note_slot(&mut self.begun, &self.slots, place)?;
         self.seen = place;
         look_at(
-            &mut self.begun,
             &mut self.slots,
             self.empty,
             &mut self.queue,
             place,
             standing,
             is_enabled,
-        )
+        );
+        Ok(())
     }
 
     /// Puts a goal after all others, with a number above all that were put before, those of removed goals too.
@@ -309,14 +309,13 @@ impl<N: NameValue> GoalTable<N> {
         ensures known { IfSome result (λ g. IsKnown g self.now.shoens) }
         ensures order { AreInOrder self.now.goals }
     {
-        match self.lend(number) {
+        match held_place(&self.slots, self.seen, number) {
             None => None,
-            Some(goal) => Some(*goal),
+            Some(place) => Some(self.slots[place].goal),
         }
     }
 
     /// The goal with number `number`, lent.
-    #[inline]
     pub fn lend(&self, number: u64) -> Option<&Goal<N>>
         ensures goal { option_copied result ≡ find (has_number number) self.now.goals }
         ensures number { IfSome result (λ g. g.now.number ≡ number) }

@@ -60,6 +60,7 @@ pub(crate) fn let_each_step<N: NameValue>(
     ensures links { AreLinked slots.new.items }
     ensures shapes { map shape_in slots.new.items ≡ map shape_in slots.old.items }
     ensures goals { OnOk result (goals_in slots.new.items ≡ map (enabled_in shoen is_enabled) (goals_in slots.old.items)) }
+    ensures some { map (enabled_in shoen is_enabled) (goals_in slots.new.items) ≡ map (enabled_in shoen is_enabled) (goals_in slots.old.items) }
     ensures was { places_then begun.new slots.new.items ≡ places_then begun.old slots.old.items }
     ensures rest { begun.new ≡ record begun.old { slots = begun.new.slots } }
 {

@@ -1,22 +1,19 @@
 // The places of a table, in order of number, with the queue over them.
 
-ghost use Rattle.std.specs.Prelude.{◌≡◌, ◌+◌, ◌<◌, ◌≤◌, ℕ, true, None, [], ◌∷◌, ◌++◌, length, map, drop, MatchOption, OnOk, vec_len, vec_capacity};
+ghost use Rattle.std.specs.Prelude.{◌≡◌, ◌+◌, ◌<◌, ◌≤◌, ℕ, true, None, [], ◌∷◌, ◌++◌, length, map, drop, MatchOption, vec_len, vec_capacity};
 ghost use Rattle.std.specs.List.{find};
 ghost use Rattle.kl1_model.specs.declared.limits.TheConstants.{MONITOR_PRIORITY};
-ghost use Rattle.kl1_goals.specs.Lists.{has_number};
+ghost use Rattle.kl1_goals.specs.Lists.{has_number, stood_by, looked_at};
 ghost use Rattle.kl1_goals.specs.Tables.{Ascend};
-ghost use Rattle.kl1_goals.specs.Slots.{numbers_of, goals_in, first_of, rank_in, level_in, emptied, looked_in, changed_at, AreLow, AreBelow, IsCut, IsPlace, IsAbsent, AreSlots, IsHeldAt, IsEmptyEnd, IsWithout};
+ghost use Rattle.kl1_goals.specs.Slots.{numbers_of, goals_in, first_of, rank_in, level_in, emptied, standing_in, looked_in, changed_at, AreLow, AreBelow, IsCut, IsPlace, IsAbsent, AreSlots, IsHeldAt, IsEmptyEnd, IsWithout};
 ghost use Rattle.kl1_goals.specs.Chains.{shape_in, before_in, AreChained, HaveSameCounts};
-ghost use Rattle.kl1_goals.specs.Keeping.{places_then};
 
-use crate::begun::{Begun, note_slot};
 use crate::chains::{forget_last, link_all, unlink_last};
 use crate::goal::Goal;
 use crate::slot::Slot;
 use crate::tally::Tally;
 use kl1_queue::ReadyQueue;
 use kl1_text::NameValue;
-use std::alloc::AllocError;
 
 /// A table of at most this many places isn't compacted.
 const FEW: usize = 32;
@@ -174,31 +171,52 @@ pub(crate) fn bury<N: NameValue>(
     *empty += 1;
 }
 
-/// Notes what stands at the place of a goal; then the goal may step, or may not, and has the clause by which it can step.
+/// Gives a goal the clause by which it can step.
+pub(crate) fn stand<N: NameValue>(
+    slots: &mut Vec<Slot<N>>,
+    empty: usize,
+    queue: &mut ReadyQueue,
+    place: usize,
+    standing: Option<u64>,
+)
+    requires slots { AreSlots slots.old.items empty queue.old.ranks }
+    requires place { (s : Slot N) × IsHeldAt slots.old.items s.goal.number place s }
+    ensures slots { AreSlots slots.new.items empty queue.new.ranks }
+    ensures stood { slots.new.items ≡ changed_at (standing_in standing) place slots.old.items }
+    ensures shapes { map shape_in slots.new.items ≡ map shape_in slots.old.items }
+    ensures links { map before_in slots.new.items ≡ map before_in slots.old.items }
+    ensures goals { (s : Slot N) → IsHeldAt slots.old.items s.goal.number place s → goals_in slots.new.items ≡ map (stood_by s.goal.number standing) (goals_in slots.old.items) }
+{
+    let slot = &mut slots[place];
+    slot.goal.standing = standing;
+    match slot.priority() {
+        None => queue.remove(place),
+        Some(priority) => queue.put(place, priority),
+    }
+}
+
+/// A goal that is there may step, or may not, and has the clause by which it can step.
 pub(crate) fn look_at<N: NameValue>(
-    begun: &mut Begun<N>,
     slots: &mut Vec<Slot<N>>,
     empty: usize,
     queue: &mut ReadyQueue,
     place: usize,
     standing: Option<u64>,
     is_enabled: bool,
-) -> Result<(), AllocError>
+)
     requires slots { AreSlots slots.old.items empty queue.old.ranks }
-    requires place { place < length slots.old.items }
+    requires place { (s : Slot N) × IsHeldAt slots.old.items s.goal.number place s }
+    ensures changed { slots.new.items ≡ changed_at (looked_in standing is_enabled) place slots.old.items }
     ensures slots { AreSlots slots.new.items empty queue.new.ranks }
-    ensures changed { OnOk result (slots.new.items ≡ changed_at (looked_in standing is_enabled) place slots.old.items) }
-    ensures shapes { map shape_in slots.new.items ≡ map shape_in slots.old.items }
-    ensures links { map before_in slots.new.items ≡ map before_in slots.old.items }
-    ensures was { places_then begun.new slots.new.items ≡ places_then begun.old slots.old.items }
-    ensures rest { begun.new ≡ record begun.old { slots = begun.new.slots } }
+    ensures goals { (s : Slot N) → IsHeldAt slots.old.items s.goal.number place s → goals_in slots.new.items ≡ map (looked_at s.goal.number standing is_enabled) (goals_in slots.old.items) }
 {
-    note_slot(begun, slots, place)?;
     let slot = &mut slots[place];
     slot.goal.standing = standing;
     slot.goal.is_enabled = is_enabled;
-    slot.rank(queue, place);
-    Ok(())
+    match slot.priority() {
+        None => queue.remove(place),
+        Some(ready) => queue.put(place, ready),
+    }
 }
 
 /// Ranks places anew.

@@ -58,8 +58,8 @@ use Rattle.kl1_goals_moves.specs.Spellings.{spelling_of}
 use Rattle.kl1_goals_moves.specs.declared.order.ExecuteArguments.{ExecuteArguments}
 use Rattle.kl1_goals_moves.specs.Orders.{order_at, IsOrder}
 use Rattle.kl1_goals_moves.specs.Kinds.{IsKind, IsCall, IsUnification, IsAssignment, IsSpelling, IsExecution, IsTrueGoal}
-use Rattle.kl1_goals_moves.specs.Moves.{HasPredicate, FailsAs, candidate_at, IsCandidate, CommitsAs, MovesAs}
-use Rattle.kl1_goals_moves.specs.Standing.{StandsAs}
+use Rattle.kl1_goals_moves.specs.Moves.{HasPredicate, FailsAs, candidate_at, IsCandidate, CommitsTo, CommitsAs, MovesAs}
+use Rattle.kl1_goals_moves.specs.Standing.{StandsAs, CommitsWith}
 use Rattle.kl1_goals_moves.specs.Bodies.{IsBody, AreNeeds}
 use Rattle.kl1_goals_moves.proofs.Candidates.{none_behind, fails_by, goes_on_by, commits_by, by_zero}
 use Rattle.kl1_model.specs.code.Awaited.{awaited_by_found}
@@ -356,6 +356,22 @@ kind_stands {N = N} built f h rules modules t k c goal p before after choice r e
     let P : Kind N → Type 0 = λ x. IsKind f h t x in
     let Q : Kind N → Type 0 = λ x. HasPredicate f h modules x p in
     call_stands f h rules modules t c goal chosen.named after choice (subst P e is) own (chosen.awaited ∙ ap (λ l. l ++ chosen.named) empty) (chosen.chooses f r (clauses_of modules (call_at f h c)) (subst Q e has))
+
+-- a clause that is taken is one to commit to
+pub commits_with : {N : Type 0} (built : BuiltIn → N) (h : Held N) (rules : Rules) (k : Kind N) (c : Call N) (goal : Cell N) (p : Predicate N) (place : ℕ) (places : List (Place N)) → k ≡ kind.Calls c → goal ≡ cell_of c → Takes built p.names.now p.clauses.now place h goal places true →
+    CommitsWith built rules h k p place places
+commits_with {N = N} built h rules k c goal p place places e own t = record {
+  inside = t.inside refl;
+  commits = λ f r modules u is has q other. by_call f r modules u q (subst (λ x. IsKind f h u x) e is) (subst (λ x. HasPredicate f h modules x p) e has) (subst (λ x. HasPredicate f h modules x q) e other);
+}
+  where
+    by_call : (f : N → List ℕ) → Reads built f → (modules : List Module) (u : Term) (q : Predicate N) → IsCall f h u c → HasPredicate f h modules (kind.Calls c) p → HasPredicate f h modules (kind.Calls c) q → CommitsTo f h (move_by rules modules u (suc place)) q place places
+    by_call f r modules u q is has other =
+        let cs = clauses_of modules (call_at f h c) in
+        let P : Cell N → Type 0 = λ x. TakenAs f h p.clauses.now (map f p.names.now) cs (arguments_of_goal (term_of f h x)) place places true in
+        let t = subst P own (t.taken f r cs has) in
+        let by = taken_by f h c q cs (suc place) place places true refl other (record { clause = t.clause; others = t.others; at = t.at; found = t.found }) in
+        commits_as f h rules modules u c (suc place) q places [] (Some (move.Commits place)) is (omega arith) by
 
 -- ---- bodies
 

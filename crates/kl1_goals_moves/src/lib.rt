@@ -33,4 +33,4 @@ pub use predicates::or_none;
 pub use spelling::{Spelling, spell};
 pub use standing::standing_of;
 pub use substitute::{substitute_move, substitute_standing};
-pub use trial::Trial;
+pub use trial::{Judged, Trial};

@@ -113,7 +113,7 @@ fn failing<N: NameValue>(
     ensures fails { IfOk result (λ found. (f : N → List ℕ) → Reads N.built f → (cs : List Clause) → AreCompiled (map f predicate.entry.names.now) predicate.entry.clauses.now cs → FailsAs f store.now.held call cs found) }
 {
     trial.awaited.clear();
-    match choose(
+    match choose::<_, false>(
         store,
         predicate.names,
         predicate.clauses,

@@ -1,6 +1,6 @@
 // By which clause goals can step, and what they wait for.
 
-ghost use Rattle.std.specs.Prelude.{◌≡◌, ℕ, List, IfOk, OnOk};
+ghost use Rattle.std.specs.Prelude.{◌≡◌, ℕ, suc, true, List, Some, IfOk, OnOk};
 ghost use Rattle.kl1_model.specs.Module.{Module};
 ghost use Rattle.kl1_model.specs.Term.{Term};
 ghost use Rattle.kl1_text.specs.Reading.{Reads};
@@ -9,7 +9,7 @@ ghost use Rattle.kl1_clause.specs.Predicates.{AreSome};
 ghost use Rattle.kl1_match.specs.Waiting.{AreUnbound};
 ghost use Rattle.kl1_goals_moves.specs.Kinds.{IsKind, KindIn};
 ghost use Rattle.kl1_goals_moves.specs.Moves.{HasPredicate};
-ghost use Rattle.kl1_goals_moves.specs.Standing.{StandsAs};
+ghost use Rattle.kl1_goals_moves.specs.Standing.{StandsAs, CommitsWith};
 
 use crate::kind::Kind;
 use crate::look::Look;
@@ -25,9 +25,10 @@ use kl1_text::NameValue;
 use std::alloc::AllocError;
 
 /// The least clause by which a goal of a kind can step by the rules of its account, or nothing if it has to wait or is no goal. The
-/// trial gets the variables that it waits for; they are unbound.
+/// trial gets the variables that it waits for; they are unbound. If it is a call that can step by a clause, the scratch keeps the terms
+/// at the places of the head's variables, if these are kept.
 #[inline(always)]
-pub fn standing_of<N: NameValue>(
+pub fn standing_of<N: NameValue, const KEEP: bool>(
     store: &Store<N>,
     rules: Rules,
     kind: Kind<N>,
@@ -38,12 +39,14 @@ pub fn standing_of<N: NameValue>(
     requires predicate { AreSome predicate.names.now predicate.clauses.now }
     ensures unbound { OnOk result (AreUnbound store.now.held trial.new.awaited.items) }
     ensures remembers { OnOk result (Remembers N.built store.now.held trial.new.scratch.same) }
+    ensures commits { IfOk result (λ clause. (n : ℕ) → clause ≡ Some (suc n) → KEEP ≡ true → CommitsWith N.built rules store.now.held kind predicate.entry n trial.new.scratch.places.items) }
+    ensures rest { trial.new ≡ record trial.old { scratch = trial.new.scratch; guard = trial.new.guard; awaited = trial.new.awaited; text = trial.new.text } }
     ensures standing { IfOk result (λ clause. (f : N → List ℕ) → Reads N.built f → (modules : List Module) (t : Term) → IsKind f store.now.held t kind → HasPredicate f store.now.held modules kind predicate.entry → StandsAs rules modules t trial.new.awaited.items clause) }
 {
     trial.awaited.clear();
     store.forget(&mut trial.scratch.same);
     match kind {
-        Kind::Calls(call) => choose(
+        Kind::Calls(call) => choose::<_, KEEP>(
             store,
             predicate.names,
             predicate.clauses,

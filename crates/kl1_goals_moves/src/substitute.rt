@@ -51,6 +51,7 @@ pub fn substitute_standing<N: NameValue>(
 ) -> Result<Option<u64>, AllocError>
     requires { IsIn store.now.held term }
     ensures unbound { OnOk result (AreUnbound store.now.held trial.new.awaited.items) }
+    ensures rest { trial.new ≡ record trial.old { awaited = trial.new.awaited } }
     ensures standing { IfOk result (λ clause. (f : N → List ℕ) → Reads N.built f → SubstituteStands (term_of f store.now.held term) trial.new.awaited.items clause) }
 {
     trial.awaited.clear();

@@ -28,7 +28,6 @@ pub mod Stepped
 mod Stepping
 pub mod Plain
 mod PlainStays
-pub mod Bringing
+pub mod Brought
 pub mod Published
 pub mod Calm
-pub mod Words

@@ -76,10 +76,6 @@ with_goals shoen ps [] m = m
 with_goals shoen [] (x ∷ xs) m = m
 with_goals shoen (p ∷ ps) (x ∷ xs) m = with_goals shoen ps xs (with_goal (goal_at (suc m.counts.last_goal) shoen p (Reduces x)) m)
 
--- a machine that has counted these variables and structures
-abbrev pub counting : ℕ → ℕ → Machine → Machine
-counting variables nodes m = record m { counts = record m.counts { variables = variables; nodes = nodes } }
-
 -- one goal more is there, with the number after the last
 pub record Puts (shoen priority : ℕ) (task : Task CellName) (m n : Machine) : Type 0 where
   pub is : n ≡ with_goal (goal_at (suc m.counts.last_goal) shoen priority task) m

@@ -20,6 +20,7 @@ mod rescheduling;
 mod sending;
 mod starting;
 mod stepping;
+mod unifying;
 
 use crate::counts::Counts;
 pub use answering::Answer;

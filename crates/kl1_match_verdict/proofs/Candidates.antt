@@ -1,5 +1,5 @@
 -- Candidates by their sections.
-use Rattle.std.proofs.Common.{◌≡◌, ℕ, zero, suc, ◌+◌, ◌-◌, ◌<◌, ◌≤◌, ◌==◌, Bool, true, false, if◌then◌else◌, List, [], ◌∷◌, ◌++◌, length, map, drop, get_or, refl, sym, ap, ◌∙◌, arith, length-drop, drop-drop, get_or-drop}
+use Rattle.std.proofs.Common.{◌≡◌, ℕ, zero, suc, ◌+◌, ◌-◌, ◌<◌, ◌≤◌, ◌==◌, Bool, true, false, if◌then◌else◌, List, [], ◌∷◌, ◌++◌, length, map, drop, get_or, refl, sym, ap, ◌∙◌, subst, arith, length-drop, drop-drop, get_or-drop}
 use Rattle.std.specs.Prelude.{Option, Some, None}
 use Rattle.std.proofs.lemmas.Bool.{cond-true, cond-false, eq-eqb, ne_eqb, eqb-true, eqb-false}
 use Rattle.kl1_model.specs.declared.built_in.BuiltIn.{BuiltIn}
@@ -8,7 +8,7 @@ use Rattle.kl1_model.specs.Module.{Clause}
 use Rattle.kl1_model.specs.Match.{Answer, yes, no, wait, Candidate, candidate_by, is_no, places_of, verdict}
 use Rattle.kl1_model.specs.code.Sections.{candidates_within, candidates_from}
 use Rattle.kl1_model.specs.code.Outcome.{answer_in}
-use Rattle.kl1_model.proofs.LeastClause.{AreFrom, are_from, are_from_within}
+use Rattle.kl1_model.proofs.LeastClause.{AreFrom, are_from, are_from_within, first_number, all_no, least-chosen}
 use Rattle.kl1_model.proofs.VerdictAnswers.{verdicts_answer, places_in, candidate_in}
 use Rattle.kl1_text.specs.Reading.{Reads}
 use Rattle.kl1_store.specs.declared.cell.Cell.{Cell}
@@ -20,6 +20,7 @@ use Rattle.kl1_match.specs.declared.place.Place.{Place}
 use Rattle.kl1_match.specs.declared.verdict.Verdict.{Verdict}
 use Rattle.kl1_match.specs.declared.verdict.Verdict.TheVariants.{Accepts, Rejects, Suspends}
 use Rattle.kl1_match.specs.Verdicts.{arguments_of_goal, is_rejection, verdict_with_places, IsVerdict}
+use Rattle.kl1_match_verdict.specs.Choices.{IsChoice, without_clause}
 use Rattle.kl1_match_verdict.specs.Candidates.{section_at, IsRun, numbered, Takes, AllReject, OneDoesNot}
 use Rattle.kl1_match_verdict.proofs.Choosing.{there, as_many}
 
@@ -114,6 +115,63 @@ run_from j (suc k) n s (d ∷ ds) rest c ts e run is =
         ap (λ b. numbered j (if b then candidates_from (suc n) ds ts else candidates_within d.section n (d ∷ ds) ts)) r
         ∙ ap (λ x. numbered j (candidates_within x n (d ∷ ds) ts)) here
         ∙ run_within j (suc k) n s (d ∷ ds) rest c ts e run is
+
+-- ---- the first candidate
+
+next_first : (m n : ℕ) (c : Clause) (ps : List Replacement) (ks : List Candidate) (v : Answer) → n < m → first_number (candidate_by n c ps v ++ ks) ≡ Some m → first_number ks ≡ Some m
+next_first m n c ps ks yes lt e = let is : n ≡ m = cc in absurd (omega (arith, lt, is))
+next_first m n c ps ks no lt e = e
+next_first m n c ps ks wait lt e = e
+
+-- among the clauses of a section, it is that of the clause with its number
+first_within : (j k n s : ℕ) (cs rest : List Clause) (c : Clause) (ts : Terms) → drop k cs ≡ c ∷ rest → first_number (candidates_within s n cs ts) ≡ Some j → j ≡ n + k → numbered j (candidates_within s n cs ts) ≡ first_of (candidate_by j c (places_of c ts) (verdict c ts))
+first_within j k n s [] rest c ts e first is = absurd (cc)
+first_within j zero n s (d ∷ ds) rest c ts e first is = by (d.section == s) first
+  where
+    by : (b : Bool) → first_number (if b then candidate_by n d (places_of d ts) (verdict d ts) ++ candidates_within s (suc n) ds ts else []) ≡ Some j →
+        numbered j (if b then candidate_by n d (places_of d ts) (verdict d ts) ++ candidates_within s (suc n) ds ts else []) ≡ first_of (candidate_by j c (places_of c ts) (verdict c ts))
+    by true f =
+        at_front j n d (places_of d ts) (candidates_within s (suc n) ds ts) (verdict d ts) (omega (arith, is)) (are_from_within s (suc n) ds ts)
+        ∙ ap (λ x. first_of (candidate_by j x (places_of x ts) (verdict x ts))) (same_first e)
+    by false f = absurd (cc)
+first_within j (suc k) n s (d ∷ ds) rest c ts e first is = by (d.section == s) first (λ f. first_within j k (suc n) s ds rest c ts e f (omega (arith, is)))
+  where
+    by : (b : Bool) → first_number (if b then candidate_by n d (places_of d ts) (verdict d ts) ++ candidates_within s (suc n) ds ts else []) ≡ Some j →
+        (first_number (candidates_within s (suc n) ds ts) ≡ Some j → numbered j (candidates_within s (suc n) ds ts) ≡ first_of (candidate_by j c (places_of c ts) (verdict c ts))) →
+        numbered j (if b then candidate_by n d (places_of d ts) (verdict d ts) ++ candidates_within s (suc n) ds ts else []) ≡ first_of (candidate_by j c (places_of c ts) (verdict c ts))
+    by true f later =
+        let lt : n < j = omega (arith, is) in
+        behind_front j n d (places_of d ts) (candidates_within s (suc n) ds ts) (verdict d ts) lt ∙ later (next_first j n d (places_of d ts) (candidates_within s (suc n) ds ts) (verdict d ts) lt f)
+    by false f later = absurd (cc)
+
+-- among all clauses too
+first_from : (j k n : ℕ) (cs rest : List Clause) (c : Clause) (ts : Terms) → drop k cs ≡ c ∷ rest → first_number (candidates_from n cs ts) ≡ Some j → j ≡ n + k → numbered j (candidates_from n cs ts) ≡ first_of (candidate_by j c (places_of c ts) (verdict c ts))
+first_from j k n [] rest c ts e first is = absurd (cc)
+first_from j zero n (d ∷ ds) rest c ts e first is = by (is_no (verdict d ts)) refl first
+  where
+    by : (b : Bool) → is_no (verdict d ts) ≡ b → first_number (if b then candidates_from (suc n) ds ts else candidates_within d.section n (d ∷ ds) ts) ≡ Some j →
+        numbered j (if b then candidates_from (suc n) ds ts else candidates_within d.section n (d ∷ ds) ts) ≡ first_of (candidate_by j c (places_of c ts) (verdict c ts))
+    by true r f =
+        none_numbered j (suc n) (candidates_from (suc n) ds ts) (omega (arith, is)) (are_from (suc n) ds ts)
+        ∙ sym (nothing_by j d (places_of d ts) (verdict d ts) r)
+        ∙ ap (λ x. first_of (candidate_by j x (places_of x ts) (verdict x ts))) (same_first e)
+    by false r f = first_within j zero n d.section (d ∷ ds) rest c ts e f is
+first_from j (suc k) n (d ∷ ds) rest c ts e first is = by (is_no (verdict d ts)) first (λ f. first_from j k (suc n) ds rest c ts e f (omega (arith, is)))
+  where
+    by : (b : Bool) → first_number (if b then candidates_from (suc n) ds ts else candidates_within d.section n (d ∷ ds) ts) ≡ Some j →
+        (first_number (candidates_from (suc n) ds ts) ≡ Some j → numbered j (candidates_from (suc n) ds ts) ≡ first_of (candidate_by j c (places_of c ts) (verdict c ts))) →
+        numbered j (if b then candidates_from (suc n) ds ts else candidates_within d.section n (d ∷ ds) ts) ≡ first_of (candidate_by j c (places_of c ts) (verdict c ts))
+    by true f later = later f
+    by false f later = first_within j (suc k) n d.section (d ∷ ds) rest c ts e f is
+
+first_chosen : (b : Bool) (ks : List Candidate) (m : ℕ) → (if b then Some 0 else first_number ks) ≡ Some (suc m) → first_number ks ≡ Some (suc m)
+first_chosen true ks m e = absurd (cc)
+first_chosen false ks m e = e
+
+-- without a clause none is chosen
+pub none_chosen : (waiting : Option ℕ) (n : ℕ) → without_clause waiting ≡ Some (suc n) → ⊥
+none_chosen None n e = cc
+none_chosen (Some w) n e = cc
 
 -- after a clause of another section there is none
 section_ends : (j k e n s : ℕ) (cs : List Clause) (ts : Terms) → e ≤ k → e < length cs → (get_or (sections cs) e 0 ≡ s → ⊥) → j ≡ n + k → numbered j (candidates_within s n cs ts) ≡ None
@@ -227,6 +285,25 @@ module _ {N : Type 0} (built : BuiltIn → N) (names : List N) (clauses : List C
           found = found_there start place (drop (suc place) cs) t.clause le run l f reads cs a t.left ∙ ap first_of (candidate_in (suc place) t.clause ts (verdict_with_places f h places g.defined Accepts) g.verdict_is);
         };
   }
+
+  -- the clause that is chosen is one, if it accepts with these places
+  pub chosen_is_taken : (place n : ℕ) (x : CompiledClause) (places : List (Place N)) (before now next : List ℕ) → place < length clauses → place + 1 ≡ suc n → IsVerdict built names (get_or clauses place x) h goal places now next Accepts →
+      IsChoice built names clauses h goal before next (Some (place + 1)) → Takes built names clauses n h goal places true
+  chosen_is_taken place n x places before now next lt is v all = subst (λ k. Takes built names clauses k h goal places true) (omega (arith, is)) (record {
+    inside = λ e. v.inside;
+    taken = λ f reads cs a.
+        let ts = arguments_of_goal (term_of f h goal) in
+        let t = there (map f names) clauses cs place x a lt in
+        let g = v.gives f reads t.clause t.is in
+        let one : place + 1 ≡ suc place = omega arith in
+        let first = first_chosen (all_no cs ts) (candidates_from 1 cs ts) place (sym (least-chosen 1 cs ts) ∙ sym (all.chooses f reads cs a).clause ∙ ap (λ k. Some k) one) in
+        record {
+          clause = t.clause;
+          others = drop (suc place) cs;
+          at = t.left;
+          found = first_from (suc place) place 1 cs (drop (suc place) cs) t.clause ts t.left first (omega arith) ∙ ap first_of (candidate_in (suc place) t.clause ts (verdict_with_places f h places g.defined Accepts) g.verdict_is);
+        };
+  })
 
   pub it_is_not : (start place : ℕ) (x : CompiledClause) (places : List (Place N)) (before after : List ℕ) (given : Verdict) → start ≤ place → place < length clauses → IsRun clauses start place → AllReject built names clauses h goal start →
       IsVerdict built names (get_or clauses place x) h goal places before after given → (given ≡ Accepts → ⊥) → Takes built names clauses place h goal places false

@@ -1,8 +1,9 @@
 // The clause by which a goal can step, among those of its predicate.
 
-ghost use Rattle.std.specs.Prelude.{◌≡◌, ◌<◌, length, IfOk, OnOk, slice_index_or};
+ghost use Rattle.std.specs.Prelude.{◌≡◌, ◌<◌, ℕ, suc, true, length, Some, IfOk, OnOk, slice_index_or};
 ghost use Rattle.kl1_store.specs.Held.{IsIn};
 ghost use Rattle.kl1_store.specs.Remembers.{Remembers};
+ghost use Rattle.kl1_match_verdict.specs.Candidates.{Takes};
 ghost use Rattle.kl1_match_verdict.specs.Choices.{AreClauses, IsChoice, is_past, without_clause};
 
 use crate::verdicts::judge;
@@ -44,10 +45,10 @@ fn without_clause(waiting: Option<u64>) -> Option<u64>
 
 /// The least number of a clause that accepts a goal, from 1, or 0 if each rejects it or there is none, or nothing if
 /// none accepts and some wait: a clause that waits ends the search with its section. `awaited` gets the variables that the
-/// clauses before the one that accepts wait for, after those in it.
-/// If memory is refused, nothing is said of what it got.
+/// clauses before the one that accepts wait for, after those in it; the scratch keeps the terms at the places of the head's variables
+/// of the one that accepts, if these are kept. If memory is refused, nothing is said of what it got.
 #[inline(always)]
-pub fn choose<N: NameValue>(
+pub fn choose<N: NameValue, const KEEP: bool>(
     store: &Store<N>,
     names: &[N],
     clauses: &[CompiledClause],
@@ -57,6 +58,7 @@ pub fn choose<N: NameValue>(
 ) -> Result<Option<u64>, AllocError>
     requires clauses { AreClauses names.now clauses.now }
     requires goal { IsIn store.now.held goal }
+    ensures takes { IfOk result (λ o. (n : ℕ) → o ≡ Some (suc n) → KEEP ≡ true → Takes N.built names.now clauses.now n store.now.held goal scratch.new.places.items true) }
     ensures choice { IfOk result (IsChoice N.built names.now clauses.now store.now.held goal awaited.old.items awaited.new.items) }
     ensures remembers { OnOk result (Remembers N.built store.now.held scratch.new.same) }
 {
@@ -72,7 +74,7 @@ pub fn choose<N: NameValue>(
         if is_past(waiting, clause.section) {
             return Ok(None);
         }
-        match judge::<_, false>(
+        match judge::<_, KEEP>(
             store, names, clause, goal, behind, same, tests, places, awaited,
         )? {
             Verdict::Accepts => return Ok(Some(tried as u64 + 1)),

@@ -1,6 +1,6 @@
 mod Serving
+mod Judged
 pub mod Ready
 pub mod SettledStays
 mod Numbers
 pub mod Plans
-pub mod Words

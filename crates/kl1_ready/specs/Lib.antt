@@ -1,3 +1,4 @@
 pub mod Serving
 pub mod Ready
 pub mod Plans
+pub mod Judged

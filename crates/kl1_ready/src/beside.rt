@@ -73,7 +73,7 @@ fn clause_beside<C: CodeSource>(
 {
     let kind = kind_of_qualified(store, cell);
     let predicate = predicate_beside(modules, loaded, kind);
-    ready_or_suspend(store, modules.rules(), kind, predicate, trial, number)
+    ready_or_suspend::<false>(store, modules.rules(), kind, predicate, trial, number)
 }
 
 /// Like `ready_clause`, with one module more.

@@ -1,21 +1,25 @@
 // The clauses by which goals can step.
 
-ghost use Rattle.std.specs.Prelude.{◌≡◌, ◌||◌, ℕ, true, List, IfOk};
+ghost use Rattle.std.specs.Prelude.{◌≡◌, ◌||◌, ℕ, suc, true, List, Some, IfOk};
 ghost use Rattle.kl1_text.specs.declared.cell_name.CellName.{CellName};
 ghost use Rattle.kl1_store.specs.Held.{IsIn};
 ghost use Rattle.kl1_store.specs.Hooks.{HasGrown};
 ghost use Rattle.kl1_clause.specs.Predicates.{AreSome};
 ghost use Rattle.kl1_goals_moves.specs.Kinds.{KindIn};
+ghost use Rattle.kl1_goals_moves.specs.Standing.{CommitsWith};
 ghost use Rattle.kl1_goals.specs.declared.task.Task.TheVariants.{Monitor, Reduces, Substitutes};
 ghost use Rattle.kl1_goals.specs.Lists.{is_monitor};
 ghost use Rattle.kl1_shoen.specs.Shoens.{is_enabled_at};
 ghost use Rattle.kl1_shoen_paths.specs.declared.shoen.Shoen.{Shoen};
 ghost use Rattle.kl1_codes.specs.Shelves.{Program};
+ghost use Rattle.kl1_user_effects.specs.Fitting.{built};
 ghost use Rattle.kl1_user_effects.specs.Kept.{IsTaskIn, AreShoensIn};
 ghost use Rattle.kl1_ready.specs.Serving.{IsServed};
+ghost use Rattle.kl1_ready.specs.Judged.{KeepsJudged};
 ghost use Rattle.kl1_ready.specs.Ready.{IsReadyBy, IsHeardAt, IsReadyAt};
 
 use crate::call_cache::{CallCache, predicate_for};
+use crate::judged::keep;
 use kl1_clause::Predicate;
 use kl1_codes::CodeSource;
 use kl1_goals::{Goal, Rules, Task};
@@ -30,7 +34,7 @@ use std::alloc::AllocError;
 /// The clause by which goal `number`, which is of a kind, can step by these rules and the clauses of its predicate, or none. The number is
 /// hung on each variable that the goal waits for then; if memory is refused, it may hang on some of them.
 #[inline(always)]
-pub(crate) fn ready_or_suspend(
+pub(crate) fn ready_or_suspend<const KEEP: bool>(
     store: &mut Store<CellName>,
     rules: Rules,
     kind: Kind<CellName>,
@@ -40,11 +44,13 @@ pub(crate) fn ready_or_suspend(
 ) -> Result<Option<u64>, AllocError>
     requires kind { KindIn store.old.held kind }
     requires predicate { AreSome predicate.names.now predicate.clauses.now }
+    ensures commits { IfOk result (λ clause. (n : ℕ) → clause ≡ Some (suc n) → KEEP ≡ true → CommitsWith built rules store.old.held kind predicate.entry n trial.new.scratch.places.items) }
+    ensures rest { trial.new ≡ record trial.old { scratch = trial.new.scratch; guard = trial.new.guard; awaited = trial.new.awaited; text = trial.new.text } }
     ensures ready { IfOk result (λ clause. IsReadyBy rules store.old.held store.new.hooks kind predicate.entry number clause) }
     ensures held { store.new.held ≡ store.old.held }
     ensures grown { HasGrown store.old store.new }
 {
-    let clause = standing_of(store, rules, kind, predicate, trial)?;
+    let clause = standing_of::<_, KEEP>(store, rules, kind, predicate, trial)?;
     if !trial.awaited.is_empty() {
         store.keep_rests(&trial.scratch.same)?;
         hang_on(store, trial.awaited.as_slice(), number)?;
@@ -52,7 +58,7 @@ pub(crate) fn ready_or_suspend(
     Ok(clause)
 }
 
-/// The clause by which goal `number`, which is for a cell, can step, or none.
+/// The clause by which goal `number`, which is for a cell, can step, or none. The trial keeps it if it is the first to be judged that can.
 #[inline(always)]
 fn clause_of_goal<C: CodeSource>(
     store: &mut Store<CellName>,
@@ -60,16 +66,24 @@ fn clause_of_goal<C: CodeSource>(
     trial: &mut Trial<CellName>,
     number: u64,
     cell: Qualified<CellName>,
+    keeps: bool,
 ) -> Result<Option<u64>, AllocError>
     requires cell { IsIn store.old.held cell.cell }
     requires served { IsServed calls.now.modules.now.loaded calls.now.known calls.now.predicate }
+    ensures judged { KeepsJudged calls.now.modules.now store.old.held trial.old → KeepsJudged calls.now.modules.now store.old.held trial.new }
     ensures ready { IfOk result (λ clause. (shoens : List (Shoen CellName)) (shoen : ℕ) → IsReadyAt calls.now.modules.now shoens store.old.held store.new.hooks number shoen (Reduces cell) clause) }
     ensures held { store.new.held ≡ store.old.held }
     ensures grown { HasGrown store.old store.new }
 {
     let kind = kind_of_qualified(store, cell);
     let predicate = predicate_for(calls, kind);
-    ready_or_suspend(store, calls.modules.rules(), kind, predicate, trial, number)
+    let rules = calls.modules.rules();
+    if !keeps {
+        return ready_or_suspend::<false>(store, rules, kind, predicate, trial, number);
+    }
+    let clause = ready_or_suspend::<true>(store, rules, kind, predicate, trial, number)?;
+    keep(trial, cell, clause);
+    Ok(clause)
 }
 
 /// The clause by which monitor `number` can step that reads this control stream: 0, or none as long as it waits. The number is
@@ -124,6 +138,7 @@ pub(crate) fn clause_of_substitute(
     term: Cell<CellName>,
 ) -> Result<Option<u64>, AllocError>
     requires term { IsIn store.old.held term }
+    ensures rest { trial.new ≡ record trial.old { awaited = trial.new.awaited } }
     ensures ready { IfOk result (λ clause. (program : Program) (shoens : List (Shoen CellName)) (shoen : ℕ) → IsReadyAt program shoens store.old.held store.new.hooks number shoen (Substitutes term) clause) }
     ensures held { store.new.held ≡ store.old.held }
     ensures grown { HasGrown store.old store.new }
@@ -143,17 +158,19 @@ pub fn ready_clause<C: CodeSource>(
     calls: &CallCache<'_, '_, C>,
     trial: &mut Trial<CellName>,
     goal: &Goal<CellName>,
+    keeps: bool,
 ) -> Result<Option<u64>, AllocError>
     requires task { IsTaskIn store.old.held goal.now.task }
     requires shoens { AreShoensIn store.old.held shoens.now.shoens }
     requires served { IsServed calls.now.modules.now.loaded calls.now.known calls.now.predicate }
+    ensures judged { KeepsJudged calls.now.modules.now store.old.held trial.old → KeepsJudged calls.now.modules.now store.old.held trial.new }
     ensures ready { IfOk result (λ clause. IsReadyAt calls.now.modules.now shoens.now.shoens store.old.held store.new.hooks goal.now.number goal.now.shoen goal.now.task clause) }
     ensures held { store.new.held ≡ store.old.held }
     ensures grown { HasGrown store.old store.new }
 {
     match goal.task {
         Task::Monitor => clause_of_monitor(store, shoens, goal.number, goal.shoen),
-        Task::Reduces(cell) => clause_of_goal(store, calls, trial, goal.number, cell),
+        Task::Reduces(cell) => clause_of_goal(store, calls, trial, goal.number, cell, keeps),
         Task::Substitutes(term) => clause_of_substitute(store, trial, goal.number, term),
     }
 }

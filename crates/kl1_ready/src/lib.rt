@@ -4,6 +4,7 @@
 mod beside;
 mod call_cache;
 mod clauses;
+mod judged;
 mod looking;
 mod planning;
 

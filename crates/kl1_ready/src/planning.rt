@@ -1,17 +1,20 @@
 // What goals are to do.
 
-ghost use Rattle.std.specs.Prelude.{◌≡◌, ℕ, List, IfOk, MatchOption};
+ghost use Rattle.std.specs.Prelude.{◌≡◌, ℕ, List, IfOk, OnOk, IfSome, MatchOption};
 ghost use Rattle.kl1_text.specs.declared.cell_name.CellName.{CellName};
-ghost use Rattle.kl1_store.specs.Held.{IsIn};
+ghost use Rattle.kl1_store.specs.Held.{Held, IsIn};
 ghost use Rattle.kl1_match.specs.declared.place.Place.{Place};
 ghost use Rattle.kl1_goals_moves.specs.Moves.{taken_places};
+ghost use Rattle.kl1_goals.specs.declared.goal.Goal.{Goal};
 ghost use Rattle.kl1_goals.specs.declared.task.Task.TheVariants.{Monitor, Reduces, Substitutes};
 ghost use Rattle.kl1_codes.specs.Shelves.{Program};
 ghost use Rattle.kl1_user_effects.specs.Kept.{IsTaskIn, AreShoensIn};
 ghost use Rattle.kl1_user_effects.specs.Works.{Made};
-ghost use Rattle.kl1_ready.specs.Plans.{is_read, IsPlan, DoesNothing};
+ghost use Rattle.kl1_ready.specs.Judged.{KeepsJudged};
+ghost use Rattle.kl1_ready.specs.Plans.{is_read, planned, IsPlan, DoesNothing};
 
 use crate::call_cache::predicate_of;
+use crate::judged::judged_place;
 use kl1_clause::Predicate;
 use kl1_codes::{CodeSource, CodedModules};
 use kl1_goals::{Goal, Task};
@@ -75,6 +78,49 @@ fn plan_reading<'a>(
     Some(Plan::Reads(control))
 }
 
+/// The plan to make a move, if one was found.
+fn planned<'a>(
+    cell: Qualified<CellName>,
+    kind: Kind<CellName>,
+    predicate: Predicate<'a, CellName>,
+    made: Option<Move<CellName>>,
+) -> Option<Plan<'a>>
+    ensures { result ≡ planned cell kind predicate.entry made }
+{
+    let Some(made) = made else {
+        return None;
+    };
+    Some(Plan::Moves(PlannedMove {
+        cell,
+        kind,
+        predicate,
+        made,
+    }))
+}
+
+/// The move of a call by a clause, if that is known since it was judged.
+#[inline(always)]
+fn known_move(
+    trial: &mut Trial<CellName>,
+    cell: Qualified<CellName>,
+    kind: Kind<CellName>,
+    predicate: Predicate<'_, CellName>,
+    clause: u64,
+) -> Option<Move<CellName>>
+    ensures known { (program : Program) (h : Held CellName) → KeepsJudged program h trial.old → IfSome result (IsKnown program h cell kind predicate.entry clause (taken_places trial.new)) }
+    ensures rest { trial.new ≡ record trial.old { is_in_order = trial.new.is_in_order } }
+{
+    let Kind::Calls(_) = kind else {
+        return None;
+    };
+    let place = judged_place(trial, cell, clause)? as usize;
+    if place >= predicate.clauses.len() {
+        return None;
+    }
+    trial.is_in_order = false;
+    Some(Move::Commits(place))
+}
+
 /// What a goal for a cell is to do by a clause of its predicate; nothing if it can do nothing by it.
 fn plan_move<'a, C: CodeSource>(
     store: &Store<CellName>,
@@ -86,19 +132,19 @@ fn plan_move<'a, C: CodeSource>(
 ) -> Result<Option<Plan<'a>>, AllocError>
     requires reduces { goal.task ≡ Reduces cell }
     requires cell { IsIn store.now.held cell.cell }
-    ensures { IfOk result (λ o. (w : Made) → w.rules ≡ modules.now.rules → MatchOption o (DoesNothing modules.now store.now.held w goal clause) (IsPlan modules.now store.now.held w goal clause (taken_places trial.new) trial.new.text)) }
+    requires judged { KeepsJudged modules.now store.now.held trial.old }
+    ensures judged { OnOk result (KeepsJudged modules.now store.now.held trial.new) }
+    ensures plan { IfOk result (λ o. (w : Made) → w.rules ≡ modules.now.rules → MatchOption o (DoesNothing modules.now store.now.held w goal clause) (IsPlan modules.now store.now.held w goal clause (taken_places trial.new) trial.new.text)) }
 {
     let kind = kind_of_qualified(store, cell);
     let predicate = predicate_of(modules, kind);
-    let Some(made) = move_of(store, modules.rules(), kind, predicate, clause, trial)? else {
-        return Ok(None);
-    };
-    Ok(Some(Plan::Moves(PlannedMove {
-        cell,
-        kind,
-        predicate,
-        made,
-    })))
+    if let Some(made) = known_move(trial, cell, kind, predicate, clause) {
+        return Ok(planned(cell, kind, predicate, Some(made)));
+    }
+    let made = move_of(store, modules.rules(), kind, predicate, clause, trial)?;
+    // The places of the goal that was judged may be gone.
+    trial.judged = None;
+    Ok(planned(cell, kind, predicate, made))
 }
 
 /// What a substitute that waits for a cell is to do by a clause; nothing if it waits still.
@@ -113,20 +159,13 @@ fn plan_substitute<'a, C: CodeSource>(
     requires cell { IsIn store.now.held term }
     ensures { (w : Made) (places : List (Place CellName)) (text : List ℕ) → MatchOption result (DoesNothing modules.now store.now.held w goal clause) (IsPlan modules.now store.now.held w goal clause places text) }
 {
-    let Some(made) = substitute_move(store, term, clause) else {
-        return None;
-    };
     let cell = Qualified {
         module_name: None,
         cell: term,
     };
     let predicate = predicate_of(modules, Kind::Nothing);
-    Some(Plan::Moves(PlannedMove {
-        cell,
-        kind: Kind::Nothing,
-        predicate,
-        made,
-    }))
+    let made = substitute_move(store, term, clause);
+    planned(cell, Kind::Nothing, predicate, made)
 }
 
 /// What a goal is to do by a clause; nothing if it can do nothing by it.
@@ -140,7 +179,9 @@ pub fn plan_of<'a, C: CodeSource>(
 ) -> Result<Option<Plan<'a>>, AllocError>
     requires task { IsTaskIn store.now.held goal.task }
     requires shoens { AreShoensIn store.now.held shoens.now.shoens }
-    ensures { IfOk result (λ o. (w : Made) → w.rules ≡ modules.now.rules → w.shoens ≡ shoens.now.shoens → MatchOption o (DoesNothing modules.now store.now.held w goal clause) (IsPlan modules.now store.now.held w goal clause (taken_places trial.new) trial.new.text)) }
+    requires judged { KeepsJudged modules.now store.now.held trial.old }
+    ensures judged { OnOk result (KeepsJudged modules.now store.now.held trial.new) }
+    ensures plan { IfOk result (λ o. (w : Made) → w.rules ≡ modules.now.rules → w.shoens ≡ shoens.now.shoens → MatchOption o (DoesNothing modules.now store.now.held w goal clause) (IsPlan modules.now store.now.held w goal clause (taken_places trial.new) trial.new.text)) }
 {
     match goal.task {
         Task::Monitor => Ok(plan_reading(store, shoens, goal, clause)),

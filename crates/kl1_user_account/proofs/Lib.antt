@@ -26,4 +26,5 @@ mod Messages
 mod Bringing
 mod Loaded
 mod Started
-pub mod Words
+mod Answered
+pub mod NameRows

@@ -69,9 +69,14 @@ pub(crate) fn code_of_answer(
         return Ok(Answering::Refused(Refusal::Ended));
     }
     let code = GoalCode::compile(alloc, goal)?;
-    let has_room = counted.has_room_to_answer(goal.highest(), structures_of(goal));
-    if let Some(refusal) = counted.refusal_of(&machine.names, code.names(), has_room) {
-        return Ok(Answering::Refused(refusal));
+    if machine.names.are_too_many(code.names()) {
+        return Ok(Answering::Refused(Refusal::Names));
+    }
+    if !counted.has_room_to_answer(goal.highest(), structures_of(goal)) {
+        return Ok(Answering::Refused(Refusal::Limit));
+    }
+    if counted.is_full() {
+        return Ok(Answering::Refused(Refusal::Journal));
     }
     match unanswered_at(&machine.store, origin.reports, report) {
         None => Ok(Answering::Refused(Refusal::Answer)),

@@ -64,9 +64,14 @@ pub(crate) fn code_of(
         return Ok(Starting::Refused(Refusal::Syntax));
     }
     let code = GoalCode::compile(alloc, goal)?;
-    let has_room = counted.has_room_to_start(goal.highest(), code.nodes());
-    match counted.refusal_of(names, code.names(), has_room) {
-        Some(refusal) => Ok(Starting::Refused(refusal)),
-        None => Ok(Starting::Coded(code)),
+    if names.are_too_many(code.names()) {
+        return Ok(Starting::Refused(Refusal::Names));
     }
+    if !counted.has_room_to_start(goal.highest(), code.nodes()) {
+        return Ok(Starting::Refused(Refusal::Limit));
+    }
+    if counted.is_full() {
+        return Ok(Starting::Refused(Refusal::Journal));
+    }
+    Ok(Starting::Coded(code))
 }

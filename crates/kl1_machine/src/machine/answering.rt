@@ -1,11 +1,16 @@
 // Answers from the console: goals that come in the place of variables for which substitutes wait.
 
-ghost use Rattle.std.specs.Prelude.{OnOk};
+ghost use Rattle.std.specs.Prelude.{◌≡◌, ◌+◌, ◌<◌, ◌^◌, [], true, length, IsTrue, OnOk};
 ghost use Rattle.kl1_model.specs.Answering.{answered};
+ghost use Rattle.kl1_model.specs.Goal.{is_goal};
+ghost use Rattle.kl1_model.specs.Meaning.{highest, is_numbered};
+ghost use Rattle.kl1_model.specs.Nodes.{structures_of};
+ghost use Rattle.kl1_model.specs.State.{names_of, with_names};
+ghost use Rattle.kl1_store.specs.Unbound.{IsUnbound};
 ghost use Rattle.kl1_machine.specs.declared.machine.Machine.{Machine};
 ghost use Rattle.kl1_machine.specs.Machines.{IsMachine, Keeps};
-ghost use Rattle.kl1_machine.specs.Since.{Since, StillSince};
-ghost use Rattle.kl1_machine.specs.Bringing.{CanAnswer, Brings};
+ghost use Rattle.kl1_machine.specs.Since.{Since};
+ghost use Rattle.kl1_machine.specs.Bringing.{Brings};
 
 use crate::machine::Machine;
 use kl1_clause::GoalCode;
@@ -33,18 +38,21 @@ impl Machine {
         numbers: &[CellName],
     ) -> Result<(), AllocError>
         requires machine { IsMachine self.old }
-        requires can { CanAnswer self.old.store.held self.old.counts.variables self.old.counts.nodes numbers.now answer.now }
+        requires goal { is_goal answer.now.code.now ≡ true }
+        requires numbered { IsTrue (is_numbered answer.now.code.now) }
+        requires variables { answer.now.variables ≡ highest answer.now.code.now }
+        requires nodes { answer.now.nodes ≡ structures_of answer.now.code.now }
+        requires numbers { length numbers.now ≡ length (with_names [] (names_of answer.now.code.now)) }
+        requires unbound { IsUnbound self.old.store.held answer.now.variable }
+        requires few { self.old.counts.variables + answer.now.variables < 2 ^ 64 }
+        requires small { self.old.counts.nodes + answer.now.nodes < 2 ^ 64 }
         ensures ok { OnOk result (Brings (answered answer.now.variable answer.now.code.now) answer.now.code.now numbers.now self.old self.new) }
-        ensures since { (b : Machine) → Since b self.old → StillSince result b self.new }
+        ensures since { (b : Machine) → OnOk result (Since b self.old → Since b self.new) }
+        ensures keeps { Keeps self.old self.new }
     {
-        let cell = self.build_goal(
-            scratch,
-            answer.code,
-            answer.variables,
-            numbers,
-            answer.variables,
-            answer.nodes,
-        )?;
+        self.counts.variables += answer.variables;
+        self.counts.nodes += answer.nodes;
+        let cell = self.build_goal(scratch, answer.code, answer.variables, numbers)?;
         let _unified = self
             .store
             .unify_cells(Cell::Variable(answer.variable), cell)?;

@@ -3,7 +3,7 @@
 ghost use Rattle.std.specs.Prelude.{OnOk};
 ghost use Rattle.kl1_machine.specs.declared.machine.Machine.{Machine};
 ghost use Rattle.kl1_machine.specs.Machines.{IsMachine, IsBegun, Keeps};
-ghost use Rattle.kl1_machine.specs.Since.{Since, StillSince};
+ghost use Rattle.kl1_machine.specs.Since.{Since};
 ghost use Rattle.kl1_machine.specs.Rested.{IsRested};
 ghost use Rattle.kl1_machine.specs.Bringing.{goal_of, change_of, CanBring, Brings};
 
@@ -35,7 +35,8 @@ impl Machine {
         requires machine { IsMachine self.old }
         requires can { CanBring self.old.store.held self.old.counts.variables self.old.counts.nodes numbers.now brought.now }
         ensures ok { OnOk result (Brings (change_of brought.now) (goal_of brought.now) numbers.now self.old self.new) }
-        ensures since { (b : Machine) → Since b self.old → StillSince result b self.new }
+        ensures since { (b : Machine) → OnOk result (Since b self.old → Since b self.new) }
+        ensures keeps { Keeps self.old self.new }
     {
         match brought {
             Brought::Starts(start) => self.start(scratch, start, numbers),

@@ -9,7 +9,7 @@ ghost use Rattle.kl1_user_effects.specs.Fitting.{Reading};
 ghost use Rattle.kl1_user_effects.specs.Kept.{IsOwned, IsShoenIn};
 ghost use Rattle.kl1_machine.specs.declared.machine.Machine.{Machine};
 ghost use Rattle.kl1_machine.specs.Machines.{IsMachine, Keeps};
-ghost use Rattle.kl1_machine.specs.Since.{Since, StillSince};
+ghost use Rattle.kl1_machine.specs.Since.{Since};
 ghost use Rattle.kl1_machine.specs.Moving.{JoinsAs, OpensAs, OpensChild};
 ghost use Rattle.kl1_machine.specs.Plain.{IsPlain, IsPlainShoen, ArePlain};
 
@@ -33,8 +33,9 @@ impl Machine {
         requires shoen { IsShoenIn self.old.store.held shoen }
         requires goal { IsIn self.old.store.held goal }
         ensures ok { OnOk result (JoinsAs shoen goal self.old self.new) }
-        ensures plain { (f g : Reading) → IsPlainShoen f g shoen → IsPlain f g goal → ArePlain f g self.old → OnOk result (ArePlain f g self.new) }
-        ensures since { (b : Machine) → Since b self.old → StillSince result b self.new }
+        ensures plain { (f g : Reading) → IsPlainShoen f g shoen → IsPlain f g goal → OnOk result (ArePlain f g self.old → ArePlain f g self.new) }
+        ensures since { (b : Machine) → OnOk result (Since b self.old → Since b self.new) }
+        ensures keeps { Keeps self.old self.new }
     {
         self.open(shoen)?;
         self.put(shoen.number, MONITOR_PRIORITY, Task::Monitor)?;
@@ -58,8 +59,9 @@ impl Machine {
         requires shoen { IsShoenIn self.old.store.held shoen }
         requires goal { IsIn self.old.store.held goal }
         ensures ok { OnOk result (OpensAs shoen goal self.old self.new) }
-        ensures plain { (f g : Reading) → IsPlainShoen f g shoen → IsPlain f g goal → ArePlain f g self.old → OnOk result (ArePlain f g self.new) }
-        ensures since { (b : Machine) → Since b self.old → StillSince result b self.new }
+        ensures plain { (f g : Reading) → IsPlainShoen f g shoen → IsPlain f g goal → OnOk result (ArePlain f g self.old → ArePlain f g self.new) }
+        ensures since { (b : Machine) → OnOk result (Since b self.old → Since b self.new) }
+        ensures keeps { Keeps self.old self.new }
     {
         self.join(shoen, goal)?;
         self.report_name(shoen.number, BuiltIn::Started)?;
@@ -92,7 +94,8 @@ impl Machine {
         requires owned { IsOwned (length self.old.shoens.shoens) goal }
         requires level { goal.priority ≤ MONITOR_PRIORITY }
         ensures ok { OnOk result (OpensChild structure goal cell self.old self.new) }
-        ensures since { (b : Machine) → Since b self.old → StillSince result b self.new }
+        ensures since { (b : Machine) → OnOk result (Since b self.old → Since b self.new) }
+        ensures keeps { Keeps self.old self.new }
     {
         if !self.may_open(goal.shoen) {
             return self.raise(goal, BuiltIn::Exhaustion, cell);

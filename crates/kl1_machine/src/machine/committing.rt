@@ -14,7 +14,7 @@ ghost use Rattle.kl1_user_effects.specs.Kept.{IsOwned};
 ghost use Rattle.kl1_user_effects.specs.Moving.{priorities_by};
 ghost use Rattle.kl1_machine.specs.declared.machine.Machine.{Machine};
 ghost use Rattle.kl1_machine.specs.Machines.{IsMachine, Keeps};
-ghost use Rattle.kl1_machine.specs.Since.{Since, StillSince};
+ghost use Rattle.kl1_machine.specs.Since.{Since};
 ghost use Rattle.kl1_machine.specs.Effects.{Commits, with_goals};
 
 use crate::machine::Machine;
@@ -56,7 +56,8 @@ impl Machine {
         requires cells { AreQualifiedIn self.old.store.held cells.now }
         ensures ok { OnOk result (self.new ≡ with_goals shoen.now.number (priorities_by (Some shoen.now) own priorities.now) cells.now self.old) }
         ensures machine { OnOk result (IsMachine self.new) }
-        ensures since { (b : Machine) → Since b self.old → StillSince result b self.new }
+        ensures since { (b : Machine) → OnOk result (Since b self.old → Since b self.new) }
+        ensures keeps { Keeps self.old self.new }
     {
         let mut left = cells;
         let mut named = priorities;
@@ -91,7 +92,8 @@ impl Machine {
         requires owned { IsOwned (length self.old.shoens.shoens) goal }
         requires level { goal.priority ≤ MONITOR_PRIORITY }
         ensures ok { OnOk result (Commits (record { predicate = predicate.entry; place = place; places = taken_places trial.old }) goal cell self.old self.new) }
-        ensures since { (b : Machine) → Since b self.old → StillSince result b self.new }
+        ensures since { (b : Machine) → OnOk result (Since b self.old → Since b self.new) }
+        ensures keeps { Keeps self.old self.new }
     {
         let needs = needs_of(predicate, place);
         if !self.has_room(needs) {

@@ -12,6 +12,7 @@ ghost use Rattle.kl1_machine.specs.Rested.{IsRested};
 ghost use Rattle.kl1_machine.specs.Naming.{CanPublish};
 ghost use Rattle.kl1_user_effects.specs.Settled.{AreEnabled};
 ghost use Rattle.kl1_codes.specs.Shelves.{Program};
+ghost use Rattle.kl1_ready.specs.Judged.{KeepsJudged};
 ghost use Rattle.kl1_ready.specs.Plans.{ReadsBy, IsRunnable, MovesBy};
 ghost use Rattle.kl1_machine.specs.Reducing.{IsSteppable, ReadsAlike, Refuses, Reduces};
 
@@ -47,6 +48,76 @@ impl Machine {
         Ok(goal)
     }
 
+    /// A monitor reads what stands before it, with what comes after it. An event has begun.
+    fn run_reading<C: CodeSource>(
+        &mut self,
+        modules: &CodedModules<'_, C>,
+        trial: &mut Trial<CellName>,
+        scan: &mut PathScan,
+        goal: Goal<CellName>,
+        control: Control<CellName>,
+    ) -> Result<(), AllocError>
+        requires begun { IsBegun self.old }
+        requires rested { IsRested modules.now self.old }
+        requires small { AreSmall self.old.names.names }
+        requires room { 0 < self.old.names.room }
+        requires there { find (has_number goal.number) self.old.goals.goals ≡ Some goal }
+        requires monitor { goal.task ≡ Monitor }
+        requires inside { ControlIn self.old.store.held control }
+        ensures ok { (clause : ℕ) → IsSteppable self.old.goals.goals goal.number clause goal → ReadsBy modules.now self.old.store.held (made self.old) goal clause control → OnOk result (Reduces modules.now goal.number clause self.old self.new) }
+        ensures rested { OnOk result (IsRested modules.now self.new × CanPublish self.new) }
+        ensures charged { OnOk result (length self.new.shoens.work ≤ length self.old.shoens.work + 1) }
+        ensures keeps { Keeps self.old self.new }
+    {
+        // Only for the proof: no shoen has two monitors.
+        let _single = self.goals.shoens();
+        self.read(scan, goal.number, goal.shoen, control)?;
+        self.reschedule_anew(modules, trial)
+    }
+
+    /// A goal makes a move, with what comes after it. An event has begun, and there is room for a name.
+    fn run_moving<C: CodeSource>(
+        &mut self,
+        modules: &CodedModules<'_, C>,
+        trial: &mut Trial<CellName>,
+        scan: &mut PathScan,
+        cells: &mut Vec<Qualified<CellName>>,
+        goal: Goal<CellName>,
+        planned: PlannedMove<'_>,
+    ) -> Result<(), AllocError>
+        requires begun { IsBegun self.old }
+        requires rested { IsRested modules.now self.old }
+        requires small { AreSmall self.old.names.names }
+        requires alike { ReadsAlike self.old }
+        requires room { 0 < self.old.names.room }
+        requires few { length self.old.shoens.work + 1 < 2 ^ 63 }
+        requires there { find (has_number goal.number) self.old.goals.goals ≡ Some goal }
+        requires enabled { goal.is_enabled ≡ true }
+        requires level { goal.priority ≤ MONITOR_PRIORITY }
+        requires runnable { IsRunnable modules.now self.old.store.held goal (taken_places trial.old) trial.old.text planned }
+        ensures ok { (clause : ℕ) → IsSteppable self.old.goals.goals goal.number clause goal → MovesBy modules.now self.old.store.held (made self.old) goal clause (taken_places trial.old) trial.old.text planned.entry → OnOk result (Reduces modules.now goal.number clause self.old self.new) }
+        ensures rested { OnOk result (IsRested modules.now self.new × CanPublish self.new) }
+        ensures charged { OnOk result (length self.new.shoens.work ≤ length self.old.shoens.work + 1) }
+        ensures keeps { Keeps self.old self.new }
+    {
+        self.remove(goal.number)?;
+        self.step_goal(
+            scan,
+            planned.predicate,
+            planned.made,
+            trial,
+            cells,
+            goal,
+            planned.cell,
+        )?;
+        let calls = CallCache {
+            modules,
+            known: planned.kind,
+            predicate: planned.predicate,
+        };
+        self.reschedule(&calls, trial, goal.shoen)
+    }
+
     /// Does the reduction of goal `number` by clause `clause`, for an account whose journal may be full, or says why it is refused. An
     /// event has begun, and there is room for a name.
     pub fn reduce<C: CodeSource>(
@@ -65,10 +136,12 @@ impl Machine {
         requires alike { ReadsAlike self.old }
         requires room { 0 < self.old.names.room }
         requires few { length self.old.shoens.work + 1 < 2 ^ 63 }
+        requires judged { KeepsJudged modules.now self.old.store.held trial.old }
         ensures ok { IfOk result (λ o. MatchOption o (Reduces modules.now number clause self.old self.new) (λ r. Refuses modules.now is_full number clause self.old r × (self.new ≡ self.old))) }
         ensures rested { IfOk result (λ o. o ≡ None → IsRested modules.now self.new × CanPublish self.new) }
         ensures room { IfOk result (λ o. o ≡ None → is_full ≡ false) }
         ensures charged { OnOk result (length self.new.shoens.work ≤ length self.old.shoens.work + 1) }
+        ensures judged { OnOk result (KeepsJudged modules.now self.new.store.held trial.new) }
         ensures keeps { Keeps self.old self.new }
     {
         let goal = match self.steppable(number, clause) {
@@ -83,23 +156,11 @@ impl Machine {
         }
         match plan {
             Plan::Reads(control) => {
-                // Only for the proof: no shoen has two monitors.
-                let _single = self.goals.shoens();
-                self.read(scan, number, goal.shoen, control)?;
-                self.reschedule_anew(modules, trial)?;
+                self.run_reading(modules, trial, scan, goal, control)?;
                 Ok(None)
             }
             Plan::Moves(planned) => {
-                self.remove(goal.number)?;
-                let predicate = planned.predicate;
-                let (made, cell) = (planned.made, planned.cell);
-                self.step_goal(scan, predicate, made, trial, cells, goal, cell)?;
-                let calls = CallCache {
-                    modules,
-                    known: planned.kind,
-                    predicate,
-                };
-                self.reschedule(&calls, trial, goal.shoen)?;
+                self.run_moving(modules, trial, scan, cells, goal, planned)?;
                 Ok(None)
             }
         }

@@ -9,6 +9,7 @@ ghost use Rattle.kl1_machine.specs.Machines.{IsMachine, IsBegun, Keeps};
 ghost use Rattle.kl1_machine.specs.Since.{Since};
 ghost use Rattle.kl1_machine.specs.Rested.{IsRested};
 ghost use Rattle.kl1_ready.specs.Serving.{IsServed};
+ghost use Rattle.kl1_ready.specs.Judged.{KeepsJudged};
 ghost use Rattle.kl1_machine.specs.Rescheduling.{Wakes, Schedules, Shifts, all_told, Reschedules, LetsStill};
 
 use crate::machine::Machine;
@@ -43,12 +44,14 @@ impl Machine {
         requires machine { IsMachine self.old }
         requires served { IsServed calls.now.modules.now.loaded calls.now.known calls.now.predicate }
         ensures ok { OnOk result (Wakes calls.now.modules.now (number ∷ []) self.old self.new) }
-        ensures keeps { (b : Machine) → Keeps b self.old → Keeps b self.new }
+        ensures judged { KeepsJudged calls.now.modules.now self.old.store.held trial.old → KeepsJudged calls.now.modules.now self.old.store.held trial.new }
+        ensures keeps { Keeps self.old self.new }
     {
         let Some(goal) = self.goals.lend(number) else {
             return Ok(());
         };
-        let clause = ready_clause(&mut self.store, &self.shoens, calls, trial, goal)?;
+        let keeps = !self.goals.is_any_ready();
+        let clause = ready_clause(&mut self.store, &self.shoens, calls, trial, goal, keeps)?;
         self.goals.set_standing(number, clause)
     }
 
@@ -61,7 +64,8 @@ impl Machine {
         requires machine { IsMachine self.old }
         requires served { IsServed calls.now.modules.now.loaded calls.now.known calls.now.predicate }
         ensures ok { OnOk result (Wakes calls.now.modules.now self.old.told.items self.old self.new) }
-        ensures keeps { (b : Machine) → Keeps b self.old → Keeps b self.new }
+        ensures judged { KeepsJudged calls.now.modules.now self.old.store.held trial.old → KeepsJudged calls.now.modules.now self.old.store.held trial.new }
+        ensures keeps { Keeps self.old self.new }
     {
         for place in 0..self.told.len() {
             let number = self.told[place];
@@ -83,12 +87,14 @@ impl Machine {
         requires served { IsServed calls.now.modules.now.loaded calls.now.known calls.now.predicate }
         requires lets { is_enabled_at self.old.shoens.shoens self.old.shoens.work running ≡ true }
         ensures ok { (n : ℕ) → number ≡ suc n → OnOk result (Schedules calls.now.modules.now n number self.old self.new) }
-        ensures keeps { (b : Machine) → Keeps b self.old → Keeps b self.new }
+        ensures judged { KeepsJudged calls.now.modules.now self.old.store.held trial.old → KeepsJudged calls.now.modules.now self.old.store.held trial.new }
+        ensures keeps { Keeps self.old self.new }
     {
         let Some(goal) = self.goals.lend(number) else {
             return Ok(());
         };
-        let clause = ready_clause(&mut self.store, &self.shoens, calls, trial, goal)?;
+        let keeps = !self.goals.is_any_ready();
+        let clause = ready_clause(&mut self.store, &self.shoens, calls, trial, goal, keeps)?;
         let is_enabled = may_step(&self.shoens, running, goal);
         self.goals.look(number, clause, is_enabled)
     }
@@ -106,7 +112,8 @@ impl Machine {
         requires served { IsServed calls.now.modules.now.loaded calls.now.known calls.now.predicate }
         requires lets { is_enabled_at self.old.shoens.shoens self.old.shoens.work running ≡ true }
         ensures ok { OnOk result (Schedules calls.now.modules.now self.old.begun.last_goal last self.old self.new) }
-        ensures keeps { (b : Machine) → Keeps b self.old → Keeps b self.new }
+        ensures judged { KeepsJudged calls.now.modules.now self.old.store.held trial.old → KeepsJudged calls.now.modules.now self.old.store.held trial.new }
+        ensures keeps { Keeps self.old self.new }
     {
         let mut number = self.begun.last_goal;
         while number < last {
@@ -119,7 +126,7 @@ impl Machine {
     /// Lets goals step, or holds them back, of each shoen in which that may be other than when the event began, if it may be so in any.
     fn shift(&mut self) -> Result<(), AllocError>
         ensures ok { OnOk result (Shifts self.old self.new) }
-        ensures keeps { (b : Machine) → Keeps b self.old → Keeps b self.new }
+        ensures keeps { Keeps self.old self.new }
     {
         if !self.shifts {
             return Ok(());
@@ -153,8 +160,10 @@ impl Machine {
         requires lets { LetsStill running self.old }
         ensures ok { OnOk result (Reschedules self.old self.new) }
         ensures rested { (b : Machine) → IsBegun b → Since b self.old → IsRested calls.now.modules.now b → OnOk result (IsRested calls.now.modules.now self.new) }
+        ensures judged { KeepsJudged calls.now.modules.now self.old.store.held trial.new }
         ensures keeps { Keeps self.old self.new }
     {
+        trial.judged = None;
         let lets = self.shoen_that_lets(running);
         self.tell_bound()?;
         self.wake_affected(calls, trial)?;

@@ -9,7 +9,7 @@ ghost use Rattle.kl1_user_effects.specs.Account.{meaning};
 ghost use Rattle.kl1_machine.specs.declared.machine.Machine.{Machine};
 ghost use Rattle.kl1_machine.specs.Machines.{IsMachine, IsBegun, Keeps};
 ghost use Rattle.kl1_machine.specs.Effects.{TurnsAs};
-ghost use Rattle.kl1_machine.specs.Since.{Since, StillSince};
+ghost use Rattle.kl1_machine.specs.Since.{Since};
 ghost use Rattle.kl1_machine.specs.Rested.{IsRested};
 ghost use Rattle.kl1_machine.specs.Sending.{Sends, IsRefusedMessage};
 
@@ -40,7 +40,8 @@ impl Machine {
         requires nodes { self.old.counts.nodes + message_nodes message ≤ (limits_of self.old.rules).nodes }
         ensures ok { OnOk result (TurnsAs (λ f. sent_on number message (meaning f self.old.store.held tail)) self.old self.new) }
         ensures work { OnOk result (self.new.shoens.work ≡ self.old.shoens.work) }
-        ensures since { (b : Machine) → Since b self.old → StillSince result b self.new }
+        ensures since { (b : Machine) → OnOk result (Since b self.old → Since b self.new) }
+        ensures keeps { Keeps self.old self.new }
     {
         let Some(next) = send_message(&mut self.store, tail, message)? else {
             return Ok(());

@@ -8,17 +8,16 @@ ghost use Rattle.kl1_goals_moves.specs.Moves.{taken_places, MoveIn};
 ghost use Rattle.kl1_shoen.specs.Shoens.{is_enabled_at};
 ghost use Rattle.kl1_user_effects.specs.Kept.{IsOwned};
 ghost use Rattle.kl1_machine.specs.declared.machine.Machine.{Machine};
-ghost use Rattle.kl1_machine.specs.Machines.{IsMachine};
-ghost use Rattle.kl1_machine.specs.Since.{Since, StillSince};
+ghost use Rattle.kl1_machine.specs.Machines.{IsMachine, Keeps};
+ghost use Rattle.kl1_machine.specs.Since.{Since};
 ghost use Rattle.kl1_machine.specs.Stepping.{StepsAs};
 
 use crate::machine::Machine;
-use crate::machine::naming::Named;
 use kl1_clause::Predicate;
 use kl1_goals::Goal;
 use kl1_goals_moves::{Move, Trial};
 use kl1_store::Qualified;
-use kl1_text::CellName;
+use kl1_text::{AtomText, CellName};
 use kl1_user_effects::PathScan;
 use std::alloc::AllocError;
 
@@ -47,22 +46,18 @@ impl Machine {
         requires lets { is_enabled_at self.old.shoens.shoens self.old.shoens.work goal.shoen ≡ true }
         requires few { length self.old.shoens.work + 1 < 2 ^ 63 }
         ensures ok { OnOk result (StepsAs (record { predicate = predicate.entry; move = made; places = taken_places trial.old; text = trial.old.text }) goal cell self.old self.new) }
-        ensures since { (b : Machine) → length self.old.shoens.work ≤ length b.shoens.work → Since b self.old → StillSince result b self.new }
+        ensures since { (b : Machine) → length self.old.shoens.work ≤ length b.shoens.work → OnOk result (Since b self.old → Since b self.new) }
+        ensures keeps { Keeps self.old self.new }
     {
-        self.charge(goal.shoen)?;
-        match self.use_name(made, trial) {
-            Named::Becomes(variable) => {
-                // Nothing may be bound after it: what comes after the move comes first.
-                self.end_path_late(scan, goal.shoen, variable)?;
-                self.bind_spare(variable)
-            }
-            Named::Does(found) => {
-                self.apply_move(predicate, found, trial, cells, goal, cell)?;
-                if self.is_calm(goal.shoen) {
-                    return Ok(());
-                }
-                self.end_path(scan, goal.shoen)
-            }
+        if let Some(variable) = self.name_to_bind(made, trial) {
+            let text = AtomText::of(trial.text.as_slice());
+            return self.bind_new_name(scan, goal.shoen, text, variable);
         }
+        self.charge(goal.shoen)?;
+        self.apply_move(predicate, made, trial, cells, goal, cell)?;
+        if self.is_calm(goal.shoen) {
+            return Ok(());
+        }
+        self.end_path(scan, goal.shoen)
     }
 }

@@ -155,7 +155,7 @@ fn put_tried(
     requires predicate { AreSome predicate.names.now predicate.clauses.now }
 {
     let tried = *kind;
-    match standing_of(store, rules, tried, predicate, trial)? {
+    match standing_of::<_, false>(store, rules, tried, predicate, trial)? {
         Some(clause) => {
             let moved = *kind;
             put_done(answer, store, rules, moved, predicate, clause, trial)

@@ -98,6 +98,7 @@ impl<C: CodeSource> Account<C> {
 
     /// An account that keeps to these rules, in which nothing has happened but that it has used these names, and that `sessions`
     /// sessions are open. Its cells are those of a store that holds one variable: the variables of the account are numbered from 1.
+    #[tactic(auto, using(crate::proofs::Begun::begun_kept, crate::proofs::Begun::begun_counts))]
     fn blank(
         alloc: Global,
         name: AccountName,

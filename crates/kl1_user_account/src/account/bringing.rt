@@ -10,6 +10,7 @@ ghost use Rattle.kl1_machine.specs.Bringing.{change_of};
 ghost use Rattle.kl1_user_account.specs.Bringing.{MayBring};
 
 use crate::account::Account;
+use crate::events::bring_in;
 use crate::name_rows::rows_for;
 use crate::runs::note_entry;
 use kl1_atoms::AtomSource;
@@ -41,15 +42,15 @@ impl<C: CodeSource> Account<C> {
         let mut rows = rows_for(self.alloc, &mut self.machine.names, texts)?;
         let modules = CodedModules::over(self.machine.rules, &self.modules, codes);
         let spares = rows.spares.as_slice();
-        self.machine.begin();
-        let done = self.machine.bring(
+        bring_in(
+            &mut self.machine,
             &modules,
             &mut self.trial,
             &mut self.scratch,
             brought,
             spares,
-        );
-        self.machine.or_back(done)?;
+        )?;
+        self.trial.judged = None;
         self.machine.publish_names(
             names,
             seat,

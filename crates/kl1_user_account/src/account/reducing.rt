@@ -10,6 +10,7 @@ ghost use Rattle.kl1_user_events.specs.Views.{reduced_or};
 ghost use Rattle.kl1_codes.specs.Numbered.{ArePlaced};
 
 use crate::account::Account;
+use crate::events::reduce_in;
 use crate::runs::note_reduction;
 use kl1_atoms::AtomSource;
 use kl1_codes::{CodeSource, CodedModules};
@@ -39,8 +40,8 @@ impl<C: CodeSource> Account<C> {
         let is_full = self.has_no_room(in_run);
         self.machine.names.reserve(1)?;
         let modules = CodedModules::over(self.machine.rules, &self.modules, codes);
-        self.machine.begin();
-        let reduced = self.machine.reduce(
+        let refused = reduce_in(
+            &mut self.machine,
             &modules,
             &mut self.trial,
             &mut self.scan,
@@ -48,8 +49,10 @@ impl<C: CodeSource> Account<C> {
             is_full,
             number,
             clause,
-        );
-        let refused = self.machine.or_back(reduced)?;
+        )?;
+        if self.machine.name.is_some() {
+            self.trial.judged = None;
+        }
         if let Some(refusal) = refused {
             return Ok(Some(refusal));
         }

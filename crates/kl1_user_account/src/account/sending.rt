@@ -24,12 +24,19 @@ impl<C: CodeSource> Account<C> {
         ensures modules { self.new.modules ≡ self.old.modules }
         ensures err { OnErr result (self.new ≡ self.old) }
     {
-        let modules = CodedModules::over(self.machine.rules, &self.modules, codes);
         self.machine.begin();
+        let modules = CodedModules::over(self.machine.rules, &self.modules, codes);
         let sent = self
             .machine
             .send(&modules, &mut self.trial, self.entries, number, message);
-        let refused = self.machine.or_back(sent)?;
+        self.trial.judged = None;
+        let refused = match sent {
+            Err(memory) => {
+                self.machine.back();
+                return Err(memory);
+            }
+            Ok(refused) => refused,
+        };
         if let Some(refusal) = refused {
             return Ok(Reply::Refused(refusal));
         }

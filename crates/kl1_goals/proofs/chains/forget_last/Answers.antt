@@ -1,9 +1,8 @@
 use Rattle.std.proofs.Common.{◌<◌, length, sym, arith}
 use Rattle.std.proofs.lemmas.List.{length-map}
-use Rattle.kl1_goals.specs.Tallies.{HasChanged}
 use Rattle.kl1_goals.specs.Chains.{shoen_in}
 use Rattle.kl1_goals.proofs.Changing.{field_read}
-use Rattle.kl1_goals.proofs.Linking.{known_at, counts_counts, counts_exchanged, linked}
+use Rattle.kl1_goals.proofs.Linking.{known_at, counts_counts, counts_exchanged, last_here, last_other}
 use Rattle.kl1_goals.proofs.Chaining.{forget_next, forget_end}
 use Rattle.kl1_goals.proofs.chains.forget_last.Goals as goal
 
@@ -34,8 +33,8 @@ loop-place-preserved g c =
     let vs = c.exchange_last.new.tallies.items in
     let x = c.index.result.now in
     let within : l.place < length ss = omega arith in
-    let changed : HasChanged x.goal.shoen (linked 0) us vs = record { at = c.exchange_last.ensures.tallies; length = c.exchange_last.ensures.length } in
+    let is = c.exchange_last.ensures.tallies in
     record {
-      forgets = forget_next ss ts us vs l.place x.goal.shoen l.invariant.forgets (sym (field_read shoen_in ss l.place x within c.index.ensures)) changed;
-      counts = counts_counts ts us vs l.invariant.counts (counts_exchanged us vs x.goal.shoen 0 changed);
+      forgets = forget_next ss ts us vs l.place x.goal.shoen l.invariant.forgets (sym (field_read shoen_in ss l.place x within c.index.ensures)) (last_here us vs x.goal.shoen 0 is) (last_other us vs x.goal.shoen 0 is);
+      counts = counts_counts ts us vs l.invariant.counts (counts_exchanged us vs x.goal.shoen 0 is c.exchange_last.ensures.length);
     }

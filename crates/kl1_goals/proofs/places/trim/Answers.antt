@@ -16,7 +16,7 @@ loop-slots-preserved g c =
     let count : l.slots.len ≡ length l.slots.items = omega (arith, l.slots.ok.0) in
     let some = empty_counted l.slots.items l.empty l.queue.ranks l.invariant.slots end in
     record {
-      slots = rw c.pop.ensures.rest (slots_trimmed l.slots.items l.slots.len l.empty (l.empty - 1) l.queue.ranks c.drop_last.new.self.ranks l.invariant.slots count end (omega (arith, some)) c.drop_last.ensures.ranks);
+      slots = slots_trimmed l.slots.items c.pop.new.self.items l.slots.len l.empty (l.empty - 1) l.queue.ranks c.drop_last.new.self.ranks l.invariant.slots count c.pop.ensures.rest end (omega (arith, some)) c.drop_last.ensures.ranks;
       chained = rw (c.pop.ensures.rest, count) c.unlink_last.ensures.chained;
       counts = counts_counts c.args.tallies.now.items l.tallies.items c.unlink_last.new.tallies.items l.invariant.counts c.unlink_last.ensures.counts;
       goals = goals_trimmed l.slots.items c.pop.new.self.items l.slots.len count c.pop.ensures.rest end ∙ l.invariant.goals;

@@ -1,7 +1,7 @@
 use Rattle.std.proofs.Common.{[], ◌∷◌, ◌++◌, ap, ◌∙◌}
 use Rattle.std.proofs.lemmas.Result.{IfOk-weaker}
 use Rattle.kl1_goals_moves.specs.declared.look.Look.TheVariants as look
-use Rattle.kl1_goals_moves.proofs.Taking.{are_clauses, kind_executes, kind_stands}
+use Rattle.kl1_goals_moves.proofs.Taking.{are_clauses, commits_with, kind_executes, kind_stands}
 use Rattle.kl1_goals_moves.proofs.standing.standing_of.Goals as goal
 
 pub choose-requires-clause-clauses : goal.choose-requires-clause-clauses
@@ -11,6 +11,11 @@ pub returns-in-Calls-clause-standing : goal.returns-in-Calls-clause-standing
 returns-in-Calls-clause-standing g c =
     IfOk-weaker c.choose.result _ _ (λ choice e. λ f r modules t k p.
     kind_stands g.N.NameValue.built f c.args.store.now.held c.args.rules modules t c.args.kind c.in-Calls.call c.cell.result c.args.predicate c.clear.new.self.items c.choose.new.awaited.items choice r c.in-Calls.is c.cell.ensures c.clear.ensures.items e k p) c.choose.ensures.choice
+
+pub returns-in-Calls-clause-commits : goal.returns-in-Calls-clause-commits
+returns-in-Calls-clause-commits g c =
+    IfOk-weaker c.choose.result _ _
+    (λ choice takes n e. commits_with g.N.NameValue.built c.args.store.now.held c.args.rules c.args.kind c.in-Calls.call c.cell.result c.args.predicate n c.choose.new.scratch.places.items c.in-Calls.is c.cell.ensures (takes n e)) c.choose.ensures.takes
 
 pub returns-in-Right-clause-standing : goal.returns-in-Right-clause-standing
 returns-in-Right-clause-standing g c = λ f r modules t k p.

@@ -1,18 +1,26 @@
-use Rattle.kl1_ready.proofs.Words.{subst, Option, MatchOption, IfOk-weaker, CellName, Task, taken_places, IsTaskIn, Made, Plan, IsPlan, DoesNothing}
-use Rattle.std.specs.Prelude.{◌≡◌}
+use Rattle.std.proofs.Common.{subst}
+use Rattle.std.specs.Prelude.{Option, MatchOption, ◌≡◌}
+use Rattle.std.proofs.lemmas.Result.{IfOk-weaker}
+use Rattle.kl1_text.specs.declared.cell_name.CellName.{CellName}
+use Rattle.kl1_goals.specs.declared.task.Task.{Task}
+use Rattle.kl1_goals_moves.specs.Moves.{taken_places}
+use Rattle.kl1_user_effects.specs.Kept.{IsTaskIn}
+use Rattle.kl1_user_effects.specs.Works.{Made}
+use Rattle.kl1_ready.specs.declared.planning.Plan.{Plan}
+use Rattle.kl1_ready.specs.Plans.{IsPlan, DoesNothing}
 use Rattle.kl1_ready.proofs.planning.plan_of.Goals as goal
 
-pub returns-in-Monitor : goal.returns-in-Monitor
-returns-in-Monitor g c w rules shoens = c.plan_reading.ensures c.args.modules.now w (taken_places c.args.trial.now) c.args.trial.now.text shoens
+pub returns-in-Monitor-clause-plan : goal.returns-in-Monitor-clause-plan
+returns-in-Monitor-clause-plan g c w rules shoens = c.plan_reading.ensures c.args.modules.now w (taken_places c.args.trial.now) c.args.trial.now.text shoens
 
 pub plan_move-requires-clause-cell : goal.plan_move-requires-clause-cell
 plan_move-requires-clause-cell g c = subst (λ t. IsTaskIn c.args.store.now.held t) c.in-Reduces.is c.requires.task
 
-pub returns-in-Reduces : goal.returns-in-Reduces
-returns-in-Reduces g c = IfOk-weaker c.plan_move.result _ _ (λ o all w rules shoens. all w rules) c.plan_move.ensures
+pub returns-in-Reduces-clause-plan : goal.returns-in-Reduces-clause-plan
+returns-in-Reduces-clause-plan g c = IfOk-weaker c.plan_move.result _ _ (λ o all w rules shoens. all w rules) c.plan_move.ensures.plan
 
 pub plan_substitute-requires-clause-cell : goal.plan_substitute-requires-clause-cell
 plan_substitute-requires-clause-cell g c = subst (λ t. IsTaskIn c.args.store.now.held t) c.in-Substitutes.is c.requires.task
 
-pub returns-in-Substitutes : goal.returns-in-Substitutes
-returns-in-Substitutes g c w rules shoens = c.plan_substitute.ensures w (taken_places c.args.trial.now) c.args.trial.now.text
+pub returns-in-Substitutes-clause-plan : goal.returns-in-Substitutes-clause-plan
+returns-in-Substitutes-clause-plan g c w rules shoens = c.plan_substitute.ensures w (taken_places c.args.trial.now) c.args.trial.now.text

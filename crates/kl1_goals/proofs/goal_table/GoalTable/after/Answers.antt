@@ -1,7 +1,6 @@
 use Rattle.std.proofs.Common.{sym, ◌∙◌}
 use Rattle.kl1_goals.specs.Lists.{is_after}
 use Rattle.kl1_goals.specs.Slots.{goals_in}
-use Rattle.kl1_goals.specs.Keeping.{parts}
 use Rattle.kl1_goals.proofs.Changing.{goals_ascend, find_after}
 use Rattle.kl1_goals.proofs.Tabling.{known_if, after_if}
 use Rattle.kl1_goals.proofs.goal_table.GoalTable.after.Goals as goal
@@ -23,5 +22,5 @@ pub returns-clause-known : goal.returns-clause-known
 returns-clause-known g c =
     let s = c.self.inside in
     let ss = s.slots.items in
-    rw (← c.self.view_is) (known_if (is_after c.args.number) (parts ss s.empty s.queue.ranks s.tallies.items s.alive s.last) c.first_held.result c.self.invariant.now
+    rw (← c.self.view_is) (known_if (is_after c.args.number) ss s.empty s.queue.ranks s.tallies.items s.alive c.first_held.result c.self.invariant.now
     (c.first_held.ensures ∙ sym (find_after c.args.number 0 c.count_upto-from.result ss c.self.invariant.now.slots.ascend c.count_upto-from.ensures)))

@@ -5,4 +5,4 @@ use Rattle.kl1_goals.proofs.goal_table.GoalTable.new.Goals as goal
 pub invariant_of-result : goal.invariant_of-result
 invariant_of-result g c =
     rw (c.new.ensures.items, c.new-2.ensures.ranks, c.new-3.ensures.items)
-    (no_tables {N = g.row.N.Denot} _ (record { slots = c.new-4.ensures.items; places = refl; empty = refl; tallies = c.new-5.ensures.items; shoens = refl; alive = refl; last = refl }))
+    (no_tables {N = g.row.N.Denot} _ (record { slots = c.new-4.ensures.items; places = refl; empty_is = refl; tallies = c.new-5.ensures.items; shoens = refl; alive_is = refl; last_is = refl }))
