@@ -12,7 +12,7 @@ use Rattle.kl1_command.specs.declared.performed.Performed.TheVariants as perform
 use Rattle.kl1_command.specs.declared.first_step.FirstStep.{FirstStep}
 use Rattle.kl1_command.specs.declared.first_step.FirstStep.TheVariants as first_step
 use Rattle.kl1_command.specs.Performing.{Performs, stopped_by, IsUntouched}
-use Rattle.kl1_command.specs.Stepping.{IsStepUntouched, RunsOn, IsNoneFor}
+use Rattle.kl1_command.specs.Stepping.{IsFirstStep, step_of, IsStepUntouched, RunsOn, IsEnd, IsNoneFor}
 
 -- a run of one step more, by the first goal that can step
 abbrev pub run_by : ℕ → ℕ → Kept → Option Chosen → Done
@@ -23,12 +23,44 @@ run_by most n k o = elim o [
       if is_refused x.reply then said k (if n == 0 then x.reply else model.ran n) else run_from most (suc n) x.kept
 ]
 
--- one step more
-pub goes_further : (s mid after : Kept) (n : ℕ) → RunsOn s n mid → ((most k : ℕ) → run_from (suc most) k mid ≡ run_from most (suc k) after) → RunsOn s (n + 1) after
+-- what is no step leaves the account
+step_stays : (s after : Kept) (o : FirstStep) → IsFirstStep s o after → step_of o ≡ 0 → after ≡ s
+step_stays s after first_step.Done h z = absurd (let e : 1 ≡ 0 = z in omega (arith, e))
+step_stays s after first_step.Quiet h z = h.1
+step_stays s after (first_step.Refused r) h z = h.1
+step_stays s after first_step.Memory h z = h
+
+goes_further : (s mid after : Kept) (n : ℕ) → RunsOn s n mid → ((most k : ℕ) → run_from (suc most) k mid ≡ run_from most (suc k) after) → RunsOn s (n + 1) after
 goes_further s mid after n h step = λ m.
     let sum : n + 1 + m ≡ n + suc m = omega arith in
     let one : n + 1 ≡ suc n = omega arith in
     ap (λ k. run_from k 0 s) sum ∙ h (suc m) ∙ step m n ∙ ap (λ k. run_from m k after) (sym one)
+
+-- one step more
+pub runs_further : (s mid after : Kept) (n : ℕ) (o : FirstStep) → RunsOn s n mid → IsFirstStep mid o after → step_of o ≡ 1 → RunsOn s (n + 1) after
+runs_further s mid after n first_step.Done h out z = goes_further s mid after n h out
+runs_further s mid after n first_step.Quiet h out z = absurd (let e : 0 ≡ 1 = z in omega (arith, e))
+runs_further s mid after n (first_step.Refused r) h out z = absurd (let e : 0 ≡ 1 = z in omega (arith, e))
+runs_further s mid after n first_step.Memory h out z = absurd (let e : 0 ≡ 1 = z in omega (arith, e))
+
+-- or none
+pub runs_stay : (s mid after : Kept) (n : ℕ) (o : FirstStep) → RunsOn s n mid → IsFirstStep mid o after → step_of o ≡ 0 → RunsOn s n after
+runs_stay s mid after n o h out z = subst (λ k. RunsOn s n k) (sym (step_stays mid after o out z)) h
+
+-- steps that end by what is no step
+pub ends_by : (mid after : Kept) (n most : ℕ) (o : FirstStep) → n < most → IsFirstStep mid o after → step_of o ≡ 0 → IsEnd most n o after
+ends_by mid after n most first_step.Done less h z = absurd (let e : 1 ≡ 0 = z in omega (arith, e))
+ends_by mid after n most first_step.Quiet less h z = (less, subst (λ (k : Kept). first k.state ≡ None) (sym h.1) h.0)
+ends_by mid after n most (first_step.Refused r) less h z =
+    (less, subst (λ (k : Kept). (left m : ℕ) → run_from (suc left) m k ≡ stopped_by k m (refusal_of r)) (sym h.1) h.0)
+ends_by mid after n most first_step.Memory less h z = less
+
+-- what is left after steps is left of the first host if there were none
+pub left_as : {H : Type 0} (o : FirstStep) (old mid new : H) → IsStepUntouched o mid new → mid ≡ old → IsStepUntouched o old new
+left_as first_step.Done old mid new h same = tt
+left_as first_step.Quiet old mid new h same = h ∙ same
+left_as (first_step.Refused r) old mid new h same = tt
+left_as first_step.Memory old mid new h same = h ∙ same
 
 -- a run of n steps
 pub all_done : (s after : Kept) (n : ℕ) → RunsOn s n after → run_from n 0 s ≡ record { kept = after; reply = model.ran n }

@@ -10,6 +10,18 @@ use Rattle.kl1_command.specs.declared.first_step.FirstStep.TheVariants as first_
 use Rattle.kl1_command.specs.declared.performed.Performed.{Performed}
 use Rattle.kl1_command.specs.declared.performed.Performed.TheVariants as performed
 
+-- what became of the first goal that can step: how each run goes on after it
+abbrev pub IsFirstStep : Kept → FirstStep → Kept → Type 0
+IsFirstStep s first_step.Quiet after = (first s.state ≡ None) × (after ≡ s)
+IsFirstStep s first_step.Done after = (most n : ℕ) → run_from (suc most) n s ≡ run_from most (suc n) after
+IsFirstStep s (first_step.Refused r) after = ((left n : ℕ) → run_from (suc left) n s ≡ stopped_by s n (refusal_of r)) × (after ≡ s)
+IsFirstStep s first_step.Memory after = after ≡ s
+
+-- how many steps it is
+abbrev pub step_of : FirstStep → ℕ
+step_of first_step.Done = 1
+step_of _ = 0
+
 -- if no goal could step, or memory was refused, nothing changes
 abbrev pub IsStepUntouched : {H : Type 0} → FirstStep → H → H → Type 0
 IsStepUntouched first_step.Quiet before after = after ≡ before

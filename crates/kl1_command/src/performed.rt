@@ -8,8 +8,7 @@ ghost use Rattle.kl1_command.specs.Room.{PerformsWithin};
 
 use crate::command::Command;
 use crate::host::Host;
-use crate::run::{answer_to, reply_in_vain};
-use crate::steps::run_steps;
+use crate::run::run;
 use kl1_user_events::Reply;
 
 /// What became of a command.
@@ -36,11 +35,7 @@ pub fn perform<H: Host>(host: &mut H, command: &Command) -> Performed
             Ok(reply) => Performed::Whole(reply),
             Err(_) => Performed::Memory,
         },
-        Command::Run(most) => match host.room() {
-            None => answer_to(run_steps(host, *most)),
-            Some(0) => Performed::Whole(reply_in_vain(host, *most)),
-            Some(room) => answer_to(run_steps(host, room.min(*most))),
-        },
+        Command::Run(most) => run(host, *most),
         Command::Shows { from, count } => match host.journal(*from, *count) {
             Ok(lines) => Performed::Whole(Reply::Listed(lines)),
             Err(_) => Performed::Memory,

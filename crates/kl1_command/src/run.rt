@@ -1,4 +1,4 @@
-// Answers to runs.
+// Runs, and the answers to them.
 
 ghost use Rattle.std.specs.Prelude.{◌≡◌, ℕ, ◌<◌};
 ghost use Rattle.kl1_model_server.specs.Command.{run as run_command};
@@ -15,8 +15,23 @@ use crate::performed::Performed;
 use crate::steps::{Steps, run_steps};
 use kl1_user_events::{Refusal, Reply};
 
+/// First steps, at most `most` and no more than there is room for.
+pub(crate) fn run<H: Host>(host: &mut H, most: u64) -> Performed
+    ensures does { (f : H.Reading) → H.fits host.new f → PerformsWithin (H.room host.old) (H.kept f host.old) (run_command most) result (H.kept f host.new) }
+    ensures memory { IsUntouched result host.old host.new }
+    ensures counted { H.counted host.old (told_in result) host.new }
+    ensures before { (f : H.Reading) → H.fits host.new f → H.fits host.old f }
+    ensures beside { H.beside host.new ≡ H.beside host.old }
+{
+    match host.room() {
+        None => answer_to(run_steps(host, most)),
+        Some(0) => Performed::Whole(reply_in_vain(host, most)),
+        Some(room) => answer_to(run_steps(host, most.min(room))),
+    }
+}
+
 /// The reply to a run for whose steps there is no room.
-pub(crate) fn reply_in_vain<H: Host>(host: &H, most: u64) -> Reply
+fn reply_in_vain<H: Host>(host: &H, most: u64) -> Reply
     ensures reply { (f : H.Reading) → H.fits host.now f → act_in_vain (H.kept f host.now) (run_command most) ≡ record { kept = H.kept f host.now; reply = reply_of result } }
     ensures told { told_by (reply_of result) ≡ told_steps 0 }
 {
@@ -28,7 +43,7 @@ pub(crate) fn reply_in_vain<H: Host>(host: &H, most: u64) -> Reply
 }
 
 /// The answer to a run of which these steps were done.
-pub(crate) fn answer_to(steps: Steps) -> Performed
+fn answer_to(steps: Steps) -> Performed
     ensures does { (s after : Kept) (most : ℕ) → RunsOn s steps.done after → IsEnd most steps.done steps.last after → Performs s (run_command most) result after }
     ensures told { told_in result ≡ told_steps steps.done }
     ensures memory { IsNoneFor result steps.done steps.last }

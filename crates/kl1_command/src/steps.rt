@@ -5,7 +5,7 @@ ghost use Rattle.kl1_command.specs.Told.{told_steps};
 ghost use Rattle.kl1_command.specs.Room.{HasRoomFor};
 ghost use Rattle.kl1_command.specs.Stepping.{RunsOn, IsEnd, IsStepUntouched};
 
-use crate::first_step::FirstStep;
+use crate::first_step::{FirstStep, reduce_first};
 use crate::host::Host;
 
 /// How many first steps were done, and what became of the last one that was tried.
@@ -28,27 +28,11 @@ pub fn run_steps<H: Host>(host: &mut H, most: u64) -> Steps
 {
     let mut done = 0;
     while done < most {
-        let Some((goal, clause)) = host.pick() else {
-            return Steps {
-                done,
-                last: FirstStep::Quiet,
-            };
-        };
-        match host.reduce(goal, clause) {
-            Ok(None) => done += 1,
-            Ok(Some(refusal)) => {
-                return Steps {
-                    done,
-                    last: FirstStep::Refused(refusal),
-                };
-            }
-            Err(_) => {
-                return Steps {
-                    done,
-                    last: FirstStep::Memory,
-                };
-            }
+        let last = reduce_first(host);
+        if !last.is_done() {
+            return Steps { done, last };
         }
+        done += 1;
     }
     Steps {
         done,

@@ -1,6 +1,42 @@
 -- A goal that comes in the place of a variable.
-use Rattle.kl1_machine.proofs.Words.{◌≡◌, ℕ, suc, ◌+◌, ◌-◌, ◌≤◌, ◌&&◌, Bool, true, false, if◌then◌else◌, List, [], ◌∷◌, ◌++◌, refl, sym, ap, ◌∙◌, arith, subst, max, nat_le, Some, None, IsTrue, AllByRecursion, and_parts, leb-true, ne_eqb, or_from, Term, variable, integer, atom, structure, Terms, none, more, occurs, occurs_in, replace, Replacement, each_substituted, replaced, after, highest, variables_of, variables_in, numbered_after, is_numbered, structures_of, Equation, conflicts, eliminates, equations_size, mgu_within, highest_among, mgu, is_goal, answered, with_next_variables, State, names_of, with_names, Reads, CellName, Cell, Variable, Unified, Bound, Clash, Held, is_bound, IsIn, Kept, SettlesTo, IsSolved, OnlyBound, equation_of, term_of-unbound, Grown-bound, Reading, built, meaning, worked, replaced_state, base, read_as, rereads, Machine, made, IsMachine, ReadsNames, BuildsGoal, Answer, counting, CanAnswer, Brings, IsNoVariable}
+use Rattle.std.proofs.Common.{◌≡◌, ℕ, suc, ◌+◌, ◌-◌, ◌≤◌, ◌&&◌, Bool, true, false, if◌then◌else◌, List, [], ◌∷◌, ◌++◌, refl, sym, ap, ◌∙◌, arith, subst, max}
+use Rattle.std.specs.Prelude.{nat_le, Some, None, IsTrue}
+use Rattle.std.specs.List.{AllByRecursion}
+use Rattle.std.proofs.lemmas.Bool.{and_parts, leb-true, ne_eqb, or_from}
+use Rattle.kl1_model.specs.Term.{Term, variable, integer, atom, structure, Terms, none, more, occurs, occurs_in, replace, Replacement, each_substituted}
+use Rattle.kl1_model.specs.code.Unifying.{replaced, after}
+use Rattle.kl1_model.specs.Meaning.{highest, variables_of, variables_in, numbered_after, is_numbered}
+use Rattle.kl1_model.specs.Nodes.{structures_of}
+use Rattle.kl1_model.specs.Unify.{Equation, conflicts, eliminates, equations_size, mgu_within, highest_among, mgu}
+use Rattle.kl1_model.specs.Goal.{is_goal}
+use Rattle.kl1_model.specs.Answering.{answered}
+use Rattle.kl1_model.specs.Opening.{with_next_variables}
+use Rattle.kl1_model.specs.State.{State, names_of, with_names}
+use Rattle.kl1_text.specs.Reading.{Reads}
+use Rattle.kl1_text.specs.declared.cell_name.CellName.{CellName}
+use Rattle.kl1_store.specs.declared.cell.Cell.{Cell}
+use Rattle.kl1_store.specs.declared.cell.Cell.TheVariants.{Variable}
+use Rattle.kl1_store.specs.declared.unified.Unified.{Unified}
+use Rattle.kl1_store.specs.declared.unified.Unified.TheVariants.{Bound, Clash}
+use Rattle.kl1_store.specs.Held.{Held, is_bound, IsIn}
+use Rattle.kl1_store.specs.Hooks.{Kept}
+use Rattle.kl1_store.specs.Unification.{SettlesTo, IsSolved}
+use Rattle.kl1_store.specs.Unifies.{OnlyBound, equation_of}
+use Rattle.kl1_store.proofs.Terms.{term_of-unbound}
+use Rattle.kl1_store.proofs.Unifying.{Grown-bound}
+use Rattle.kl1_user_effects.specs.Fitting.{Reading, built}
+use Rattle.kl1_user_effects.specs.Account.{meaning}
+use Rattle.kl1_user_effects.specs.Works.{worked}
+use Rattle.kl1_user_effects.proofs.States.{replaced_state}
+use Rattle.kl1_user_effects.proofs.Works.{base, read_as, rereads}
+use Rattle.kl1_machine.specs.declared.machine.Machine.{Machine}
+use Rattle.kl1_machine.specs.Machines.{made, IsMachine}
+use Rattle.kl1_machine.specs.Starting.{ReadsNames, BuildsGoal}
+use Rattle.kl1_machine.specs.declared.machine.answering.Answer.{Answer}
+use Rattle.kl1_machine.specs.Effects.{counting}
+use Rattle.kl1_machine.specs.Bringing.{CanAnswer, Brings}
 use Rattle.kl1_machine.proofs.Keeping.{Grows, grown_machine}
+use Rattle.kl1_stream.specs.Messages.{IsNoVariable}
 
 -- ---- a goal with the next variables has none of those before
 

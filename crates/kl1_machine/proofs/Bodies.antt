@@ -1,6 +1,43 @@
 -- Goals of bodies that come after the others.
-use Rattle.kl1_machine.proofs.Words.{◌≡◌, ℕ, suc, ◌+◌, ◌-◌, ◌&&◌, not, Bool, true, false, List, [], ◌∷◌, ◌++◌, length, refl, sym, ap, ◌∙◌, arith, subst, append-nil, append_assoc, length-map, find, nat_le, count_by, Option, Some, option_map, unwrap_or, goals_of, Candidate, Term, substituted, clipped, body_priorities, body_variable, limits_of, commits, or_exhaustion, committed, raised, moved, exhaustion, Reads, CellName, Qualified, Held, Kept, AreQualifiedIn, Place, IsCandidate, IsBody, AreNeeds, Needs, Reduces, Goal, is_monitor, Shoen, has_number, Reading, built, meaning, goal_with, aim, IsOwned, goals_for, goal_at, priorities_by, Made, worked, count_read, turns_as, with_body, commit_turns, room_read, Machine, made, IsMachine, Keeps, with_goal, with_goals, Becomes, TurnsAs, Chosen, Commits}
+use Rattle.std.proofs.Common.{◌≡◌, ℕ, suc, ◌+◌, ◌-◌, ◌&&◌, not, Bool, true, false, List, [], ◌∷◌, ◌++◌, length, refl, sym, ap, ◌∙◌, arith, subst, append-nil, append_assoc}
+use Rattle.std.proofs.lemmas.List.{length-map}
+use Rattle.std.specs.Prelude.{find, nat_le, count_by, Option, Some, option_map, unwrap_or}
+use Rattle.kl1_model.specs.Module.{goals_of}
+use Rattle.kl1_model.specs.Match.{Candidate}
+use Rattle.kl1_model.specs.Term.{Term, substituted}
+use Rattle.kl1_model.specs.code.Steps.{clipped}
+use Rattle.kl1_model.specs.Instance.{body_priorities, body_variable}
+use Rattle.kl1_model.specs.State.{limits_of}
+use Rattle.kl1_model.specs.Reduction.{commits, or_exhaustion, committed, raised, moved}
+use Rattle.kl1_model.specs.Report.{exhaustion}
+use Rattle.kl1_text.specs.Reading.{Reads}
+use Rattle.kl1_text.specs.declared.cell_name.CellName.{CellName}
+use Rattle.kl1_store.specs.declared.qualified.Qualified.{Qualified}
+use Rattle.kl1_store.specs.Held.{Held}
+use Rattle.kl1_store.specs.Hooks.{Kept}
+use Rattle.kl1_store.specs.InModules.{AreQualifiedIn}
+use Rattle.kl1_match.specs.declared.place.Place.{Place}
+use Rattle.kl1_goals_moves.specs.Moves.{IsCandidate}
+use Rattle.kl1_goals_moves.specs.Bodies.{IsBody, AreNeeds}
+use Rattle.kl1_goals_moves.specs.declared.needs.Needs.{Needs}
+use Rattle.kl1_goals.specs.declared.task.Task.TheVariants.{Reduces}
+use Rattle.kl1_goals.specs.declared.goal.Goal.{Goal}
+use Rattle.kl1_goals.specs.Lists.{is_monitor}
+use Rattle.kl1_shoen_paths.specs.declared.shoen.Shoen.{Shoen}
+use Rattle.kl1_shoen.specs.Shoens.{has_number}
+use Rattle.kl1_user_effects.specs.Fitting.{Reading, built}
+use Rattle.kl1_user_effects.specs.Account.{meaning, goal_with, aim}
+use Rattle.kl1_user_effects.specs.Kept.{IsOwned}
+use Rattle.kl1_user_effects.specs.Drafts.{goals_for, goal_at}
+use Rattle.kl1_user_effects.specs.Moving.{priorities_by}
+use Rattle.kl1_user_effects.specs.Works.{Made, worked}
+use Rattle.kl1_user_effects.proofs.Goals.{count_read}
+use Rattle.kl1_user_effects.proofs.Works.{turns_as}
+use Rattle.kl1_user_effects.proofs.Commits.{with_body, commit_turns, room_read}
+use Rattle.kl1_machine.specs.declared.machine.Machine.{Machine}
+use Rattle.kl1_machine.specs.Machines.{made, IsMachine, Keeps}
 use Rattle.kl1_machine.proofs.Keeping.{Grows}
+use Rattle.kl1_machine.specs.Effects.{with_goal, with_goals, Becomes, TurnsAs, Chosen, Commits}
 
 -- ---- goals of a body
 
@@ -55,7 +92,7 @@ commits_exhausted b goal x m u n needs full r = record {
       let a = needs f m.store.held b.places (c f) (candidate f knows) in
       let S = worked f s m.store.held (made m) in
       ap (λ y. or_exhaustion y (goal_with (meaning f m.store.held) goal) (aim f m.store.held x) (committed (goal_with (meaning f m.store.held) goal) (c f) S) S)
-      (room_read f s m.store.held (made m) (c f).clause (count_by (λ g. not (is_monitor g)) m.goals.goals) n refl a ∙ full))
+      (room_read f s m.store.held (made m) (c f).clause (count_by (λ g. not (is_monitor g)) m.goals.goals) n.goals n.variables n.nodes refl a.goals a.variables a.nodes ∙ full))
       (r.turns ms);
   machine = r.machine;
   named = r.named;
@@ -93,15 +130,8 @@ commits_body b goal x m k sh ps cells n u a after =
     subst C (sym (after.is ∙ goals_are sh.number qs cells (with_needs n (record m { store = k }))))
     (λ machine. record {
       turns = λ ms c candidate.
-          let B = commit_turns ms h k.held (made m) goal (Some sh) ps n cells c a.machine.inside (record {
-            grown = a.grows.grown;
-            found = a.found;
-            owned = a.owned;
-            inside = a.inside;
-            priorities = λ f knows. a.priorities f h b.places (c f) (candidate f knows);
-            needs = λ f knows. a.needs f h b.places (c f) (candidate f knows);
-            body = λ f knows. a.body f knows.reads (c f) (candidate f knows);
-          }) in
+          let B = commit_turns ms h k.held (made m) goal (Some sh) ps n.variables n.nodes cells c a.machine.inside a.grows.grown a.found a.owned a.inside (λ f knows. a.priorities f h b.places (c f) (candidate f knows)) (λ f knows. (a.needs f h b.places (c f) (candidate f knows)).variables)
+          (λ f knows. (a.needs f h b.places (c f) (candidate f knows)).nodes) (λ f knows. a.body f knows.reads (c f) (candidate f knows)) in
           record {
             inside = machine.inside;
             states = λ f knows s.
@@ -113,7 +143,7 @@ commits_body b goal x m k sh ps cells n u a after =
                 ap (λ y. with_body (made m) y qs cells n.variables n.nodes) (sym a.number)
                 ∙ ap (λ y. let z : Made = record (with_body (made m) sh.number qs cells n.variables n.nodes) { last_goal = y } in z) last in
                 ap (λ y. or_exhaustion y (goal_with (meaning f h) goal) (aim f h x) (committed (goal_with (meaning f h) goal) (c f) S) S)
-                (room_read f s h (made m) (c f).clause (count_by (λ g. not (is_monitor g)) m.goals.goals) n refl d ∙ a.room)
+                (room_read f s h (made m) (c f).clause (count_by (λ g. not (is_monitor g)) m.goals.goals) n.goals n.variables n.nodes refl d.goals d.variables d.nodes ∙ a.room)
                 ∙ B.states f knows s
                 ∙ ap (λ (y : Made). worked f s k.held y) same;
           };

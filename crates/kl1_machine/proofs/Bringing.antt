@@ -1,7 +1,35 @@
 -- Goals that the console brought, whose names are published.
-use Rattle.kl1_machine.proofs.Words.{◌≡◌, ℕ, ◌-◌, List, [], map, refl, sym, ap, ap₂, ◌∙◌, arith, subst, Option, Term, State, fresh, names_of, with_names, CellName, Held, Hook, with_texts, Program, Reading, Fits, meaning, goal_with, shoen_with, texts_of, names_with, AreGoalsIn, AreShoensIn, NameShelf, AreSettled, Made, worked, Machine, made, IsMachine, Trail, IsRested, Reschedules, naming, ReadsAlike, bare, ArePlain, held_exchanged, read_exchanged, Brings, IsPublished, collected, settled_alike, exchanged_variables, exchanged_goals, exchanged_shoens, ReadsSpares, names_once, numbers_short, reads_spares}
+use Rattle.std.proofs.Common.{◌≡◌, ℕ, ◌-◌, List, [], map, refl, sym, ap, ap₂, ◌∙◌, arith, subst}
+use Rattle.std.specs.Prelude.{Option}
+use Rattle.kl1_model.specs.Term.{Term}
 use Rattle.kl1_model.specs.State as model
+use Rattle.kl1_model.specs.State.{State, fresh, names_of, with_names}
+use Rattle.kl1_text.specs.declared.cell_name.CellName.{CellName}
+use Rattle.kl1_store.specs.Held.{Held}
+use Rattle.kl1_store.specs.Hooks.{Hook}
+use Rattle.kl1_clause.specs.NameList.{with_texts}
+use Rattle.kl1_codes.specs.Shelves.{Program}
+use Rattle.kl1_user_effects.specs.Fitting.{Reading, Fits}
+use Rattle.kl1_user_effects.specs.Account.{meaning, goal_with, shoen_with, texts_of}
+use Rattle.kl1_user_effects.specs.Drafts.{names_with}
+use Rattle.kl1_user_effects.specs.Kept.{AreGoalsIn, AreShoensIn}
+use Rattle.kl1_user_effects.specs.Naming.{NameShelf}
+use Rattle.kl1_user_effects.specs.Settled.{AreSettled}
+use Rattle.kl1_user_effects.specs.Works.{Made, worked}
+use Rattle.kl1_machine.specs.declared.machine.Machine.{Machine}
+use Rattle.kl1_machine.specs.Machines.{made, IsMachine, Trail}
+use Rattle.kl1_machine.specs.Rested.{IsRested}
+use Rattle.kl1_machine.specs.Rescheduling.{Reschedules}
+use Rattle.kl1_machine.specs.Starting.{naming}
+use Rattle.kl1_machine.specs.Reducing.{ReadsAlike}
+use Rattle.kl1_machine.specs.Plain.{bare, ArePlain}
+use Rattle.kl1_user_effects.specs.Exchanging.{held_exchanged, read_exchanged}
+use Rattle.kl1_machine.specs.Bringing.{Brings, IsPublished}
+use Rattle.kl1_user_effects.proofs.NamesOnce.{collected}
 use Rattle.kl1_machine.proofs.Resting.{looked_read}
+use Rattle.kl1_user_effects.proofs.Exchanged.{settled_alike}
+use Rattle.kl1_user_effects.proofs.Exchanges.{exchanged_variables, exchanged_goals, exchanged_shoens}
+use Rattle.kl1_user_effects.proofs.Spares.{ReadsSpares, names_once, numbers_short, reads_spares}
 use Rattle.kl1_machine.proofs.Plain.{goals_pass, shoens_pass, plain_named, plain_looked, plain_means}
 
 -- ---- a goal that was brought, when goals were looked at again
@@ -71,12 +99,16 @@ module _ (change : State → State) (goal : Term) (spares numbers : List CellNam
   -- ---- the state
 
   -- the names that are used are those that were and the goal's
-  names_now : with_names (made m).names (names_of goal) ≡ names_with (texts_of n.names.names) r.name
+  names_now : with_names (made m).names (names_of goal) ≡ texts_of n.names.names
   names_now =
       let texts = with_names [] (names_of goal) in
       ap (λ (o : Option (List ℕ)). with_names (names_with (texts_of m.names.names) o) (names_of goal)) p.none
       ∙ sym (p.published.texts_are ∙ ap (λ (s : NameShelf). with_texts (texts_of s.names) texts) names_same ∙ names_used (texts_of m.names.names) texts goal refl)
-      ∙ ap (names_with (texts_of n.names.names)) (sym (p.brings.named.name ∙ p.none))
+
+  made_now : made n ≡ record (made r) { names = texts_of n.names.names }
+  made_now =
+      ap made p.published.rest
+      ∙ ap (λ (o : Option (List ℕ)). let w : Made = record (made r) { names = names_with (texts_of n.names.names) o } in w) (p.brings.named.name ∙ p.none)
 
   -- what was read by the spare numbers is read by the numbers that the names got
   read_now : (f : Reading) → Fits n.names.names f → (s : State) → worked (by_spares f) s r.store.held (naming goal m r) ≡ worked f s n.store.held (made n)
@@ -87,8 +119,8 @@ module _ (change : State → State) (goal : Term) (spares numbers : List CellNam
       let hs = map (shoen_with (meaning f last)) r.shoens.shoens in
       ap₂ (λ (x : List model.Goal) (y : List model.Shoen). R x y v (with_names (made m).names (names_of goal))) (sym (goals_now f fits)) (sym (shoens_now f fits))
       ∙ ap₂ (λ (i : ℕ) (ns : List (List ℕ)). R gs hs i ns) (ap (λ (i : ℕ). i - 1) (sym (exchanged_variables spares numbers r.store.held))) names_now
-      ∙ ap (λ (h : Held CellName). worked f s h (made (record r { names = n.names }))) (sym p.published.held)
-      ∙ sym (ap (λ (y : Machine). worked f s y.store.held (made y)) p.published.rest)
+      ∙ ap (λ (h : Held CellName). worked f s h (record (made r) { names = texts_of n.names.names })) (sym p.published.held)
+      ∙ ap (λ (w : Made). worked f s n.store.held w) (sym made_now)
 
   -- the state is what the change makes of it, for each reading of the names that are there now
   pub published_states : (f : Reading) → Fits n.names.names f → (s : State) → change (worked f s m.store.held (made m)) ≡ worked f s n.store.held (made n)

@@ -1,6 +1,21 @@
 -- Which goals may step: as before, after changes that leave all by which that is so, and after a charge by which no shoen reaches its allowance.
-use Rattle.kl1_machine.proofs.Words.{◌≡◌, ℕ, zero, suc, ◌+◌, ◌<◌, ◌≤◌, ◌==◌, ◌||◌, not, Bool, true, false, List, [], ◌∷◌, ◌++◌, length, get_or, refl, sym, ap, ap₂, ◌∙◌, arith, Option, Some, None, find, option_map, unwrap_or, cond, list_any, AllByRecursion, eqb-true, eqb-false, lt-leb, le-leb, leb-true, leb-false, sum_by-cons, is_among, is_living, path_within, ParentsAreLower, CellName, Shoen, Tree, has_number, AreNumbered, AreLower, parents_in, path_in, is_on_path_in, charged_in, is_exhausted_in, is_blocking_in, is_blocking_at, is_enabled_at, has_reached_in, path_among, plain, KeepsBy, IsCalm, SameFlags, found_stays, any_reached, found_number}
-use Rattle.std.proofs.Common.{nat_le}
+use Rattle.std.proofs.Common.{◌≡◌, ℕ, zero, suc, ◌+◌, ◌<◌, ◌≤◌, ◌==◌, ◌||◌, not, nat_le, Bool, true, false, List, [], ◌∷◌, ◌++◌, length, get_or, refl, sym, ap, ap₂, ◌∙◌, arith}
+use Rattle.std.specs.Prelude.{Option, Some, None, find, option_map, unwrap_or, cond}
+use Rattle.std.specs.List.{list_any, AllByRecursion}
+use Rattle.std.proofs.lemmas.Bool.{eqb-true, eqb-false, lt-leb, le-leb, leb-true, leb-false}
+use Rattle.std.proofs.lemmas.List.Sums.{sum_by-cons}
+use Rattle.kl1_model.specs.Module.{is_among}
+use Rattle.kl1_model.specs.State.{is_living}
+use Rattle.kl1_model.specs.Tree.{path_within}
+use Rattle.kl1_model.specs.laws.TreeLaws.{ParentsAreLower}
+use Rattle.kl1_text.specs.declared.cell_name.CellName.{CellName}
+use Rattle.kl1_shoen_paths.specs.declared.shoen.Shoen.{Shoen}
+use Rattle.kl1_shoen.specs.Shoens.{Tree, has_number, AreNumbered, AreLower, parents_in, path_in, is_on_path_in, charged_in, is_exhausted_in, is_blocking_in, is_blocking_at, is_enabled_at, has_reached_in}
+use Rattle.kl1_shoen_paths.proofs.Paths.{path_among}
+use Rattle.kl1_user_effects.specs.Frames.{plain, KeepsBy, IsCalm, SameFlags}
+use Rattle.kl1_user_effects.proofs.Frames.{found_stays}
+use Rattle.kl1_machine.specs.Effects.{any_reached}
+use Rattle.kl1_user_effects.proofs.Outlines.{found_number}
 
 -- ---- paths and charges stay
 

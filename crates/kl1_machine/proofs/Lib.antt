@@ -31,4 +31,3 @@ mod PlainStays
 pub mod Bringing
 pub mod Published
 pub mod Calm
-pub mod Words

@@ -1,9 +1,40 @@
 -- What a goal's move does to a machine, and a move with the charge before it.
-use Rattle.kl1_machine.proofs.Words.{◌≡◌, ℕ, suc, ◌||◌, Bool, List, [], ◌∷◌, length, refl, sym, ap, ◌∙◌, subst, Option, Some, None, BuiltIn, text_of, Candidate, State, charge, commits, raises, unifies, names, opens, goes, gives_way, raised, moved, CellName, Cell, Qualified, IsIn, Move, ExecuteArguments, order_at, IsOrder, IsCandidate, IsMove, Reduces, Goal, Numbered, Reading, meaning, goal_with, aim, IsOwned, worked, Knows, name_for, turns_as, replaced_turns, Machine, made, IsMachine, goal_at, Turns, with_goal, Puts, Charges, TurnsAs, Commits, UnifiesAs, OpensChild, Making, IsMade, MovesAs, ReadsAll, StandsFor}
+use Rattle.std.proofs.Common.{◌≡◌, ℕ, suc, ◌||◌, Bool, List, [], ◌∷◌, length, refl, sym, ap, ◌∙◌, subst}
+use Rattle.std.specs.Prelude.{Option, Some, None}
+use Rattle.kl1_model.specs.declared.built_in.BuiltIn.{BuiltIn}
+use Rattle.kl1_model.specs.Text.{text_of}
 use Rattle.kl1_model.specs.Term as term
+use Rattle.kl1_model.specs.Match.{Candidate}
+use Rattle.kl1_model.specs.State.{State}
+use Rattle.kl1_model.specs.Tree.{charge}
 use Rattle.kl1_model.specs.Reduction as model
+use Rattle.kl1_model.specs.Reduction.{commits, raises, unifies, names, opens, goes, gives_way, raised, moved}
+use Rattle.kl1_text.specs.declared.cell_name.CellName.{CellName}
+use Rattle.kl1_store.specs.declared.cell.Cell.{Cell}
+use Rattle.kl1_store.specs.declared.qualified.Qualified.{Qualified}
+use Rattle.kl1_store.specs.Held.{IsIn}
+use Rattle.kl1_goals_moves.specs.declared.moves.Move.{Move}
 use Rattle.kl1_goals_moves.specs.declared.moves.Move.TheVariants as move
+use Rattle.kl1_goals_moves.specs.declared.order.ExecuteArguments.{ExecuteArguments}
+use Rattle.kl1_goals_moves.specs.Orders.{order_at, IsOrder}
+use Rattle.kl1_goals_moves.specs.Moves.{IsCandidate, IsMove}
+use Rattle.kl1_goals.specs.declared.task.Task.TheVariants.{Reduces}
+use Rattle.kl1_goals.specs.declared.goal.Goal.{Goal}
+use Rattle.kl1_codes.specs.Numbered.{Numbered}
+use Rattle.kl1_user_effects.specs.Fitting.{Reading}
+use Rattle.kl1_user_effects.specs.Account.{meaning, goal_with, aim}
+use Rattle.kl1_user_effects.specs.Kept.{IsOwned}
+use Rattle.kl1_user_effects.specs.Works.{worked, Knows}
 use Rattle.kl1_user_effects.specs.Works as works
+use Rattle.kl1_user_effects.specs.Moving.{name_for}
+use Rattle.kl1_user_effects.proofs.Works.{turns_as}
+use Rattle.kl1_user_effects.proofs.Substituting.{replaced_turns}
+use Rattle.kl1_machine.specs.declared.machine.Machine.{Machine}
+use Rattle.kl1_machine.specs.Machines.{made, IsMachine}
+use Rattle.kl1_user_effects.specs.Drafts.{goal_at}
+use Rattle.kl1_machine.specs.Effects.{Turns, with_goal, Puts, Charges, TurnsAs, Commits}
+use Rattle.kl1_machine.specs.Moving.{UnifiesAs, OpensChild, Making, IsMade, MovesAs}
+use Rattle.kl1_machine.specs.Naming.{ReadsAll, StandsFor}
 use Rattle.kl1_machine.proofs.Ending.{as_none}
 use Rattle.kl1_machine.proofs.Naming.{found_is}
 

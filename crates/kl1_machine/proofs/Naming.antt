@@ -1,9 +1,59 @@
 -- Names that goals make.
-use Rattle.kl1_machine.proofs.Words.{◌≡◌, ℕ, suc, ◌<◌, ◌-◌, ◌||◌, not, Bool, true, false, if◌then◌else◌, List, [], ◌∷◌, ◌++◌, length, refl, sym, ap, ◌∙◌, subst, arith, ℤ, Option, None, Some, nat_le, IsTrue, bytes_eq, bytes_eq-Decides, MOST_NAMES, Failure, Exhaustion, is_text, Term, Terms, integer, atom, structure, sizes, replace, Replacement, Equation, highest_among, mgu_within, mgu, remains, conflicts, equations_size, after, State, replace_in_state, with_name, charge, exhaustion, failure, after_reduction, moved, equation, names, raises, unifies, or_exhaustion, unified, named_by, Reads, CellName, Known, number_by, no_names, Cell, Variable, Integer, Atom, Structure, Point, Held, IsIn, IsWalked, is_bound, with_binding, Kept, point_of, IsFormed, Grown, term_of-unbound, term_of-Integer, term_of-Atom, term_of-binding, Grown-binding, Predicate, Place, at_structure, Move, Numbered, Spelled, Reading, built, reading_of, reading_fits, meaning, texts_of, Made, Knows, worked, IsMadeIn, names_with, keeps_names, name_of, spare, name_for, StaysFree, settle_charged_late, replaced_state, base, rereads, grown_made, turns_then, settles_late, unbound_by, known_named, new_named, named_turns, Machine, Named, made, IsMachine, Turns, Charges, Making, CanBecome, IsNameless, with_text, ReadsText, StandsFor, Spells, UsesName, LateAs, IsFree, SparesLast, IsBoundLast, HoldsSpare, Patches}
-use Rattle.kl1_model.specs.State.{Goal}
+use Rattle.std.proofs.Common.{◌≡◌, ℕ, suc, ◌<◌, ◌-◌, ◌||◌, not, Bool, true, false, if◌then◌else◌, List, [], ◌∷◌, ◌++◌, length, refl, sym, ap, ◌∙◌, subst, arith, ℤ}
+use Rattle.std.specs.Prelude.{Option, None, Some, nat_le, IsTrue, bytes_eq}
+use Rattle.std.proofs.lemmas.Slice.Eq.{bytes_eq-Decides}
+use Rattle.kl1_model.specs.declared.limits.TheConstants.{MOST_NAMES}
+use Rattle.kl1_model.specs.declared.built_in.BuiltIn.TheVariants.{Failure, Exhaustion}
+use Rattle.kl1_model.specs.Text.{is_text}
+use Rattle.kl1_model.specs.Term.{Term, Terms, integer, atom, structure, sizes, replace, Replacement}
+use Rattle.kl1_model.specs.Unify.{Equation, highest_among, mgu_within, mgu, remains, conflicts, equations_size}
+use Rattle.kl1_model.specs.code.Unifying.{after}
+use Rattle.kl1_model.specs.State.{Goal, State, replace_in_state, with_name}
+use Rattle.kl1_model.specs.Tree.{charge}
+use Rattle.kl1_model.specs.Report.{exhaustion, failure}
+use Rattle.kl1_model.specs.Ending.{after_reduction}
 use Rattle.kl1_model.specs.Reduction as model
+use Rattle.kl1_model.specs.Reduction.{moved, equation, names, raises, unifies, or_exhaustion, unified}
+use Rattle.kl1_model.specs.code.Steps.{named_by}
+use Rattle.kl1_text.specs.Reading.{Reads}
+use Rattle.kl1_text.specs.declared.cell_name.CellName.{CellName}
+use Rattle.kl1_atoms.specs.declared.known.Known.{Known}
+use Rattle.kl1_atoms.specs.Names.{number_by}
+use Rattle.kl1_atoms.specs.Knowing.{no_names}
+use Rattle.kl1_store.specs.declared.cell.Cell.{Cell}
+use Rattle.kl1_store.specs.declared.cell.Cell.TheVariants.{Variable, Integer, Atom, Structure}
+use Rattle.kl1_store.specs.declared.point.Point.{Point}
+use Rattle.kl1_store.specs.Held.{Held, IsIn, IsWalked, is_bound, with_binding}
+use Rattle.kl1_store.specs.Hooks.{Kept, point_of}
+use Rattle.kl1_store.specs.Sound.{IsFormed, Grown}
+use Rattle.kl1_store.proofs.Terms.{term_of-unbound, term_of-Integer, term_of-Atom, term_of-binding}
+use Rattle.kl1_store.proofs.Constants.{Grown-binding}
+use Rattle.kl1_clause.specs.declared.predicate.Predicate.{Predicate}
+use Rattle.kl1_match.specs.declared.place.Place.{Place}
+use Rattle.kl1_match.proofs.Cells.{at_structure}
+use Rattle.kl1_goals_moves.specs.declared.moves.Move.{Move}
 use Rattle.kl1_goals_moves.specs.declared.moves.Move.TheVariants as move
+use Rattle.kl1_codes.specs.Numbered.{Numbered}
+use Rattle.kl1_user_effects.specs.declared.spelled.Spelled.{Spelled}
+use Rattle.kl1_user_effects.specs.Fitting.{Reading, built, reading_of, reading_fits}
+use Rattle.kl1_user_effects.specs.Account.{meaning, texts_of}
+use Rattle.kl1_user_effects.specs.Works.{Made, Knows, worked, IsMadeIn}
 use Rattle.kl1_user_effects.specs.Works as works
+use Rattle.kl1_user_effects.specs.Drafts.{names_with}
+use Rattle.kl1_user_effects.specs.Calling.{keeps_names, name_of, spare}
+use Rattle.kl1_user_effects.specs.Moving.{name_for}
+use Rattle.kl1_user_effects.specs.Late.{StaysFree, settle_charged_late}
+use Rattle.kl1_user_effects.proofs.States.{replaced_state}
+use Rattle.kl1_user_effects.proofs.Works.{base, rereads, grown_made, turns_then}
+use Rattle.kl1_user_effects.proofs.LateName.{settles_late}
+use Rattle.kl1_user_effects.proofs.LateFree.{unbound_by}
+use Rattle.kl1_user_effects.proofs.Calling.{known_named, new_named, named_turns}
+use Rattle.kl1_machine.specs.declared.machine.Machine.{Machine}
+use Rattle.kl1_machine.specs.declared.machine.naming.Named.{Named}
+use Rattle.kl1_machine.specs.Machines.{made, IsMachine}
+use Rattle.kl1_machine.specs.Effects.{Turns, Charges}
+use Rattle.kl1_machine.specs.Moving.{Making}
+use Rattle.kl1_machine.specs.Naming.{CanBecome, IsNameless, with_text, ReadsText, StandsFor, Spells, UsesName, LateAs, IsFree, SparesLast, IsBoundLast, HoldsSpare, Patches}
 use Rattle.kl1_machine.proofs.Keeping.{Grows, grown_machine}
 use Rattle.kl1_machine.proofs.Sincing.{named_machine}
 
@@ -41,21 +91,21 @@ atom_unsolved a b other =
 
 -- what is no variable becomes no name, unless it is it
 others_unsolved : (h : Held CellName) (text : List ℕ) (x : Cell CellName) (f : Reading) → IsFormed h → IsIn h x → ((v : ℕ) → x ≡ Variable v → ⊥) → (meaning f h x ≡ atom text → ⊥) → mgu (equation (meaning f h x) (atom text)) ≡ None
-others_unsolved h text (Variable v) f p inside never other = absurd (never v refl)
-others_unsolved h text (Integer i) f p inside never other = let P : Term → Type 0 = λ t. mgu (equation t (atom text)) ≡ None in subst P (sym (term_of-Integer f h i)) (integer_unsolved i text)
-others_unsolved h text (Atom n) f p inside never other =
+others_unsolved h text (Variable v) f p inside no other = absurd (no v refl)
+others_unsolved h text (Integer i) f p inside no other = let P : Term → Type 0 = λ t. mgu (equation t (atom text)) ≡ None in subst P (sym (term_of-Integer f h i)) (integer_unsolved i text)
+others_unsolved h text (Atom n) f p inside no other =
     let P : Term → Type 0 = λ t. mgu (equation t (atom text)) ≡ None in
     let is : meaning f h (Atom n) ≡ atom (f n) = term_of-Atom f h n in
     subst P (sym is) (atom_unsolved (f n) text (λ q. other (is ∙ ap atom q)))
-others_unsolved h text (Structure s) f p inside never other =
+others_unsolved h text (Structure s) f p inside no other =
     let P : Term → Type 0 = λ t. mgu (equation t (atom text)) ≡ None in
     let t = at_structure f h (Structure s) s p refl inside in
     subst P (sym t.is) (structure_unsolved t.name t.arguments text)
 
 pub others_cannot : (h : Held CellName) (known : List Known) (text : List ℕ) (a x : Cell CellName) → IsFormed h → Walks h a x → ((v : ℕ) → x ≡ Variable v → ⊥) → CannotBecome h known text a
-others_cannot h known text a x p to never = λ new keeps f reads other.
+others_cannot h known text a x p to no new keeps f reads other =
     let P : Term → Type 0 = λ t. (t ≡ atom text → ⊥) → mgu (equation t (atom text)) ≡ None in
-    subst P (to.means f) (others_unsolved h text x f p to.inside never) other
+    subst P (to.means f) (others_unsolved h text x f p to.inside no) other
 
 -- an unbound variable becomes a name that is new, if the account may use it
 pub variable_can : (h : Held CellName) (known : List Known) (text : List ℕ) (a : Cell CellName) (v : ℕ) → Walks h a (Variable v) → IsTrue (is_text text) → number_by known text ≡ None → keeps_names known text ≡ true → CanBecome h known text a v
@@ -81,33 +131,34 @@ used_as y z text bytes m n r e same u =
 
 -- by a move that uses no name no name is used
 unnamed : (y : Move CellName) (known : List Known) (text : List ℕ) → IsNameless y → name_for y known text ≡ None
-unnamed (move.Commits place) known text never = refl
-unnamed (move.Raises b) known text never = refl
-unnamed (move.Unifies a b) known text never = refl
-unnamed (move.Names a) known text never = absurd (never a refl)
-unnamed (move.Opens s) known text never = refl
-unnamed move.Goes known text never = refl
-unnamed move.GivesWay known text never = refl
+unnamed (move.Commits place) known text no = refl
+unnamed (move.Raises b) known text no = refl
+unnamed (move.Unifies a b) known text no = refl
+unnamed (move.Names a) known text no = absurd (no a refl)
+unnamed (move.Opens s) known text no = refl
+unnamed move.Goes known text no = refl
+unnamed move.GivesWay known text no = refl
 
 -- such a move stands for itself
 pub nameless_stands : (a : Making) (m : Machine) → IsMachine m → m.name ≡ None → IsNameless a.move → StandsFor a.move a m m
-nameless_stands a m i none never = record {
-  is = ap (λ (o : Option (List ℕ)). let z : Machine = record m { name = o } in z) (none ∙ sym (unnamed a.move m.names.names a.text never));
+nameless_stands a m i none no = record {
+  is = ap (λ (o : Option (List ℕ)). let z : Machine = record m { name = o } in z) (none ∙ sym (unnamed a.move m.names.names a.text no));
   machine = i;
-  nameless = never;
+  nameless = no;
   inside = λ j. j;
   by = λ k. k;
   made_by = λ ms k is. is;
   does = λ ms k key reads is f knows g t s. refl;
 }
 
--- whether there is room for a name, as the definitions have it
-pub room_is : (m : Machine) (text : List ℕ) (c : Bool) → m.name ≡ None → keeps_names m.names.names text ≡ c → nat_le (length (with_name (made m).names text)) MOST_NAMES ≡ c
-room_is m text c none keeps = ap (λ (ns : List (List ℕ)). nat_le (length (with_name ns text)) MOST_NAMES) (names_are m none) ∙ keeps
-
--- what the definitions make of a text that is used as a name, if there is room for it, or if there isn't
-pub names_by : (c : Bool) (text : List ℕ) (b : Term) (k : model.Move) (g : Goal) (t : Term) (s : State) → nat_le (length (with_name s.names text)) MOST_NAMES ≡ c → Some k ≡ Some (names text b) → moved g t k s ≡ or_exhaustion (not (not c)) g t (named_by g t text b s) s
-names_by c text b k g t s room is = ap (λ (x : model.Move). moved g t x s) (found_is k (names text b) (Some k) refl is) ∙ ap (λ e. or_exhaustion (not (not e)) g t (named_by g t text b s) s) room
+-- what the definitions make of a text that is used as a name, if the account may use it, or if it may not
+names_by : (c : Bool) (m : Machine) (text : List ℕ) (a : Cell CellName) (k : model.Move) (f : Reading) (g : Goal) (t : Term) (s : State) → m.name ≡ None → keeps_names m.names.names text ≡ c → Some k ≡ Some (names text (meaning f m.store.held a)) →
+    moved g t k (worked f s m.store.held (made m)) ≡ or_exhaustion (not (not c)) g t (named_by g t text (meaning f m.store.held a) (worked f s m.store.held (made m))) (worked f s m.store.held (made m))
+names_by c m text a k f g t s none keeps is =
+    let S = worked f s m.store.held (made m) in
+    let b = meaning f m.store.held a in
+    ap (λ (x : model.Move). moved g t x S) (found_is k (names text b) (Some k) refl is)
+    ∙ ap (λ e. or_exhaustion (not (not e)) g t (named_by g t text b S) S) (ap (λ (ns : List (List ℕ)). nat_le (length (with_name ns text)) MOST_NAMES) (names_are m none) ∙ keeps)
 
 module _ (p : Predicate CellName) (places : List (Place CellName)) (text : List ℕ) (a : Cell CellName) (m : Machine) (i : IsMachine m) (none : m.name ≡ None) where
   -- a name too many is an exception
@@ -119,7 +170,7 @@ module _ (p : Predicate CellName) (places : List (Place CellName)) (text : List 
     inside = λ j. tt;
     by = λ k f. raises exhaustion;
     made_by = λ ms k is f knows. refl;
-    does = λ ms k key reads is f knows g t s. names_by false text (meaning f m.store.held a) (k f) g t (worked f s m.store.held (made m)) (room_is m text false none full) (is f knows);
+    does = λ ms k key reads is f knows g t s. names_by false m text a (k f) f g t s none full (is f knows);
   }
     where
       by_number : (o : Option ℕ) (c : Bool) → c ≡ false → None ≡ name_of o c text
@@ -142,9 +193,9 @@ module _ (p : Predicate CellName) (places : List (Place CellName)) (text : List 
         does = λ ms l key reads is f knows g t s.
             let S = worked f s h (made m) in
             let R : Option ℕ → Type 0 = λ o. ReadsText f h known text a key o in
-            let read : f k ≡ text = subst R number (reads a refl f knows) in
+            let read : f k ≡ text = subst R number (reads f knows) in
             let same : with_name (made m).names text ≡ (made m).names = ap (λ (ns : List (List ℕ)). with_name ns text) (names_are m none) ∙ known_named known text k.number number ∙ sym (names_are m none) in
-            names_by true text (meaning f h a) (l f) g t S (room_is m text true none room) (is f knows)
+            names_by true m text a (l f) f g t s none room (is f knows)
             ∙ ap (λ (ns : List (List ℕ)). unified g t (mgu (equation (meaning f h a) (atom text))) (let z : State = record S { names = ns } in z)) same
             ∙ ap (λ (b : Term). unified g t (mgu (equation (meaning f h a) b)) S) (sym (term_of-Atom f h k ∙ ap atom read));
       }
@@ -165,9 +216,9 @@ module _ (p : Predicate CellName) (places : List (Place CellName)) (text : List 
         does = λ ms k key reads is f knows g t s.
             let S = worked f s h (made m) in
             let R : Option ℕ → Type 0 = λ o. ReadsText f h known text a key o in
-            let read : keeps_names known text ≡ true → (f key ≡ text) × (meaning f h a ≡ atom text → ⊥) = subst R number (reads a refl f knows) in
+            let read : keeps_names known text ≡ true → (f key ≡ text) × (meaning f h a ≡ atom text → ⊥) = subst R number (reads f knows) in
             let used : with_name (made m).names text ≡ texts_of known ++ text ∷ [] = ap (λ (ns : List (List ℕ)). with_name ns text) (names_are m none) ∙ new_named known text number in
-            names_by true text (meaning f h a) (k f) g t S (room_is m text true none room) (is f knows)
+            names_by true m text a (k f) f g t s none room (is f knows)
             ∙ ap (λ (ns : List (List ℕ)). unified g t (mgu (equation (meaning f h a) (atom text))) (let z : State = record S { names = ns } in z)) used
             ∙ ap (λ (o : Option (List Replacement)). unified g t o (worked f s h (made (record m { name = Some text })))) (cannot number room f knows.reads (read room).1);
       }

@@ -1,8 +1,41 @@
 -- Shoens that open, with their monitors and goals, and the children that goals open.
-use Rattle.kl1_machine.proofs.Words.{◌≡◌, ℕ, suc, ◌-◌, ◌<◌, ◌==◌, ◌&&◌, ◌||◌, Bool, true, false, if◌then◌else◌, List, [], ◌∷◌, ◌++◌, length, map, length-append, refl, sym, ap, ◌∙◌, subst, arith, nat_lt, find, Option, Some, list_any, ne_eqb, map-append, MONITOR_PRIORITY, number_of_term, State, limits_of, report, exhaustion, started_report, exhausted_report, clipped_to, open_child, clipped, opens, or_exhaustion, raised, moved, CellName, Cell, Qualified, ExecuteArguments, order_at, IsOrder, Monitor, Reduces, Task, Goal, is_monitor, is_monitor_of, Shoen, has_number, path_in, Reading, meaning, goal_with, shoen_with, aim, whole, AreOwned, worked, finds, path_read, child_of, Machine, made, IsMachine, goal_at, with_goal, with_shoen, Becomes, Puts, TurnsAs, JoinsAs, OpensAs, OpensChild}
-use Rattle.std.proofs.lemmas.List.{append_assoc}
+use Rattle.std.proofs.Common.{◌≡◌, ℕ, suc, ◌-◌, ◌<◌, ◌==◌, ◌&&◌, ◌||◌, Bool, true, false, if◌then◌else◌, List, [], ◌∷◌, ◌++◌, length, map, length-append, refl, sym, ap, ◌∙◌, subst, arith}
+use Rattle.std.specs.Prelude.{nat_lt, find, Option, Some}
+use Rattle.std.specs.List.{list_any}
+use Rattle.std.proofs.lemmas.Bool.{ne_eqb}
+use Rattle.std.proofs.lemmas.List.{map-append, append_assoc}
+use Rattle.kl1_model.specs.declared.limits.TheConstants.{MONITOR_PRIORITY}
+use Rattle.kl1_model.specs.Look.{number_of_term}
 use Rattle.kl1_model.specs.State as model
+use Rattle.kl1_model.specs.State.{State, limits_of}
+use Rattle.kl1_model.specs.Report.{report, exhaustion, started_report, exhausted_report}
 use Rattle.kl1_model.specs.Opening as opening
+use Rattle.kl1_model.specs.Opening.{clipped_to, open_child}
+use Rattle.kl1_model.specs.code.Steps.{clipped}
+use Rattle.kl1_model.specs.Reduction.{opens, or_exhaustion, raised, moved}
+use Rattle.kl1_text.specs.declared.cell_name.CellName.{CellName}
+use Rattle.kl1_store.specs.declared.cell.Cell.{Cell}
+use Rattle.kl1_store.specs.declared.qualified.Qualified.{Qualified}
+use Rattle.kl1_goals_moves.specs.declared.order.ExecuteArguments.{ExecuteArguments}
+use Rattle.kl1_goals_moves.specs.Orders.{order_at, IsOrder}
+use Rattle.kl1_goals.specs.declared.task.Task.TheVariants.{Monitor, Reduces}
+use Rattle.kl1_goals.specs.declared.task.Task.{Task}
+use Rattle.kl1_goals.specs.declared.goal.Goal.{Goal}
+use Rattle.kl1_goals.specs.Lists.{is_monitor, is_monitor_of}
+use Rattle.kl1_shoen_paths.specs.declared.shoen.Shoen.{Shoen}
+use Rattle.kl1_shoen.specs.Shoens.{has_number, path_in}
+use Rattle.kl1_user_effects.specs.Fitting.{Reading}
+use Rattle.kl1_user_effects.specs.Account.{meaning, goal_with, shoen_with, aim, whole}
+use Rattle.kl1_user_effects.specs.Kept.{AreOwned}
+use Rattle.kl1_user_effects.specs.Works.{worked}
+use Rattle.kl1_user_effects.proofs.Works.{finds}
+use Rattle.kl1_user_effects.proofs.Walking.{path_read}
+use Rattle.kl1_user_effects.proofs.Joining.{child_of}
+use Rattle.kl1_machine.specs.declared.machine.Machine.{Machine}
+use Rattle.kl1_machine.specs.Machines.{made, IsMachine}
+use Rattle.kl1_user_effects.specs.Drafts.{goal_at}
+use Rattle.kl1_machine.specs.Effects.{with_goal, with_shoen, Becomes, Puts, TurnsAs}
+use Rattle.kl1_machine.specs.Moving.{JoinsAs, OpensAs, OpensChild}
 use Rattle.kl1_machine.proofs.Ending.{as_then, as_same}
 
 -- ---- a shoen that joins

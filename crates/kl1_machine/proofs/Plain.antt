@@ -1,8 +1,27 @@
 -- Cells that stand in goals and shoens.
-use Rattle.kl1_machine.proofs.Words.{◌≡◌, List, [], ◌∷◌, map, refl, sym, ap, ap₂, ◌∙◌, subst, Option, Some, None, option_map, codes, Term, structure, CellName, Cell, Variable, Integer, Atom, Structure, Held, term_of-Atom, Task, Monitor, Reduces, Substitutes, Goal, Origin, Shoen, Reading, Means, meaning, told_in, aim_with, task_with, goal_with, origin_with, shoen_with, Machine, held_exchanged, read_exchanged, Reschedules, bare, ArePlain, no_atom_means}
+use Rattle.std.proofs.Common.{◌≡◌, List, [], ◌∷◌, map, refl, sym, ap, ap₂, ◌∙◌, subst}
+use Rattle.std.specs.Prelude.{Option, Some, None, option_map, codes}
 use Rattle.kl1_model.specs.Term as term
+use Rattle.kl1_model.specs.Term.{Term, structure}
 use Rattle.kl1_model.specs.State as model
+use Rattle.kl1_text.specs.declared.cell_name.CellName.{CellName}
+use Rattle.kl1_store.specs.declared.cell.Cell.{Cell}
+use Rattle.kl1_store.specs.declared.cell.Cell.TheVariants.{Variable, Integer, Atom, Structure}
+use Rattle.kl1_store.specs.Held.{Held}
+use Rattle.kl1_store.proofs.Terms.{term_of-Atom}
+use Rattle.kl1_goals.specs.declared.task.Task.{Task}
+use Rattle.kl1_goals.specs.declared.task.Task.TheVariants.{Monitor, Reduces, Substitutes}
+use Rattle.kl1_goals.specs.declared.goal.Goal.{Goal}
+use Rattle.kl1_shoen_paths.specs.declared.shoen.Origin.{Origin}
+use Rattle.kl1_shoen_paths.specs.declared.shoen.Shoen.{Shoen}
+use Rattle.kl1_user_effects.specs.Fitting.{Reading}
+use Rattle.kl1_user_effects.specs.Account.{Means, meaning, told_in, aim_with, task_with, goal_with, origin_with, shoen_with}
+use Rattle.kl1_machine.specs.declared.machine.Machine.{Machine}
+use Rattle.kl1_user_effects.specs.Exchanging.{held_exchanged, read_exchanged}
+use Rattle.kl1_machine.specs.Rescheduling.{Reschedules}
+use Rattle.kl1_machine.specs.Plain.{bare, ArePlain}
 use Rattle.kl1_machine.proofs.Resting.{looked_read}
+use Rattle.kl1_user_effects.proofs.Exchanges.{no_atom_means}
 
 -- ---- from one way of reading cells to another
 

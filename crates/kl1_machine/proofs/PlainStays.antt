@@ -1,6 +1,18 @@
 -- Cells that stand in goals and shoens, when a shoen reports or joins.
-use Rattle.kl1_machine.proofs.Words.{◌≡◌, ℕ, suc, Bool, true, false, if◌then◌else◌, List, [], ◌∷◌, ◌++◌, map, refl, sym, ap, ap₂, ◌∙◌, subst, map-append, variable, CellName, Cell, Kept, Shoen, Tree, has_number, changed, Reading, goal_with, shoen_with, torn, tailed, Machine, bare, IsPlain, IsPlainShoen, ArePlain}
+use Rattle.std.proofs.Common.{◌≡◌, ℕ, suc, Bool, true, false, if◌then◌else◌, List, [], ◌∷◌, ◌++◌, map, refl, sym, ap, ap₂, ◌∙◌, subst}
+use Rattle.std.proofs.lemmas.List.{map-append}
+use Rattle.kl1_model.specs.Term.{variable}
 use Rattle.kl1_model.specs.State as model
+use Rattle.kl1_text.specs.declared.cell_name.CellName.{CellName}
+use Rattle.kl1_store.specs.declared.cell.Cell.{Cell}
+use Rattle.kl1_store.specs.Hooks.{Kept}
+use Rattle.kl1_shoen_paths.specs.declared.shoen.Shoen.{Shoen}
+use Rattle.kl1_shoen.specs.Shoens.{Tree, has_number, changed}
+use Rattle.kl1_user_effects.specs.Fitting.{Reading}
+use Rattle.kl1_user_effects.specs.Account.{goal_with, shoen_with}
+use Rattle.kl1_user_effects.proofs.Works.{torn, tailed}
+use Rattle.kl1_machine.specs.declared.machine.Machine.{Machine}
+use Rattle.kl1_machine.specs.Plain.{bare, IsPlain, IsPlainShoen, ArePlain}
 use Rattle.kl1_machine.proofs.Opening.{monitor_for, goal_for, Joins, joined_is}
 
 -- ---- a report
@@ -35,15 +47,13 @@ tailed_plain f g next h p = ap (λ (k : model.Shoen). let z : model.Shoen = reco
 both_read : {A B : Type 0} (F G : A → B) (xs ys : List A) → map F xs ≡ map G xs → map F ys ≡ map G ys → map F (xs ++ ys) ≡ map G (xs ++ ys)
 both_read F G xs ys p q = map-append F xs ys ∙ ap₂ (λ as' bs. as' ++ bs) p q ∙ sym (map-append G xs ys)
 
-pub joined_plain : (f g : Reading) (h : Shoen CellName) (x : Cell CellName) (room : ℕ) (m u v w : Machine) → Joins h x room m u v w → IsPlainShoen f g h × IsPlain f g x → ArePlain f g m → ArePlain f g w
-joined_plain f g h x room m u v w j own p =
+pub joined_plain : (f g : Reading) (h : Shoen CellName) (x : Cell CellName) (room : ℕ) (m u v w : Machine) → Joins h x room m u v w → IsPlainShoen f g h → IsPlain f g x → ArePlain f g m → ArePlain f g w
+joined_plain f g h x room m u v w j shoen cell p =
     let A : Machine → Type 0 = λ y. ArePlain f g y in
     let F = goal_with (bare f) in
     let G = goal_with (bare g) in
     let first = monitor_for m.counts.last_goal h in
     let second = goal_for (suc m.counts.last_goal) h x in
-    let shoen = own.0 in
-    let cell = own.1 in
     let goal : map F (second ∷ []) ≡ map G (second ∷ []) = cc in
     let one : map (shoen_with (bare f)) (h ∷ []) ≡ map (shoen_with (bare g)) (h ∷ []) = cc in
     subst A (sym (joined_is h x room m u v w j))

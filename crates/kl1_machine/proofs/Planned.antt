@@ -1,9 +1,37 @@
 -- Which reductions are refused.
-use Rattle.kl1_machine.proofs.Words.{◌≡◌, ℕ, ◌==◌, ◌&&◌, ◌||◌, if◌then◌else◌, Bool, true, false, List, [], ◌∷◌, map, refl, sym, ap, ◌∙◌, subst, Option, Some, None, option_map, find, AllByRecursion, State, is_enabled, is_enabled_in, reduce, refuse, syntax, step_refused, journal_full, reduced, is_number, is_full, needs_entry, with_reduction, is_in_run, step, Action, reads, moves, acted, task_action, reduce_goal, reduced_by, CellName, Held, control_as, Place, Task, Monitor, Reduces, Substitutes, Goal, is_monitor, is_monitor_task, Shoen, Has, enabled_is, Program, Step, Journal, Reading, Fits, Means, meaning, task_with, goal_with, shoen_with, aim, IsEnabled, AreEnabled, Knows, worked, Machine, made, Plan, IsPlan, DoesNothing, IsSteppable, Refuses}
+use Rattle.std.proofs.Common.{◌≡◌, ℕ, ◌==◌, ◌&&◌, ◌||◌, if◌then◌else◌, Bool, true, false, List, [], ◌∷◌, map, refl, sym, ap, ◌∙◌, subst}
+use Rattle.std.specs.Prelude.{Option, Some, None, option_map, find}
+use Rattle.std.specs.List.{AllByRecursion}
 use Rattle.kl1_model.specs.State as model
-use Rattle.kl1_model.specs.State.{goal_at}
-use Rattle.kl1_goals.specs.Lists.{has_number}
+use Rattle.kl1_model.specs.State.{State, goal_at}
+use Rattle.kl1_model.specs.Tree.{is_enabled, is_enabled_in}
+use Rattle.kl1_model.specs.Event.{reduce, refuse, syntax, step_refused, journal_full, reduced, is_number, is_full, needs_entry, with_reduction}
+use Rattle.kl1_model.specs.Choice.{is_in_run}
+use Rattle.kl1_model.specs.Step.{step}
+use Rattle.kl1_model.specs.Reduction.{Action, reads, moves, acted, task_action, reduce_goal}
+use Rattle.kl1_model.specs.code.Steps.{reduced_by}
+use Rattle.kl1_text.specs.declared.cell_name.CellName.{CellName}
+use Rattle.kl1_store.specs.Held.{Held}
+use Rattle.kl1_stream.specs.Controls.{control_as}
+use Rattle.kl1_match.specs.declared.place.Place.{Place}
+use Rattle.kl1_goals.specs.declared.task.Task.{Task}
+use Rattle.kl1_goals.specs.declared.task.Task.TheVariants.{Monitor, Reduces, Substitutes}
+use Rattle.kl1_goals.specs.declared.goal.Goal.{Goal}
+use Rattle.kl1_goals.specs.Lists.{has_number, is_monitor, is_monitor_task}
+use Rattle.kl1_shoen_paths.specs.declared.shoen.Shoen.{Shoen}
+use Rattle.kl1_shoen.proofs.Meaning.{Has, enabled_is}
+use Rattle.kl1_codes.specs.Shelves.{Program}
+use Rattle.kl1_user_events.specs.declared.refusal.Refusal.TheVariants.{Step, Journal}
+use Rattle.kl1_user_effects.specs.Fitting.{Reading, Fits}
+use Rattle.kl1_user_effects.specs.Account.{Means, meaning, task_with, goal_with, shoen_with, aim}
+use Rattle.kl1_user_effects.specs.Settled.{IsEnabled, AreEnabled}
+use Rattle.kl1_user_effects.specs.Works.{Knows, worked}
+use Rattle.kl1_machine.specs.declared.machine.Machine.{Machine}
+use Rattle.kl1_machine.specs.Machines.{made}
+use Rattle.kl1_ready.specs.declared.planning.Plan.{Plan}
 use Rattle.kl1_ready.specs.declared.planning.Plan.TheVariants as plan
+use Rattle.kl1_ready.specs.Plans.{IsPlan, DoesNothing}
+use Rattle.kl1_machine.specs.Reducing.{IsSteppable, Refuses}
 
 -- ---- a goal, by its number
 
@@ -56,7 +84,7 @@ steps_nowhere f s m n c e g =
     ap (λ b. if b then reduce_goal z (is_in_run z n c) c (goal_at n z.goals) else refuse z syntax) e ∙ ap (reduce_goal z (is_in_run z n c) c) (finds_goal f s m n None g)
 
 -- a goal that is there does what its task can, if it may step
-pub steps_by : (f : Reading) (s : State) (m : Machine) (n c : ℕ) (g : Goal CellName) (may : Bool) → (is_number n && is_number c) ≡ true → find (has_number n) m.goals.goals ≡ Some g → g.is_enabled ≡ may → AreEnabled m.shoens.shoens m.shoens.work m.goals.goals →
+steps_by : (f : Reading) (s : State) (m : Machine) (n c : ℕ) (g : Goal CellName) (may : Bool) → (is_number n && is_number c) ≡ true → find (has_number n) m.goals.goals ≡ Some g → g.is_enabled ≡ may → AreEnabled m.shoens.shoens m.shoens.work m.goals.goals →
     step (state_in f s m) (reduce n c)
     ≡ reduced_by (state_in f s m) (is_in_run (state_in f s m) n c) (goal_with (meaning f m.store.held) g) (if may then task_action (state_in f s m) g.shoen (task_with (meaning f m.store.held) g.task) c else None)
 steps_by f s m n c g may numbers found enabled all =
@@ -66,6 +94,11 @@ steps_by f s m n c g may numbers found enabled all =
     ∙ ap (reduce_goal z (is_in_run z n c) c) (finds_goal f s m n (Some g) found)
     ∙ ap (λ b. reduced_by z (is_in_run z n c) (goal_with t g) (if b then task_action z g.shoen (task_with t g.task) c else None))
     (enabled_read f m.store.held m.shoens.shoens m.shoens.work z g refl refl (found_holds (IsEnabled m.shoens.shoens m.shoens.work) n m.goals.goals g all found) ∙ enabled)
+
+-- a goal that is held back is refused
+pub steps_held : (f : Reading) (s : State) (m : Machine) (n c : ℕ) (g : Goal CellName) → (is_number n && is_number c) ≡ true → find (has_number n) m.goals.goals ≡ Some g → g.is_enabled ≡ false → AreEnabled m.shoens.shoens m.shoens.work m.goals.goals →
+    step (state_in f s m) (reduce n c) ≡ refuse (state_in f s m) step_refused
+steps_held f s m n c g numbers found held all = steps_by f s m n c g false numbers found held all
 
 -- a goal that may step does what its task can
 steps_to : (f : Reading) (s : State) (m : Machine) (n c : ℕ) (g : Goal CellName) → IsSteppable m.goals.goals n c g → AreEnabled m.shoens.shoens m.shoens.work m.goals.goals →
@@ -77,11 +110,21 @@ pub steps_not : (f : Reading) (s : State) (m : Machine) (n c : ℕ) (g : Goal Ce
     step (state_in f s m) (reduce n c) ≡ refuse (state_in f s m) step_refused
 steps_not f s m n c g is all e = steps_to f s m n c g is all ∙ ap (reduced_by (state_in f s m) (is_in_run (state_in f s m) n c) (goal_with (meaning f m.store.held) g)) e
 
--- an action is done, unless it needs an entry and the journal is full
-pub steps_some : (f : Reading) (s : State) (m : Machine) (n c : ℕ) (g : Goal CellName) (x : Action) (full : Bool) → IsSteppable m.goals.goals n c g → AreEnabled m.shoens.shoens m.shoens.work m.goals.goals → task_action (state_in f s m) g.shoen (task_with (meaning f m.store.held) g.task) c ≡ Some x →
-    (needs_entry (is_in_run (state_in f s m) n c) (state_in f s m) && is_full (state_in f s m)) ≡ full →
-    step (state_in f s m) (reduce n c) ≡ (if full then refuse (state_in f s m) journal_full else record { state = acted (goal_with (meaning f m.store.held) g) x (with_reduction (is_in_run (state_in f s m) n c) (state_in f s m)); reply = reduced })
-steps_some f s m n c g x full is all e room =
+-- an action is refused if it needs an entry and the journal is full
+pub steps_full : (f : Reading) (s : State) (m : Machine) (n c : ℕ) (g : Goal CellName) (x : Action) → IsSteppable m.goals.goals n c g → AreEnabled m.shoens.shoens m.shoens.work m.goals.goals → task_action (state_in f s m) g.shoen (task_with (meaning f m.store.held) g.task) c ≡ Some x →
+    (needs_entry (is_in_run (state_in f s m) n c) (state_in f s m) && is_full (state_in f s m)) ≡ true → step (state_in f s m) (reduce n c) ≡ refuse (state_in f s m) journal_full
+steps_full f s m n c g x is all e full =
+    let z = state_in f s m in
+    let k = goal_with (meaning f m.store.held) g in
+    let in_run = is_in_run z n c in
+    steps_to f s m n c g is all ∙ ap (reduced_by z in_run k) e
+    ∙ ap (λ b. if b then refuse z journal_full else record { state = acted k x (with_reduction in_run z); reply = reduced }) full
+
+-- an action is done if there is room in the journal
+pub steps_on : (f : Reading) (s : State) (m : Machine) (n c : ℕ) (g : Goal CellName) (x : Action) → IsSteppable m.goals.goals n c g → AreEnabled m.shoens.shoens m.shoens.work m.goals.goals → task_action (state_in f s m) g.shoen (task_with (meaning f m.store.held) g.task) c ≡ Some x →
+    (needs_entry (is_in_run (state_in f s m) n c) (state_in f s m) && is_full (state_in f s m)) ≡ false →
+    step (state_in f s m) (reduce n c) ≡ record { state = acted (goal_with (meaning f m.store.held) g) x (with_reduction (is_in_run (state_in f s m) n c) (state_in f s m)); reply = reduced }
+steps_on f s m n c g x is all e room =
     let z = state_in f s m in
     let k = goal_with (meaning f m.store.held) g in
     let in_run = is_in_run z n c in
@@ -101,6 +144,6 @@ nothing_refused program full m n c g may does = λ f fits s is room. steps_not f
 -- what a goal can do is refused if it needs an entry and the journal is full
 pub full_refused : (program : Program) (full : Bool) (m : Machine) (n c : ℕ) (g : Goal CellName) (places : List (Place CellName)) (text : List ℕ) (p : Plan) → MayStep program m n c g → full ≡ true → IsPlan program m.store.held (made m) g c places text p → Refuses program full n c m Journal
 full_refused program full m n c g places text (plan.Reads control) may full_is p = λ f fits s is room.
-    steps_some f s m n c g (reads (control_as f m.store.held control)) true may.steppable may.enabled (p.does f (may.knows f fits) s is) (room ∙ full_is)
+    steps_full f s m n c g (reads (control_as f m.store.held control)) may.steppable may.enabled (p.does f (may.knows f fits) s is) (room ∙ full_is)
 full_refused program full m n c g places text (plan.Moves a) may full_is p = λ f fits s is room.
-    steps_some f s m n c g (moves (aim f m.store.held a.cell) (p.move f)) true may.steppable may.enabled (p.does f (may.knows f fits) s is) (room ∙ full_is)
+    steps_full f s m n c g (moves (aim f m.store.held a.cell) (p.move f)) may.steppable may.enabled (p.does f (may.knows f fits) s is) (room ∙ full_is)

@@ -1,8 +1,44 @@
 -- Exceptions: with a report alone, and with a substitute in the place of the goal.
-use Rattle.kl1_machine.proofs.Words.{◌≡◌, ℕ, suc, ◌+◌, ◌-◌, ◌&&◌, Bool, true, false, if◌then◌else◌, List, [], length, map, refl, sym, ap, ◌∙◌, arith, subst, find, Option, BuiltIn, text_of, Term, variable, State, has_substitutes, report, is_reported, exception, exception_with, is_reported_of, replaced_by, substituted_by, raised, Reads, CellName, Qualified, Cell, Variable, Held, IsIn, with_variable, Kept, term_of-variable, Grown-variable, IsException, Substitutes, Goal, has_number, Numbered, Reading, built, meaning, aim, task_with, goal_with, shoen_with, IsWhole, IsOwned, unheard, Made, worked, IsMadeIn, Knows, found_in, read_as, rereads, grown_made, last_made, turns_then, turns_as, unmade_turns, grown_turns, raised_turns, IsAsked, new_in, new_stays, reported_here, replaced_turns, plain_turns, unreported_turns, whole_turns, new_means, asked_agree, Machine, made, IsMachine, Puts, Tells, TurnsAs}
+use Rattle.std.proofs.Common.{◌≡◌, ℕ, suc, ◌+◌, ◌-◌, ◌&&◌, Bool, true, false, if◌then◌else◌, List, [], length, map, refl, sym, ap, ◌∙◌, arith, subst}
+use Rattle.std.specs.Prelude.{find, Option}
+use Rattle.kl1_model.specs.declared.built_in.BuiltIn.{BuiltIn}
+use Rattle.kl1_model.specs.Text.{text_of}
+use Rattle.kl1_model.specs.Term.{Term, variable}
 use Rattle.kl1_model.specs.State as model
+use Rattle.kl1_model.specs.State.{State, has_substitutes}
+use Rattle.kl1_model.specs.Report.{report, is_reported, exception, exception_with}
+use Rattle.kl1_model.specs.code.Steps.{is_reported_of}
+use Rattle.kl1_model.specs.Reduction.{replaced_by, substituted_by, raised}
+use Rattle.kl1_text.specs.Reading.{Reads}
+use Rattle.kl1_text.specs.declared.cell_name.CellName.{CellName}
+use Rattle.kl1_store.specs.declared.qualified.Qualified.{Qualified}
+use Rattle.kl1_store.specs.declared.cell.Cell.{Cell}
+use Rattle.kl1_store.specs.declared.cell.Cell.TheVariants.{Variable}
+use Rattle.kl1_store.specs.Held.{Held, IsIn, with_variable}
+use Rattle.kl1_store.specs.Hooks.{Kept}
+use Rattle.kl1_store.proofs.Terms.{term_of-variable}
+use Rattle.kl1_store.proofs.Grows.{Grown-variable}
+use Rattle.kl1_stream.specs.Exceptions.{IsException}
+use Rattle.kl1_goals.specs.declared.task.Task.TheVariants.{Substitutes}
+use Rattle.kl1_goals.specs.declared.goal.Goal.{Goal}
+use Rattle.kl1_shoen.specs.Shoens.{has_number}
+use Rattle.kl1_codes.specs.Numbered.{Numbered}
+use Rattle.kl1_user_effects.specs.Fitting.{Reading, built}
+use Rattle.kl1_user_effects.specs.Account.{meaning, aim, task_with, goal_with, shoen_with}
+use Rattle.kl1_user_effects.specs.Wholes.{IsWhole}
+use Rattle.kl1_user_effects.specs.Kept.{IsOwned}
+use Rattle.kl1_user_effects.specs.Reports.{unheard}
+use Rattle.kl1_user_effects.specs.Works.{Made, worked, IsMadeIn, Knows}
 use Rattle.kl1_user_effects.specs.Works as works
+use Rattle.kl1_user_effects.proofs.States.{found_in}
+use Rattle.kl1_user_effects.proofs.Works.{read_as, rereads, grown_made, last_made, turns_then, turns_as}
+use Rattle.kl1_user_effects.proofs.Reported.{unmade_turns}
+use Rattle.kl1_user_effects.proofs.Streams.{grown_turns, raised_turns}
+use Rattle.kl1_user_effects.proofs.Substituting.{IsAsked, asked_grown, new_in, new_stays, reported_here, replaced_turns, plain_turns, unreported_turns, whole_turns, new_means, asked_agree}
+use Rattle.kl1_machine.specs.declared.machine.Machine.{Machine}
+use Rattle.kl1_machine.specs.Machines.{made, IsMachine}
 use Rattle.kl1_machine.proofs.Keeping.{Grows}
+use Rattle.kl1_machine.specs.Effects.{Puts, Tells, TurnsAs}
 
 -- ---- without a substitute
 
@@ -10,7 +46,7 @@ use Rattle.kl1_machine.proofs.Keeping.{Grows}
 pub exception_reported : (m : Machine) (k : Kept CellName) (n : ℕ) (kind : BuiltIn) (goal message : Cell CellName) (u : Machine) (told : Bool) → IsMachine m → Grows m k → IsException built m.store.held k.held kind goal message →
     Tells n message (record m { store = k }) u told → TurnsAs (λ f. report n (exception (text_of kind) (meaning f m.store.held goal))) m u
 exception_reported m k n kind goal message u told i g e tells = record {
-  turns = λ ms. raised_turns ms m.store.held k.held u.store.held (made m) (made u) n kind goal message (record { grown = g.grown; excepts = e; inside = i.inside }) (λ j. tells.turns ms);
+  turns = λ ms. raised_turns ms m.store.held k.held u.store.held (made m) (made u) n kind goal message g.grown e i.inside (λ j. tells.turns ms);
   machine = tells.machine;
   named = record { name = tells.named.name; spelled = tells.named.spelled };
 }
@@ -20,7 +56,7 @@ pub raised_alone : (m : Machine) (k : Kept CellName) (goal : Goal CellName) (kin
     TurnsAs (λ f. report goal.shoen (exception (text_of kind) (meaning f k.held x))) (record m { store = k }) u → TurnsAs (λ f. raised (goal_with (meaning f m.store.held) goal) (text_of kind) (aim f m.store.held cell)) m u
 raised_alone m k goal kind cell x u i one g whole r =
     record {
-      turns = λ ms. whole_turns ms m.store.held k.held u.store.held (made m) (made u) goal (text_of kind) cell x (record { grown = g.grown; whole = whole; inside = i.inside }) (λ j. plain_turns ms k.held u.store.held (made m) (made u) goal (text_of kind) x one (r.turns ms));
+      turns = λ ms. whole_turns ms m.store.held k.held u.store.held (made m) (made u) goal (text_of kind) cell x g.grown whole i.inside (λ j. plain_turns ms k.held u.store.held (made m) (made u) goal (text_of kind) x one (r.turns ms));
       machine = r.machine;
       named = record { name = r.named.name; spelled = r.named.spelled };
     }
@@ -29,7 +65,7 @@ raised_alone m k goal kind cell x u i one g whole r =
 pub raised_whole : (m : Machine) (k : Kept CellName) (goal : Goal CellName) (kind : BuiltIn) (cell : Qualified CellName) (x : Cell CellName) (u : Machine) → IsMachine m → Grows m k → IsWhole m.store.held k.held cell x →
     TurnsAs (λ f. raised (goal_with (meaning f k.held) goal) (text_of kind) (meaning f k.held x)) (record m { store = k }) u → TurnsAs (λ f. raised (goal_with (meaning f m.store.held) goal) (text_of kind) (aim f m.store.held cell)) m u
 raised_whole m k goal kind cell x u i g whole r = record {
-  turns = λ ms. whole_turns ms m.store.held k.held u.store.held (made m) (made u) goal (text_of kind) cell x (record { grown = g.grown; whole = whole; inside = i.inside }) (λ j. r.turns ms);
+  turns = λ ms. whole_turns ms m.store.held k.held u.store.held (made m) (made u) goal (text_of kind) cell x g.grown whole i.inside (λ j. r.turns ms);
   machine = r.machine;
   named = record { name = r.named.name; spelled = r.named.spelled };
 }

@@ -1,9 +1,34 @@
 -- What reductions leave of a machine.
-use Rattle.kl1_machine.proofs.Words.{◌≡◌, ℕ, ◌+◌, ◌<◌, ◌≤◌, ◌==◌, ◌&&◌, Bool, true, false, if◌then◌else◌, List, [], ◌∷◌, length, refl, sym, ap, ◌∙◌, arith, subst, find, AllByRecursion, eqb-true, eq-eqb, State, settle, reads, heard, CellName, Held, Control, control_as, Monitor, Goal, is_monitor, is_monitor_task, is_monitor_of, AreSingle, Program, Spelled, Reading, NameShelf, AreSmall, IsNewName, worked, Machine, made, IsBegun, TurnsAs, Since, IsOnlyMonitor, IsRested, IsBoundLast, HoldsSpare, Patches, CanPublish, Reschedules, ReadsBy, IsSteppable}
-use Rattle.std.proofs.Common.{Option, Some, None}
-use Rattle.std.specs.Prelude.{filter}
-use Rattle.kl1_goals.specs.Lists.{has_number}
-use Rattle.kl1_machine.specs.Reducing.{Reduces}
+use Rattle.std.proofs.Common.{◌≡◌, ℕ, ◌+◌, ◌<◌, ◌≤◌, ◌==◌, ◌&&◌, Bool, true, false, if◌then◌else◌, Option, Some, None, List, [], ◌∷◌, length, refl, sym, ap, ◌∙◌, arith, subst}
+use Rattle.std.specs.Prelude.{find, filter}
+use Rattle.std.specs.List.{AllByRecursion}
+use Rattle.std.proofs.lemmas.Bool.{eqb-true, eq-eqb}
+use Rattle.kl1_model.specs.State.{State}
+use Rattle.kl1_model.specs.Ending.{settle}
+use Rattle.kl1_model.specs.Reduction.{reads, heard}
+use Rattle.kl1_text.specs.declared.cell_name.CellName.{CellName}
+use Rattle.kl1_store.specs.Held.{Held}
+use Rattle.kl1_stream.specs.declared.control.Control.{Control}
+use Rattle.kl1_stream.specs.Controls.{control_as}
+use Rattle.kl1_goals.specs.declared.task.Task.TheVariants.{Monitor}
+use Rattle.kl1_goals.specs.declared.goal.Goal.{Goal}
+use Rattle.kl1_goals.specs.Lists.{has_number, is_monitor, is_monitor_task, is_monitor_of}
+use Rattle.kl1_goals.specs.Tables.{AreSingle}
+use Rattle.kl1_codes.specs.Shelves.{Program}
+use Rattle.kl1_user_effects.specs.declared.spelled.Spelled.{Spelled}
+use Rattle.kl1_user_effects.specs.Fitting.{Reading}
+use Rattle.kl1_user_effects.specs.Naming.{NameShelf, AreSmall}
+use Rattle.kl1_user_effects.specs.Calling.{IsNewName}
+use Rattle.kl1_user_effects.specs.Works.{worked}
+use Rattle.kl1_machine.specs.declared.machine.Machine.{Machine}
+use Rattle.kl1_machine.specs.Machines.{made, IsBegun}
+use Rattle.kl1_machine.specs.Effects.{TurnsAs}
+use Rattle.kl1_machine.specs.Since.{Since, IsOnlyMonitor}
+use Rattle.kl1_machine.specs.Rested.{IsRested}
+use Rattle.kl1_machine.specs.Naming.{IsBoundLast, HoldsSpare, Patches, CanPublish}
+use Rattle.kl1_machine.specs.Rescheduling.{Reschedules}
+use Rattle.kl1_ready.specs.Plans.{ReadsBy}
+use Rattle.kl1_machine.specs.Reducing.{IsSteppable, Reduces}
 use Rattle.kl1_machine.proofs.Planned.{found_holds}
 use Rattle.kl1_machine.proofs.Resting.{turns_rescheduled}
 

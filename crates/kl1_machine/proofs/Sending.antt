@@ -1,8 +1,39 @@
 -- Messages that are put on control streams, and what becomes of a machine.
-use Rattle.kl1_machine.proofs.Words.{rules, ◌≡◌, ℕ, suc, ◌+◌, ◌-◌, List, [], length, refl, sym, ap, ◌∙◌, arith, subst, Option, Some, None, option_map, Message, Term, variable, integer, atom, structure, replace, cell, message_term, message_nodes, State, change_shoen, replace_in_state, control, sent, refuse, with_entry, Transition, with_control_tail, sent_on, step, Reads, CellName, Cell, Variable, Held, Kept, IsNoVariable, HasPut, PutAs, Origin, Shoen, changed, with_control, Refusal, refusal_of, Reading, built, Means, meaning, origin_with, shoen_with, state_with, worked, RefusesMessage, AllowsMessage, same_state, replaced_state, changed_in, changed_count, base, Machine, made, IsMachine, Becomes, Turns, TurnsAs, having_shoens, usage_of}
+use Rattle.std.proofs.Common.{◌≡◌, ℕ, suc, ◌+◌, ◌-◌, List, [], length, refl, sym, ap, ◌∙◌, arith, subst}
+use Rattle.std.specs.Prelude.{Option, Some, None, option_map}
+use Rattle.kl1_model.specs.declared.message.Message.{Message}
+use Rattle.kl1_model.specs.Term.{Term, variable, integer, atom, structure, replace}
+use Rattle.kl1_model.specs.Meaning.{cell}
+use Rattle.kl1_model.specs.Control.{message_term, message_nodes}
 use Rattle.kl1_model.specs.State as model
+use Rattle.kl1_model.specs.State.{State, change_shoen, replace_in_state}
+use Rattle.kl1_model.specs.Event.{control, sent, refuse, with_entry, Transition}
 use Rattle.kl1_model.specs.code.Steps as model_sending
-use Rattle.kl1_user_effects.specs.Messages.{Counts}
+use Rattle.kl1_model.specs.Sending.{with_control_tail, sent_on}
+use Rattle.kl1_model.specs.Step.{step}
+use Rattle.kl1_text.specs.Reading.{Reads}
+use Rattle.kl1_text.specs.declared.cell_name.CellName.{CellName}
+use Rattle.kl1_store.specs.declared.cell.Cell.{Cell}
+use Rattle.kl1_store.specs.declared.cell.Cell.TheVariants.{Variable}
+use Rattle.kl1_store.specs.Held.{Held}
+use Rattle.kl1_store.specs.Hooks.{Kept}
+use Rattle.kl1_stream.specs.Messages.{IsNoVariable, HasPut, PutAs}
+use Rattle.kl1_shoen_paths.specs.declared.shoen.Origin.{Origin}
+use Rattle.kl1_shoen_paths.specs.declared.shoen.Shoen.{Shoen}
+use Rattle.kl1_shoen.specs.Shoens.{changed}
+use Rattle.kl1_shoen.specs.Changes.{with_control}
+use Rattle.kl1_user_events.specs.declared.refusal.Refusal.{Refusal}
+use Rattle.kl1_user_events.specs.Views.{refusal_of}
+use Rattle.kl1_user_effects.specs.Fitting.{Reading, built}
+use Rattle.kl1_user_effects.specs.Account.{Means, meaning, origin_with, shoen_with, state_with}
+use Rattle.kl1_user_effects.specs.Works.{worked}
+use Rattle.kl1_user_effects.specs.Messages.{Counts, RefusesMessage, AllowsMessage}
+use Rattle.kl1_user_effects.proofs.States.{same_state, replaced_state, changed_in, changed_count}
+use Rattle.kl1_user_effects.proofs.Works.{base}
+use Rattle.kl1_machine.specs.declared.machine.Machine.{Machine}
+use Rattle.kl1_machine.specs.Machines.{made, IsMachine, Keeps}
+use Rattle.kl1_machine.specs.Effects.{Becomes, Turns, TurnsAs, having_shoens}
+use Rattle.kl1_machine.specs.Sending.{usage_of}
 use Rattle.kl1_machine.proofs.Keeping.{Grows, grown_machine}
 
 -- a shoen whose control stream goes on at the console with this variable
@@ -83,7 +114,10 @@ abbrev pub counting : ℕ → ℕ → Machine → Machine
 counting variables nodes m = record m { counts = record m.counts { variables = variables; nodes = nodes } }
 
 counted_machine : (variables nodes : ℕ) (m : Machine) → IsMachine m → IsMachine (counting variables nodes m)
-counted_machine variables nodes m i = search rules
+counted_machine variables nodes m i = let w = i.inside in record { inside = record { some = w.some; goals = w.goals; shoens = w.shoens; owned = w.owned }; last = i.last; placed = i.placed; known = i.known }
+
+pub keeps_counting : (variables nodes : ℕ) (m u : Machine) → Keeps m u → Keeps m (counting variables nodes u)
+keeps_counting variables nodes m u p = record { grown = p.grown; trail = p.trail }
 
 -- with the shoens and the counts that the code has
 pub sent_as : (n : ℕ) (message : Message) (x : Cell CellName) (next nodes : ℕ) (m : Machine) (k : Kept CellName) (u : Machine) → IsMachine m → HasPut built m.store.held k.held x message next →

@@ -1,8 +1,40 @@
 -- What changes of shoens leave since an event began.
-use Rattle.kl1_machine.proofs.Words.{rules, ◌≡◌, ℕ, ◌+◌, ◌-◌, ◌≤◌, ◌==◌, ◌||◌, ◌&&◌, Bool, true, false, List, [], ◌∷◌, ◌++◌, length, map, refl, sym, ap, ◌∙◌, arith, subst, Vec, Option, Some, None, option_map, OnOk, OnErr, AllByRecursion, Result, Ok, Err, eqb-false, eq-eqb, on_ok_weaker, is_among, CellName, Cell, Held, IsIn, Goal, is_monitor, is_monitor_of, Tabled, Shoen, Origin, Tree, changed, aborted_below_in, AreNumbered, AreLower, with_control, IsOwned, AreOwned, IsOriginIn, IsShoenIn, AreShoensIn, control_at, KeepsBy, plain, IsCalm, SameFlags, outline, KeepsOutlines, KeepsOthers, keeps_changed, keeps_more, calm_controlled, others_keep, outlines_controlled, outlines_aborted, Machine, trail_of, IsMachine, Becomes, Charges, any_reached, having_shoens, shifting_shoens, with_shoen, KeepsControl, Since, StillSince, IsOnlyMonitor, shoens_changed, changed_count}
+use Rattle.std.proofs.Common.{◌≡◌, ℕ, ◌+◌, ◌-◌, ◌≤◌, ◌==◌, ◌||◌, ◌&&◌, Bool, true, false, List, [], ◌∷◌, ◌++◌, length, map, refl, sym, ap, ◌∙◌, arith, subst}
+use Rattle.std.specs.Global.{Vec}
+use Rattle.std.specs.Prelude.{Option, Some, None, option_map, OnOk, OnErr}
+use Rattle.std.specs.List.{AllByRecursion}
+use Rattle.std.specs.declared.result.Result.{Result}
+use Rattle.std.specs.declared.result.Result.TheVariants.{Ok, Err}
+use Rattle.std.proofs.lemmas.Bool.{eqb-false, eq-eqb}
 use Rattle.std.proofs.lemmas.List.{length-append}
+use Rattle.std.proofs.lemmas.Result.{on_ok_weaker}
+use Rattle.kl1_model.specs.Module.{is_among}
+use Rattle.kl1_text.specs.declared.cell_name.CellName.{CellName}
+use Rattle.kl1_store.specs.declared.cell.Cell.{Cell}
+use Rattle.kl1_store.specs.Held.{Held, IsIn}
+use Rattle.kl1_store.specs.Hooks.{Kept}
+use Rattle.kl1_store_hooks.proofs.Hooked.{HasGrown-same}
+use Rattle.kl1_goals.specs.declared.goal.Goal.{Goal}
+use Rattle.kl1_goals.specs.Lists.{is_monitor, is_monitor_of}
+use Rattle.kl1_goals.specs.Tables.{Tabled}
+use Rattle.kl1_shoen_paths.specs.declared.shoen.Shoen.{Shoen}
+use Rattle.kl1_shoen_paths.specs.declared.shoen.Origin.{Origin}
+use Rattle.kl1_shoen.specs.Shoens.{Tree, changed, aborted_below_in, AreNumbered, AreLower}
+use Rattle.kl1_shoen.specs.Changes.{with_control}
+use Rattle.kl1_user_effects.specs.Kept.{IsOwned, AreOwned, IsOriginIn, IsShoenIn, AreShoensIn}
+use Rattle.kl1_user_effects.specs.Settled.{control_at}
+use Rattle.kl1_user_effects.specs.Frames.{KeepsBy, plain, IsCalm, SameFlags}
+use Rattle.kl1_user_effects.specs.Outlines.{outline, KeepsOutlines, KeepsOthers}
+use Rattle.kl1_user_effects.proofs.Frames.{keeps_changed, keeps_more, calm_controlled}
+use Rattle.kl1_user_effects.proofs.Outlines.{others_keep, outlines_controlled, outlines_aborted}
+use Rattle.kl1_machine.specs.declared.machine.Machine.{Machine}
+use Rattle.kl1_machine.specs.Machines.{trail_of, IsMachine, Keeps}
+use Rattle.kl1_machine.specs.Effects.{Becomes, Charges, any_reached, having_shoens, shifting_shoens, with_shoen}
+use Rattle.kl1_machine.specs.Since.{KeepsControl, Since, StillSince, IsOnlyMonitor}
+use Rattle.kl1_machine.proofs.Keeping.{Grows, grown_machine}
 use Rattle.kl1_machine.proofs.Flags.{same_flags, charge_flags}
-use Rattle.kl1_machine.proofs.Sincing.{each_both, since_counts}
+use Rattle.kl1_machine.proofs.Sincing.{each_both, since_store, since_counts}
+use Rattle.kl1_user_effects.proofs.States.{shoens_changed, changed_count}
 
 -- ---- shoens that are there
 
@@ -98,7 +130,7 @@ pub becomes_shifting : {T E : Type 0} (r : Result T E) (m : Machine) (t : Tree C
 becomes_shifting r m t hs inside same i =
     let P : Tree CellName → Type 0 = λ u. Becomes (shifting_shoens hs m) (record m { shoens = u; shifts = true }) in
     let j = tree_machine m hs inside same i in
-    on_ok_weaker r (λ (is : t ≡ with_shoens hs m.shoens). subst P (sym is) (record { is = refl; machine = search rules }))
+    on_ok_weaker r (λ (is : t ≡ with_shoens hs m.shoens). subst P (sym is) (record { is = refl; machine = record { inside = let w = j.inside in record { some = w.some; goals = w.goals; shoens = w.shoens; owned = w.owned }; last = j.last; placed = j.placed; known = j.known } }))
 
 -- one shoen that changes so
 pub shifts_one : {T E : Type 0} (r : Result T E) (m : Machine) (t : Tree CellName) (n : ℕ) (f : Shoen CellName → Shoen CellName) → IsShift f → IsMachine m → OnOk r (t ≡ with_shoens (changed n f m.shoens.shoens) m.shoens) → OnOk r (Becomes (shifting_shoens (changed n f m.shoens.shoens) m) (record m { shoens = t; shifts = true }))
@@ -183,7 +215,7 @@ pub becomes_told : {T E : Type 0} (r : Result T E) (m : Machine) (t : Tree CellN
 becomes_told r m t v hs inside same i =
     let P : Tree CellName → Type 0 = λ u. Becomes (telling hs v m) (record m { shoens = u; told = v }) in
     let j = tree_machine m hs inside same i in
-    on_ok_weaker r (λ (is : t ≡ with_shoens hs m.shoens). subst P (sym is) (record { is = refl; machine = search rules }))
+    on_ok_weaker r (λ (is : t ≡ with_shoens hs m.shoens). subst P (sym is) (record { is = refl; machine = record { inside = let w = j.inside in record { some = w.some; goals = w.goals; shoens = w.shoens; owned = w.owned }; last = j.last; placed = j.placed; known = j.known } }))
 
 pub told_either : {T E : Type 0} (r : Result T E) (b m : Machine) (t : Tree CellName) (v : Vec ℕ) (hs : List (Shoen CellName)) → OnOk r (t ≡ with_shoens hs m.shoens) → OnErr r (t ≡ m.shoens) → (Since b m → Since b (telling hs v m)) → Since b m → StillSince r b (record m { shoens = t; told = v })
 told_either (Ok x) b m t v hs is err told s =
@@ -309,7 +341,7 @@ now_reached m t n reached is e = sym (e ∙ ap (λ (v : Tree CellName). any_reac
 pub charges : (m : Machine) (t : Tree CellName) (n : ℕ) (reached : Bool) → IsMachine m → t ≡ record m.shoens { work = n ∷ m.shoens.work } → reached ≡ any_reached n t.shoens t.work → Charges n m (record m { shoens = t; shifts = m.shifts || reached }) reached
 charges m t n reached i is e =
     let P : Tree CellName → Type 0 = λ v. Charges n m (record m { shoens = v; shifts = m.shifts || reached }) reached in
-    let machine : IsMachine (record m { shoens = record m.shoens { work = n ∷ m.shoens.work }; shifts = m.shifts || reached }) = search rules in
+    let machine : IsMachine (record m { shoens = record m.shoens { work = n ∷ m.shoens.work }; shifts = m.shifts || reached }) = record { inside = (let w = i.inside in record { some = w.some; goals = w.goals; shoens = w.shoens; owned = w.owned }); last = i.last; placed = i.placed; known = i.known } in
     subst P (sym is) (record { reached_is = now_reached m t n reached is e; is = refl; turns = λ ms. record { inside = machine.inside; states = λ f knows s. refl }; machine = machine })
 
 pub charged_since : (b m : Machine) (t : Tree CellName) (n : ℕ) (reached : Bool) → t ≡ record m.shoens { work = n ∷ m.shoens.work } → reached ≡ any_reached n t.shoens t.work → length m.shoens.work ≤ length b.shoens.work → Since b m → Since b (record m { shoens = t; shifts = m.shifts || reached })

@@ -1,7 +1,23 @@
 -- What stays since an event began, whatever is done.
-use Rattle.kl1_machine.proofs.Words.{rules, ◌≡◌, ℕ, suc, ◌<◌, ◌&&◌, Bool, true, false, if◌then◌else◌, List, [], ◌∷◌, ◌++◌, length, refl, sym, ap, ◌∙◌, arith, subst, append_assoc, OnOk, Result, Ok, Err, filter, AllByRecursion, on_ok_weaker, CellName, Kept, Task, Goal, Tabled, Spelled, filter_append, filter_in, filter_owned, filter_up_to, Machine, IsMachine, Keeps, goal_at, Becomes, Puts, with_goal, having_goals, HasCome, KeepsControl, Since, StillSince}
-use Rattle.std.proofs.Common.{Option, Some}
+use Rattle.std.proofs.Common.{◌≡◌, ℕ, suc, ◌<◌, ◌&&◌, Bool, true, false, if◌then◌else◌, Option, Some, List, [], ◌∷◌, ◌++◌, length, refl, sym, ap, ◌∙◌, arith, subst, append_assoc}
+use Rattle.std.specs.Prelude.{OnOk}
+use Rattle.std.specs.declared.result.Result.{Result}
+use Rattle.std.specs.declared.result.Result.TheVariants.{Ok, Err}
+use Rattle.std.specs.List.{filter, AllByRecursion}
+use Rattle.std.proofs.lemmas.Result.{on_ok_weaker}
 use Rattle.std.proofs.lemmas.List.{append-nil}
+use Rattle.kl1_text.specs.declared.cell_name.CellName.{CellName}
+use Rattle.kl1_store.specs.Hooks.{Kept}
+use Rattle.kl1_goals.specs.declared.task.Task.{Task}
+use Rattle.kl1_goals.specs.declared.goal.Goal.{Goal}
+use Rattle.kl1_goals.specs.Tables.{Tabled}
+use Rattle.kl1_user_effects.specs.declared.spelled.Spelled.{Spelled}
+use Rattle.kl1_user_effects.proofs.Goals.{filter_append, filter_in, filter_owned, filter_up_to}
+use Rattle.kl1_machine.specs.declared.machine.Machine.{Machine}
+use Rattle.kl1_machine.specs.Machines.{IsMachine, Keeps}
+use Rattle.kl1_user_effects.specs.Drafts.{goal_at}
+use Rattle.kl1_machine.specs.Effects.{Becomes, Puts, with_goal, having_goals}
+use Rattle.kl1_machine.specs.Since.{HasCome, KeepsControl, Since, StillSince}
 use Rattle.kl1_machine.proofs.Keeping.{Grows, keeps_same, keeps_then, keeps_store, keeps_back, keeps_goals}
 
 -- ---- lists
@@ -74,11 +90,6 @@ since_same b = record { keeps = keeps_same b; hooks = refl; come = come_same b; 
 pub kept_after : (m v n : Machine) → (Since m m → Since m v) → Keeps v n → Keeps m n
 kept_after m v n since keeps = keeps_then m v n (since (since_same m)).keeps keeps
 
--- if what an event has done is this, then a call may be refused or not
-pub still : {T E : Type 0} (r : Result T E) (b n : Machine) → Since b n → StillSince r b n
-still (Ok x) b n s = s
-still (Err x) b n s = s.keeps
-
 -- a store that grows, by no hook, changes nothing of it
 pub since_store : (b m : Machine) (k : Kept CellName) → Grows m k → Since b m → Since b (record m { store = k })
 since_store b m k g s = record {
@@ -93,7 +104,15 @@ since_store b m k g s = record {
 
 -- nor do more variables, structures and reports that are counted
 pub since_counts : (b m : Machine) (variables nodes reports : ℕ) → Since b m → Since b (record m { counts = record m.counts { variables = variables; nodes = nodes; reports = reports } })
-since_counts b m variables nodes reports s = search rules
+since_counts b m variables nodes reports s = record {
+  keeps = record { grown = s.keeps.grown; trail = s.keeps.trail };
+  hooks = s.hooks;
+  come = record { left = s.come.left; added = s.come.added; goals = s.come.goals; above = s.come.above; last = s.come.last };
+  shoens = s.shoens;
+  controls = s.controls;
+  flags = s.flags;
+  work = s.work;
+}
 
 -- goals that go
 pub since_fewer : (b m : Machine) (p : Goal CellName → Bool) → Since b m → Since b (having_goals (filter p m.goals.goals) m)
@@ -146,8 +165,7 @@ fewer_machine m p i =
       known = i.known;
     }
 
--- a table of which only the goals are others
-pub goals_are : (r s : Tabled CellName) (gs : List (Goal CellName)) → s ≡ record r { goals = s.goals } → s.goals ≡ gs → s ≡ record r { goals = gs }
+goals_are : (r s : Tabled CellName) (gs : List (Goal CellName)) → s ≡ record r { goals = s.goals } → s.goals ≡ gs → s ≡ record r { goals = gs }
 goals_are r s gs rest is = rest ∙ ap (λ (hs : List (Goal CellName)). let z : Tabled CellName = record r { goals = hs } in z) is
 
 pub fewer_becomes : {T E : Type 0} (r : Result T E) (m : Machine) (t : Tabled CellName) (p : Goal CellName → Bool) → IsMachine m → t ≡ record m.goals { goals = t.goals } → OnOk r (t.goals ≡ filter p m.goals.goals) → OnOk r (Becomes (having_goals (filter p m.goals.goals) m) (record m { goals = t }))
@@ -164,9 +182,28 @@ fewer_since (Err x) b m t p rest ok s = keeps_then b m (record m { goals = t }) 
 -- ---- a new name
 
 pub named_machine : (m : Machine) (text : List ℕ) → IsMachine m → Becomes (record m { name = Some text }) (record m { name = Some text })
-named_machine m text i = record { is = refl; machine = search rules }
+named_machine m text i = record { is = refl; machine = let w = i.inside in record { inside = record { some = w.some; goals = w.goals; shoens = w.shoens; owned = w.owned }; last = i.last; placed = i.placed; known = i.known } }
+
+pub since_named : (b m : Machine) (text : List ℕ) → Since b m → Since b (record m { name = Some text })
+since_named b m text s = record {
+  keeps = record { grown = s.keeps.grown; trail = s.keeps.trail };
+  hooks = s.hooks;
+  come = record { left = s.come.left; added = s.come.added; goals = s.come.goals; above = s.come.above; last = s.come.last };
+  shoens = s.shoens;
+  controls = s.controls;
+  flags = s.flags;
+  work = s.work;
+}
 
 -- ---- the variable that becomes it
 
 pub since_spelled : (b m : Machine) (o : Option Spelled) → Since b m → Since b (record m { spelled = o })
-since_spelled b m o s = search rules
+since_spelled b m o s = record {
+  keeps = record { grown = s.keeps.grown; trail = s.keeps.trail };
+  hooks = s.hooks;
+  come = record { left = s.come.left; added = s.come.added; goals = s.come.goals; above = s.come.above; last = s.come.last };
+  shoens = s.shoens;
+  controls = s.controls;
+  flags = s.flags;
+  work = s.work;
+}

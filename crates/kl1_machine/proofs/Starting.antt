@@ -1,11 +1,52 @@
 -- Goals of the console that are built, and starts.
-use Rattle.kl1_machine.proofs.Words.{◌≡◌, ℕ, suc, ◌+◌, ◌-◌, ◌==◌, Bool, true, false, if◌then◌else◌, List, [], length, refl, sym, ap, ◌∙◌, arith, subst, inl, inr, Option, Some, None, or_cases, false≢true, bytes_eq-Decides, Living, True, text_of, Term, variable, integer, atom, structure, nodes_of, report_of, is_goal, highest, is_numbered, goal_nodes, State, fresh, names_of, with_names, has_made_last, report_tail, reported_on, reported_at, report, started_report, exhausted_report, open_shoen, with_next_variables, started_shoen, start_goal, Reads, CellName, no_names, Cell, Held, IsIn, with_variable, Kept, IsFormed, Grown, Grown-variable, Grown-trans, term_of-variable, term_of-unbound, term_of-Atom, Instruction, IsRowOf, with_variables, AreGoalVariables, kept_with, beyond_unbound, Origin, Shoen, Reading, built, reading_of, reading_fits, meaning, shoen_with, worked, IsMadeIn, in_grown, read_as, rereads, Machine, made, IsMachine, counting, CanStart, Brings, OpensAs, bare, IsPlain, IsPlainShoen, ArePlain, ReadsNames, BuildsGoal, OpensStreams}
-use Rattle.std.proofs.Common.{IsTrue, bytes_eq}
+use Rattle.std.proofs.Common.{◌≡◌, ℕ, suc, ◌+◌, ◌-◌, ◌==◌, Bool, true, false, if◌then◌else◌, List, [], length, IsTrue, refl, sym, ap, ◌∙◌, arith, subst, inl, inr, bytes_eq}
+use Rattle.std.specs.Prelude.{Option, Some, None}
+use Rattle.std.proofs.lemmas.Bool.{or_cases, false≢true}
+use Rattle.std.proofs.lemmas.Slice.Eq.{bytes_eq-Decides}
+use Rattle.kl1_model.specs.declared.life.Life.TheVariants.{Living}
+use Rattle.kl1_model.specs.declared.built_in.BuiltIn.TheVariants.{True}
+use Rattle.kl1_model.specs.Text.{text_of}
+use Rattle.kl1_model.specs.Term.{Term, variable, integer, atom, structure}
+use Rattle.kl1_model.specs.code.TermCode.{nodes_of}
+use Rattle.kl1_model.specs.code.Steps.{report_of}
+use Rattle.kl1_model.specs.Goal.{is_goal}
+use Rattle.kl1_model.specs.Meaning.{highest, is_numbered}
+use Rattle.kl1_model.specs.Nodes.{goal_nodes}
 use Rattle.kl1_model.specs.State as model
-use Rattle.kl1_model.specs.Opening.{with_shoen}
+use Rattle.kl1_model.specs.State.{State, fresh, names_of, with_names}
+use Rattle.kl1_model.specs.Report.{has_made_last, report_tail, reported_on, reported_at, report, started_report, exhausted_report}
+use Rattle.kl1_model.specs.Opening.{with_shoen, open_shoen, with_next_variables, started_shoen, start_goal}
+use Rattle.kl1_text.specs.Reading.{Reads}
+use Rattle.kl1_text.specs.declared.cell_name.CellName.{CellName}
+use Rattle.kl1_atoms.specs.Knowing.{no_names}
+use Rattle.kl1_store.specs.declared.cell.Cell.{Cell}
 use Rattle.kl1_store.specs.declared.cell.Cell.TheVariants as cell
+use Rattle.kl1_store.specs.Held.{Held, IsIn, with_variable}
+use Rattle.kl1_store.specs.Hooks.{Kept}
+use Rattle.kl1_store.specs.Sound.{IsFormed, Grown}
+use Rattle.kl1_store.proofs.Grows.{Grown-variable, Grown-trans}
+use Rattle.kl1_store.proofs.Terms.{term_of-variable, term_of-unbound, term_of-Atom}
+use Rattle.kl1_clause.specs.declared.instruction.Instruction.{Instruction}
+use Rattle.kl1_clause.specs.Instructions.{IsRowOf}
+use Rattle.kl1_match.specs.Variables.{with_variables}
 use Rattle.kl1_match.specs.GoalCells as building
+use Rattle.kl1_match.specs.GoalCells.{AreGoalVariables}
+use Rattle.kl1_match.proofs.Places.{kept_with, beyond_unbound}
+use Rattle.kl1_shoen_paths.specs.declared.shoen.Origin.{Origin}
+use Rattle.kl1_shoen_paths.specs.declared.shoen.Shoen.{Shoen}
+use Rattle.kl1_user_effects.specs.Fitting.{Reading, built, reading_of, reading_fits}
+use Rattle.kl1_user_effects.specs.Account.{meaning, shoen_with}
+use Rattle.kl1_user_effects.specs.Works.{worked, IsMadeIn}
+use Rattle.kl1_user_effects.proofs.States.{in_grown}
+use Rattle.kl1_user_effects.proofs.Works.{read_as, rereads}
+use Rattle.kl1_machine.specs.declared.machine.Machine.{Machine}
 use Rattle.kl1_machine.specs.declared.machine.starting.Start.{Start}
+use Rattle.kl1_machine.specs.Machines.{made, IsMachine}
+use Rattle.kl1_machine.specs.Effects.{counting}
+use Rattle.kl1_machine.specs.Bringing.{CanStart, Brings}
+use Rattle.kl1_machine.specs.Moving.{OpensAs}
+use Rattle.kl1_machine.specs.Plain.{bare, IsPlain, IsPlainShoen, ArePlain}
+use Rattle.kl1_machine.specs.Starting.{ReadsNames, BuildsGoal, OpensStreams}
 use Rattle.kl1_machine.proofs.Keeping.{grown_machine}
 
 -- ---- a goal that is built

@@ -1,12 +1,54 @@
 -- Reductions by which goals make moves.
-use Rattle.kl1_machine.proofs.Words.{◌≡◌, ℕ, ◌+◌, ◌<◌, ◌||◌, Bool, true, false, List, [], ◌∷◌, ◌++◌, length, map, refl, sym, ap, ◌∙◌, subst, find, AllByRecursion, Term, atom, State, without_goal, charge, after_reduction, Action, moves, moved, names, task_action, CellName, Known, number_by, Cell, Held, IsFormed, Predicate, Place, Move, IsMove, MoveIn, Goal, is_other, is_monitor, Shoen, is_enabled_at, Numbered, contents, Program, Spelled, Reading, Fits, Means, meaning, task_with, goal_with, aim, IsEnabled, IsOwned, NameShelf, AreSmall, keeps_names, name_of, IsNewName, name_for, Knows, worked, others_read, Machine, PlannedMove, made, having_goals, IsRested, Making, ReadsText, ReadsAll, IsBoundLast, HasName, HoldsSpare, CanPublish, Patches, ReadsNew, IsNamed, StepsAs, Reschedules, CanDo, MovesBy, IsSteppable, ReadsAlike, IsAtomAt, atom_at, otherwise, otherwise_fits, otherwise_other, both_read, first_read, second_read, as_modules, fits_modules, modules_fit, same_text}
-use Rattle.std.proofs.Common.{Option, Some, None}
-use Rattle.std.specs.Prelude.{filter}
+use Rattle.std.proofs.Common.{◌≡◌, ℕ, ◌+◌, ◌<◌, ◌||◌, Bool, true, false, Option, Some, None, List, [], ◌∷◌, ◌++◌, length, map, refl, sym, ap, ◌∙◌, subst}
+use Rattle.std.specs.Prelude.{find, filter}
+use Rattle.std.specs.List.{AllByRecursion}
+use Rattle.kl1_model.specs.Term.{Term, atom}
 use Rattle.kl1_model.specs.State as model
+use Rattle.kl1_model.specs.State.{State, without_goal}
+use Rattle.kl1_model.specs.Tree.{charge}
+use Rattle.kl1_model.specs.Ending.{after_reduction}
 use Rattle.kl1_model.specs.Reduction as reduction
+use Rattle.kl1_model.specs.Reduction.{Action, moves, moved, names, task_action}
+use Rattle.kl1_text.specs.declared.cell_name.CellName.{CellName}
+use Rattle.kl1_atoms.specs.declared.known.Known.{Known}
+use Rattle.kl1_atoms.specs.Names.{number_by}
+use Rattle.kl1_store.specs.declared.cell.Cell.{Cell}
+use Rattle.kl1_store.specs.Held.{Held}
+use Rattle.kl1_store.specs.Sound.{IsFormed}
+use Rattle.kl1_clause.specs.declared.predicate.Predicate.{Predicate}
+use Rattle.kl1_match.specs.declared.place.Place.{Place}
+use Rattle.kl1_goals_moves.specs.declared.moves.Move.{Move}
 use Rattle.kl1_goals_moves.specs.declared.moves.Move.TheVariants as made_move
-use Rattle.kl1_goals.specs.Lists.{has_number}
-use Rattle.kl1_machine.specs.Reducing.{Reduces}
+use Rattle.kl1_goals_moves.specs.Moves.{IsMove, MoveIn}
+use Rattle.kl1_goals.specs.declared.goal.Goal.{Goal}
+use Rattle.kl1_goals.specs.Lists.{has_number, is_other, is_monitor}
+use Rattle.kl1_shoen_paths.specs.declared.shoen.Shoen.{Shoen}
+use Rattle.kl1_shoen.specs.Shoens.{is_enabled_at}
+use Rattle.kl1_codes.specs.Numbered.{Numbered}
+use Rattle.kl1_codes.specs.Finding.{contents}
+use Rattle.kl1_codes.specs.Shelves.{Program}
+use Rattle.kl1_user_effects.specs.declared.spelled.Spelled.{Spelled}
+use Rattle.kl1_user_effects.specs.Fitting.{Reading, Fits}
+use Rattle.kl1_user_effects.specs.Account.{Means, meaning, task_with, goal_with, aim}
+use Rattle.kl1_user_effects.specs.Settled.{IsEnabled}
+use Rattle.kl1_user_effects.specs.Kept.{IsOwned}
+use Rattle.kl1_user_effects.specs.Naming.{NameShelf, AreSmall}
+use Rattle.kl1_user_effects.specs.Calling.{keeps_names, name_of, IsNewName}
+use Rattle.kl1_user_effects.specs.Moving.{name_for}
+use Rattle.kl1_user_effects.specs.Works.{Knows, worked}
+use Rattle.kl1_user_effects.proofs.Goals.{others_read}
+use Rattle.kl1_machine.specs.declared.machine.Machine.{Machine}
+use Rattle.kl1_ready.specs.declared.planning.PlannedMove.{PlannedMove}
+use Rattle.kl1_machine.specs.Machines.{made}
+use Rattle.kl1_machine.specs.Effects.{having_goals}
+use Rattle.kl1_machine.specs.Rested.{IsRested}
+use Rattle.kl1_machine.specs.Moving.{Making}
+use Rattle.kl1_machine.specs.Naming.{ReadsText, ReadsAll, IsBoundLast, HasName, HoldsSpare, CanPublish, Patches, ReadsNew, IsNamed}
+use Rattle.kl1_machine.specs.Stepping.{StepsAs}
+use Rattle.kl1_machine.specs.Rescheduling.{Reschedules}
+use Rattle.kl1_ready.specs.Plans.{CanDo, MovesBy}
+use Rattle.kl1_machine.specs.Reducing.{IsSteppable, ReadsAlike, Reduces}
+use Rattle.kl1_user_effects.proofs.NameReadings.{IsAtomAt, atom_at, otherwise, otherwise_fits, otherwise_other, both_read, first_read, second_read, as_modules, fits_modules, modules_fit, same_text}
 use Rattle.kl1_machine.proofs.Planned.{found_holds}
 use Rattle.kl1_machine.proofs.Resting.{looked_read}
 
@@ -31,15 +73,14 @@ each_same t u (g ∷ gs) e = (
   each_same t u gs (tail_same (goal_with t g) (goal_with u g) (map (goal_with t) gs) (map (goal_with u) gs) e),
 )
 
--- two readings of the names of a machine of which all read the same, and goal `n` of it
-pub record ReadBoth (m : Machine) (n : ℕ) (g : Goal CellName) (f h : Reading) : Type 0 where
+-- two readings of the names of a machine of which all read the same
+pub record ReadBoth (m : Machine) (f h : Reading) : Type 0 where
   pub alike : ReadsAlike m
-  pub found : find (has_number n) m.goals.goals ≡ Some g
   pub first : Fits m.names.names f
   pub second : Fits m.names.names h
 
 -- a state with nothing but modules
-abbrev pub bare : Program → State
+pub bare : Program → State
 bare program = record {
   own_name = [];
   rules = program.rules;
@@ -60,18 +101,18 @@ bare program = record {
 }
 
 -- a goal is the same for both
-pub same_goal : (program : Program) (m : Machine) (n : ℕ) (g : Goal CellName) (f h : Reading) → ReadBoth m n g f h → goal_with (meaning f m.store.held) g ≡ goal_with (meaning h m.store.held) g
-same_goal program m n g f h both =
+pub same_goal : (program : Program) (m : Machine) (n : ℕ) (g : Goal CellName) (f h : Reading) → ReadBoth m f h → find (has_number n) m.goals.goals ≡ Some g → goal_with (meaning f m.store.held) g ≡ goal_with (meaning h m.store.held) g
+same_goal program m n g f h both found =
     let t = meaning f m.store.held in
     let u = meaning h m.store.held in
     let all = each_same t u m.goals.goals (ap (λ (z : State). z.goals) (both.alike f h both.first both.second (bare program))) in
-    found_holds (λ k. goal_with t k ≡ goal_with u k) n m.goals.goals g all both.found
+    found_holds (λ k. goal_with t k ≡ goal_with u k) n m.goals.goals g all found
 
 -- and it can do the same
-pub same_action : (program : Program) (m : Machine) (n c : ℕ) (g : Goal CellName) (f h : Reading) → ReadBoth m n g f h → (a b : Action) → CanDo program m.store.held (made m) g c f (Some a) → CanDo program m.store.held (made m) g c h (Some b) → a ≡ b
-same_action program m n c g f h both a b one two =
+pub same_action : (program : Program) (m : Machine) (n c : ℕ) (g : Goal CellName) (f h : Reading) → ReadBoth m f h → find (has_number n) m.goals.goals ≡ Some g → (a b : Action) → CanDo program m.store.held (made m) g c f (Some a) → CanDo program m.store.held (made m) g c h (Some b) → a ≡ b
+same_action program m n c g f h both found a b one two =
     let z = bare program in
-    let task : task_with (meaning f m.store.held) g.task ≡ task_with (meaning h m.store.held) g.task = ap (λ (k : model.Goal). k.task) (same_goal program m n g f h both) in
+    let task : task_with (meaning f m.store.held) g.task ≡ task_with (meaning h m.store.held) g.task = ap (λ (k : model.Goal). k.task) (same_goal program m n g f h both found) in
     let same : Some a ≡ Some b =
     sym (one z refl)
     ∙ ap (λ (y : State). task_action y g.shoen (task_with (meaning f m.store.held) g.task) c) (both.alike f h both.first both.second z)
@@ -112,7 +153,7 @@ module _ (program : Program) (m : Machine) (n c : ℕ) (p : IsChosen program m n
       let two = aim h m.store.held p.planned.cell in
       let q = p.makes in
       move_same one two (q.move f) (q.move h)
-      (same_action program m n c p.goal f h (record { alike = p.alike; found = p.steppable.found; first = fits; second = other }) (moves one (q.move f)) (moves two (q.move h)) (q.does f (rested_knows program m f p.rested fits)) (q.does h (rested_knows program m h p.rested other)))
+      (same_action program m n c p.goal f h (record { alike = p.alike; first = fits; second = other }) p.steppable.found (moves one (q.move f)) (moves two (q.move h)) (q.does f (rested_knows program m f p.rested fits)) (q.does h (rested_knows program m h p.rested other)))
 
   -- a cell that it may unify with a name that is new isn't this name
   not_yet : (y : Cell CellName) (f : Reading) → p.planned.made ≡ made_move.Names y → Fits m.names.names f → number_by m.names.names p.text ≡ None → meaning f m.store.held y ≡ atom p.text → ⊥
@@ -140,9 +181,14 @@ module _ (program : Program) (m : Machine) (n c : ℕ) (p : IsChosen program m n
   name_read y f key name (Some k) made_is fits reads e is = fits.texts p.text k e
 
   -- if the move uses a text as a name, readings of the names that an account has then read it
-  names_read : (ms : List Numbered) (more : List Known) (key : CellName) (name : Option (List ℕ)) → ((f : Reading) → Knows ms f → Fits more f) → IsNamed m.names.names more name key → name ≡ name_for p.planned.made m.names.names p.text → ReadsAll p.planned.made ms m.store.held m.names.names p.text key
-  names_read ms more key name fits named is y made_is f knows =
-      name_read y f key name (number_by m.names.names p.text) made_is (named.fits f (fits f knows)) (named.reads f (fits f knows)) refl (is ∙ ap (λ z. name_for z m.names.names p.text) made_is)
+  names_read : (y : Move CellName) (ms : List Numbered) (more : List Known) (key : CellName) (name : Option (List ℕ)) → p.planned.made ≡ y → ((f : Reading) → Knows ms f → Fits more f) → IsNamed m.names.names more name key → name ≡ name_for y m.names.names p.text → ReadsAll y ms m.store.held m.names.names p.text key
+  names_read (made_move.Commits place) ms more key name made_is fits named is = tt
+  names_read (made_move.Raises b) ms more key name made_is fits named is = tt
+  names_read (made_move.Unifies y z) ms more key name made_is fits named is = tt
+  names_read (made_move.Names y) ms more key name made_is fits named is = λ f knows. name_read y f key name (number_by m.names.names p.text) made_is (named.fits f (fits f knows)) (named.reads f (fits f knows)) refl is
+  names_read (made_move.Opens k) ms more key name made_is fits named is = tt
+  names_read made_move.Goes ms more key name made_is fits named is = tt
+  names_read made_move.GivesWay ms more key name made_is fits named is = tt
 
 -- ---- the reduction
 
@@ -177,7 +223,7 @@ moved_reduces program m u v n c p steps r = record {
       let Q : Option Spelled → Type 0 = λ o. P o v.store.held in
       let R : Held CellName → Type 0 = λ h. P u.spelled h in
       let so : P u.spelled u.store.held = subst R r.held (subst Q (ap (λ (x : Machine). x.spelled) r.rest) patches) in
-      let reads = names_read program m n c p ms more key v.name fit named name in
+      let reads = names_read program m n c p p.planned.made ms more key v.name refl fit named name in
       let change : State → State = λ z. after_reduction g.shoen (moved (goal_with (meaning f m.store.held) g) (aim f m.store.held p.planned.cell) (p.makes.move f) (charge g.shoen z)) in
       ap change (sym (without_read f s m g.number)) ∙ (steps.turns ms p.makes.move key last reads so (λ q k. p.makes.is q (old q k))).states f knows s ∙ looked_state f s last u v r;
   spare_last =

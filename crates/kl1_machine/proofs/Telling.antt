@@ -1,7 +1,34 @@
 -- What a report leaves of a machine.
-use Rattle.kl1_machine.proofs.Words.{◌≡◌, ℕ, suc, ◌-◌, not, ◌&&◌, ◌||◌, Bool, true, false, if◌then◌else◌, List, [], refl, sym, ap, ◌∙◌, subst, find, Option, Some, None, is_some, option_map, Term, variable, integer, atom, structure, State, report, is_reported, close, is_reported_at, is_reported_of, close_of, Reads, CellName, Cell, Kept, Grown-same, Told, Dropped, Broken, Sent, Breaks, ToldAs, Shoen, Tree, has_number, changed, Numbered, Reading, built, meaning, shoen_with, unheard, worked, found_in, changed_count, torn, tailed, last_made, after_report, report_turns, no_report_turns, turns_none, finds, same_free, sent_free, Counts, Machine, made, IsMachine, Tells, TurnsAs, Since}
+use Rattle.std.proofs.Common.{◌≡◌, ℕ, suc, ◌-◌, not, ◌&&◌, ◌||◌, Bool, true, false, if◌then◌else◌, List, [], refl, sym, ap, ◌∙◌, subst}
+use Rattle.std.specs.Prelude.{find, Option, Some, None, is_some, option_map}
+use Rattle.kl1_model.specs.Term.{Term, variable, integer, atom, structure}
 use Rattle.kl1_model.specs.State as model
-use Rattle.kl1_user_effects.specs.Works.{Turns}
+use Rattle.kl1_model.specs.State.{State}
+use Rattle.kl1_model.specs.Report.{report, is_reported, close}
+use Rattle.kl1_model.specs.code.Steps.{is_reported_at, is_reported_of, close_of}
+use Rattle.kl1_text.specs.Reading.{Reads}
+use Rattle.kl1_text.specs.declared.cell_name.CellName.{CellName}
+use Rattle.kl1_store.specs.declared.cell.Cell.{Cell}
+use Rattle.kl1_store.specs.Hooks.{Kept}
+use Rattle.kl1_store.proofs.Grows.{Grown-same}
+use Rattle.kl1_stream.specs.declared.told.Told.{Told}
+use Rattle.kl1_stream.specs.declared.told.Told.TheVariants.{Dropped, Broken, Sent}
+use Rattle.kl1_stream.specs.Reports.{Breaks, ToldAs}
+use Rattle.kl1_shoen_paths.specs.declared.shoen.Shoen.{Shoen}
+use Rattle.kl1_shoen.specs.Shoens.{Tree, has_number, changed}
+use Rattle.kl1_codes.specs.Numbered.{Numbered}
+use Rattle.kl1_user_effects.specs.Fitting.{Reading, built}
+use Rattle.kl1_user_effects.specs.Account.{meaning, shoen_with}
+use Rattle.kl1_user_effects.specs.Reports.{unheard}
+use Rattle.kl1_user_effects.specs.Works.{worked, Turns}
+use Rattle.kl1_user_effects.proofs.States.{found_in, changed_count}
+use Rattle.kl1_user_effects.proofs.Works.{torn, tailed, last_made, after_report, report_turns, no_report_turns, turns_none, finds}
+use Rattle.kl1_user_effects.proofs.LateFree.{same_free, sent_free}
+use Rattle.kl1_machine.specs.declared.counts.Counts.{Counts}
+use Rattle.kl1_machine.specs.declared.machine.Machine.{Machine}
+use Rattle.kl1_machine.specs.Machines.{made, IsMachine}
+use Rattle.kl1_machine.specs.Effects.{Tells, TurnsAs}
+use Rattle.kl1_machine.specs.Since.{Since}
 use Rattle.kl1_machine.proofs.Keeping.{Grows, grown_machine}
 use Rattle.kl1_machine.proofs.Sincing.{since_store}
 use Rattle.kl1_machine.proofs.Shoens.{IsTree, IsQuiet, since_changed}

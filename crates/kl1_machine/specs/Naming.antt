@@ -71,7 +71,13 @@ ReadsText f h known text a k (Some n) = f (record { number = n }) ≡ text
 
 -- if a move uses a text as a name, each reading that knows these modules does, if the name gets this number
 abbrev pub ReadsAll : Move CellName → List Numbered → Held CellName → List Known → List ℕ → CellName → Type 0
-ReadsAll y ms h known text k = (a : Cell CellName) → y ≡ move.Names a → (f : Reading) → Knows ms f → ReadsText f h known text a k (number_by known text)
+ReadsAll (move.Commits place) ms h known text k = Unit {0}
+ReadsAll (move.Raises b) ms h known text k = Unit {0}
+ReadsAll (move.Unifies a b) ms h known text k = Unit {0}
+ReadsAll (move.Names a) ms h known text k = (f : Reading) → Knows ms f → ReadsText f h known text a k (number_by known text)
+ReadsAll (move.Opens s) ms h known text k = Unit {0}
+ReadsAll move.Goes ms h known text k = Unit {0}
+ReadsAll move.GivesWay ms h known text k = Unit {0}
 
 -- a goal does by the move `b`, which uses no name, what it does by another move, whose name, if it uses one that is new, is used before it
 pub record StandsFor (b : Move CellName) (a : Making) (m n : Machine) : Type 0 where

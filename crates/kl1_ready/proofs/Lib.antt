@@ -3,4 +3,3 @@ pub mod Ready
 pub mod SettledStays
 mod Numbers
 pub mod Plans
-pub mod Words

@@ -1,5 +1,12 @@
 -- Numbers among others, in whatever order these are, and each once.
-use Rattle.kl1_ready.proofs.Words.{◌≡◌, ℕ, ◌==◌, Bool, true, false, List, refl, sym, dedup, IsPermutation, eqb, list_any-IsPermutation, Contains-dedup_nat, Contains-from_dedup, is_among, contains_among, among_contains}
+use Rattle.std.proofs.Common.{◌≡◌, ℕ, ◌==◌, Bool, true, false, List, refl, sym}
+use Rattle.std.specs.List.{dedup}
+use Rattle.std.specs.List.Sorted.{IsPermutation}
+use Rattle.std.proofs.Math.Dec.{eqb}
+use Rattle.std.proofs.lemmas.List.Sorted.{list_any-IsPermutation}
+use Rattle.std.proofs.lemmas.List.Kept.{Contains-dedup_nat, Contains-from_dedup}
+use Rattle.kl1_model.specs.Module.{is_among}
+use Rattle.kl1_shoen_paths.proofs.Below.{contains_among, among_contains}
 
 -- numbers in another order
 pub among_permuted : (n : ℕ) (ns ms : List ℕ) → IsPermutation ns ms → is_among n ms ≡ is_among n ns

@@ -1,10 +1,54 @@
 -- What goals are to do: moves that are found are those of the definitions.
-use Rattle.kl1_ready.proofs.Words.{◌≡◌, ℕ, ◌==◌, if◌then◌else◌, Bool, true, false, List, [], length, get_or, refl, sym, ap, ◌∙◌, arith, subst, Option, Some, None, MatchOption, option_map, eq-eqb, ne_eqb, MatchOption-at_some, slice_get-get_or, text_of, Term, Module, goal_look, Rules, reads, moves, read_action, task_action, substitute_move, monitor_action, move_by, Reads, CellName, AreNames, are_names, Cell, Variable, Qualified, Held, IsIn, arguments_of, Control, Awaits, Tells, TellsOther, Ends, BreaksOff, control_as, Predicate, AreSome, Place, Move, ExecuteArguments, order_at, IsOrder, IsMove, MoveIn, move_by_clause, substitute_move_of, SubstituteMoves, Monitor, Reduces, Substitutes, Goal, is_monitor, Shoen, shoen_in, contents, Program, Reading, built, reading_of, reading_fits, meaning, task_with, shoen_with, aim, whole, worked, Made, Knows, found_in, Plan, PlannedMove, Serves, CanDo, ReadsBy, MovesBy, IsPlan, DoesNothing, is_read, move_or_go}
+use Rattle.std.proofs.Common.{◌≡◌, ℕ, ◌==◌, if◌then◌else◌, Bool, true, false, List, [], ◌∷◌, length, refl, sym, ap, ◌∙◌, arith, subst}
+use Rattle.std.specs.Prelude.{Option, Some, None, MatchOption, option_map, slice_get}
+use Rattle.std.proofs.lemmas.Bool.{eq-eqb, ne_eqb}
+use Rattle.kl1_model.specs.Text.{text_of}
+use Rattle.kl1_model.specs.Term.{Term}
+use Rattle.kl1_model.specs.Module.{Module}
+use Rattle.kl1_model.specs.Look.{goal_look}
 use Rattle.kl1_model.specs.Control as model_control
+use Rattle.kl1_model.specs.declared.rules.Rules.{Rules}
 use Rattle.kl1_model.specs.State as model
 use Rattle.kl1_model.specs.Reduction as reduction
+use Rattle.kl1_model.specs.Reduction.{reads, moves, read_action, task_action}
+use Rattle.kl1_model.specs.code.Steps.{substitute_move, monitor_action}
+use Rattle.kl1_model.specs.code.Waits.{move_by}
+use Rattle.kl1_text.specs.Reading.{Reads}
+use Rattle.kl1_text.specs.declared.cell_name.CellName.{CellName}
+use Rattle.kl1_atoms.specs.Names.{AreNames}
+use Rattle.kl1_atoms.specs.Knowing.{are_names}
+use Rattle.kl1_store.specs.declared.cell.Cell.{Cell}
+use Rattle.kl1_store.specs.declared.qualified.Qualified.{Qualified}
+use Rattle.kl1_store.specs.Held.{Held, IsIn, arguments_of}
+use Rattle.kl1_stream.specs.declared.control.Control.{Control}
+use Rattle.kl1_stream.specs.declared.control.Control.TheVariants.{Awaits, Tells, TellsOther, Ends, BreaksOff}
+use Rattle.kl1_stream.specs.Controls.{control_as}
+use Rattle.kl1_clause.specs.declared.predicate.Predicate.{Predicate}
+use Rattle.kl1_clause.specs.Predicates.{AreSome}
+use Rattle.kl1_match.specs.declared.place.Place.{Place}
+use Rattle.kl1_goals_moves.specs.declared.kind.Kind.{Kind}
+use Rattle.kl1_goals_moves.specs.declared.moves.Move.{Move}
 use Rattle.kl1_goals_moves.specs.declared.moves.Move.TheVariants as made
+use Rattle.kl1_goals_moves.specs.declared.order.ExecuteArguments.{ExecuteArguments}
+use Rattle.kl1_goals_moves.specs.Orders.{order_at, IsOrder}
+use Rattle.kl1_goals_moves.specs.Moves.{IsMove, MoveIn}
+use Rattle.kl1_goals_moves.specs.Substitutes.{move_by_clause, substitute_move_of, SubstituteMoves}
+use Rattle.kl1_goals.specs.declared.task.Task.TheVariants.{Monitor, Reduces, Substitutes}
+use Rattle.kl1_goals.specs.declared.goal.Goal.{Goal}
+use Rattle.kl1_goals.specs.Lists.{is_monitor}
+use Rattle.kl1_shoen_paths.specs.declared.shoen.Shoen.{Shoen}
+use Rattle.kl1_shoen.specs.Shoens.{shoen_in}
+use Rattle.kl1_codes.specs.Finding.{contents}
+use Rattle.kl1_codes.specs.Shelves.{Program}
+use Rattle.kl1_user_effects.specs.Fitting.{Reading, built, reading_of, reading_fits}
+use Rattle.kl1_user_effects.specs.Account.{meaning, task_with, shoen_with, aim, whole}
+use Rattle.kl1_user_effects.specs.Works.{worked, Made, Knows}
+use Rattle.kl1_user_effects.proofs.States.{found_in}
+use Rattle.kl1_ready.specs.declared.planning.Plan.{Plan}
 use Rattle.kl1_ready.specs.declared.planning.Plan.TheVariants as plan
+use Rattle.kl1_ready.specs.declared.planning.PlannedMove.{PlannedMove}
+use Rattle.kl1_ready.specs.Serving.{Serves}
+use Rattle.kl1_ready.specs.Plans.{CanDo, ReadsBy, MovesBy, planned, IsPlan, DoesNothing, is_read, move_or_go}
 
 -- ---- what a monitor can do
 
@@ -54,21 +98,26 @@ substitute_does program h w c g f y task s is = ap (λ k. task_action (worked f 
 -- ---- moves that are found
 
 -- six cells are an order
-order_there : (h : Held CellName) (s : ℕ) → length (arguments_of h s) ≡ 6 → (o : ExecuteArguments CellName) × IsOrder h s o
-order_there h s n =
-    let xs = arguments_of h s in
-    let none : Cell CellName = Variable 0 in
-    let o : ExecuteArguments CellName = record { goal = get_or xs 0 none; low = get_or xs 1 none; high = get_or xs 2 none; allowance = get_or xs 3 none; control = get_or xs 4 none; reports = get_or xs 5 none } in (
+order_there : (h : Held CellName) (s : ℕ) (xs : List (Cell CellName)) → xs ≡ arguments_of h s → length xs ≡ 6 → (o : ExecuteArguments CellName) × IsOrder h s o
+order_there h s [] e n = absurd (omega (arith, n))
+order_there h s (g ∷ []) e n = absurd (omega (arith, n))
+order_there h s (g ∷ l ∷ []) e n = absurd (omega (arith, n))
+order_there h s (g ∷ l ∷ u ∷ []) e n = absurd (omega (arith, n))
+order_there h s (g ∷ l ∷ u ∷ a ∷ []) e n = absurd (omega (arith, n))
+order_there h s (g ∷ l ∷ u ∷ a ∷ k ∷ []) e n = absurd (omega (arith, n))
+order_there h s (g ∷ l ∷ u ∷ a ∷ k ∷ r ∷ []) e n =
+    let o : ExecuteArguments CellName = record { goal = g; low = l; high = u; allowance = a; control = k; reports = r } in (
       o,
       record {
-        goal_is = slice_get-get_or xs 0 none (omega (arith, n));
-        low_is = slice_get-get_or xs 1 none (omega (arith, n));
-        high_is = slice_get-get_or xs 2 none (omega (arith, n));
-        allowance_is = slice_get-get_or xs 3 none (omega (arith, n));
-        control_is = slice_get-get_or xs 4 none (omega (arith, n));
-        reports_is = slice_get-get_or xs 5 none (omega (arith, n));
+        goal_is = ap (λ (xs : List (Cell CellName)). slice_get xs 0) (sym e);
+        low_is = ap (λ (xs : List (Cell CellName)). slice_get xs 1) (sym e);
+        high_is = ap (λ (xs : List (Cell CellName)). slice_get xs 2) (sym e);
+        allowance_is = ap (λ (xs : List (Cell CellName)). slice_get xs 3) (sym e);
+        control_is = ap (λ (xs : List (Cell CellName)). slice_get xs 4) (sym e);
+        reports_is = ap (λ (xs : List (Cell CellName)). slice_get xs 5) (sym e);
       },
     )
+order_there h s (g ∷ l ∷ u ∷ a ∷ k ∷ r ∷ x ∷ xs) e n = absurd (omega (arith, n))
 
 gives : (o : Option reduction.Move) (m : reduction.Move) → o ≡ Some m → o ≡ Some (move_or_go o)
 gives None m e = absurd (cc)
@@ -80,7 +129,7 @@ allowed f h o p places text (made.Commits place) i k = gives o (reduction.commit
 allowed f h o p places text (made.Raises b) i k = gives o (reduction.raises (text_of b)) k
 allowed f h o p places text (made.Unifies a b) i k = gives o (reduction.unifies (meaning f h a) (meaning f h b)) k
 allowed f h o p places text (made.Names a) i k = gives o (reduction.names text (meaning f h a)) k
-allowed f h o p places text (made.Opens s) i k = let r = order_there h s i.1 in gives o (reduction.opens (order_at f h r.0)) (k r.0 r.1)
+allowed f h o p places text (made.Opens s) i k = let r = order_there h s (arguments_of h s) refl i.1 in gives o (reduction.opens (order_at f h r.0)) (k r.0 r.1)
 allowed f h o p places text made.Goes i k = gives o reduction.goes k
 allowed f h o p places text made.GivesWay i k = gives o reduction.gives_way k
 
@@ -107,35 +156,40 @@ inside_by h y c p places text o given = let f = reading_of [] in (substitute_mov
 
 -- ---- plans
 
--- a move that was found of a goal that is no monitor and is this cell, or none: it is what the goal does for each reading
-pub record IsFound (program : Program) (h : Held CellName) (w : Made) (g : Goal CellName) (c : ℕ) (places : List (Place CellName)) (text : List ℕ) (x : Qualified CellName) (p : Predicate CellName) (o : Option (Move CellName)) : Type 0 where
+-- a move that was found, or none, of a goal that is no monitor and is this cell: it is what the goal does for each reading
+pub record IsFound (program : Program) (h : Held CellName) (w : Made) (g : Goal CellName) (c : ℕ) (places : List (Place CellName)) (text : List ℕ) (x : Qualified CellName) (kind : Kind CellName) (p : Predicate CellName) (o : Option (Move CellName)) : Type 0 where
   pub reduces : is_monitor g ≡ false
   pub cell : IsIn h x.cell
+  pub some : AreSome p.names.now p.clauses.now
+  pub serves : Serves program.loaded kind p
   pub inside : MoveIn h p places text o
   pub move : Reading → Option reduction.Move
   pub is : (f : Reading) → Knows program.loaded f → IsMove f h (move f) p places text o
   pub does : (f : Reading) → Knows program.loaded f → CanDo program h w g c f (option_map (moves (aim f h x)) (move f))
 
--- if one was found, it is what the goal is to do, if its predicate has these clauses
-pub move_found : {program : Program} {h : Held CellName} {w : Made} {g : Goal CellName} {c : ℕ} {places : List (Place CellName)} {text : List ℕ} {o : Option (Move CellName)} (a : PlannedMove) → o ≡ Some a.made → IsFound program h w g c places text a.cell a.predicate o → AreSome a.predicate.names.now a.predicate.clauses.now →
-    Serves program.loaded a.kind a.predicate → MovesBy program h w g c places text a
-move_found {program = program} {h = h} {places = places} {text = text} a e i some serves =
-    let inside = subst (MoveIn h a.predicate places text) e i.inside in
-    let is : (f : Reading) → Knows program.loaded f → IsMove f h (i.move f) a.predicate places text (Some a.made) = λ f knows. subst (IsMove f h (i.move f) a.predicate places text) e (i.is f knows) in
-    let there : (f : Reading) → Knows program.loaded f → i.move f ≡ Some (move_or_go (i.move f)) = λ f knows. allowed f h (i.move f) a.predicate places text a.made inside (is f knows) in
+-- it is a plan
+pub is_planned : (program : Program) (h : Held CellName) (w : Made) (g : Goal CellName) (c : ℕ) (places : List (Place CellName)) (text : List ℕ) (x : Qualified CellName) (kind : Kind CellName) (p : Predicate CellName) (o : Option (Move CellName)) →
+    IsFound program h w g c places text x kind p o → MatchOption (planned x kind p o) (DoesNothing program h w g c) (IsPlan program h w g c places text)
+is_planned program h w g c places text x kind p None i = λ f knows s is. i.does f knows s is ∙ ap (option_map (moves (aim f h x))) (i.is f knows)
+is_planned program h w g c places text x kind p (Some m) i =
+    let there : (f : Reading) → Knows program.loaded f → i.move f ≡ Some (move_or_go (i.move f)) = λ f knows. allowed f h (i.move f) p places text m i.inside (i.is f knows) in
     record {
-      runnable = record { reduces = i.reduces; cell = i.cell; some = some; serves = serves; inside = inside };
+      runnable = record { reduces = i.reduces; cell = i.cell; some = i.some; serves = i.serves; inside = i.inside };
       move = λ f. move_or_go (i.move f);
-      is = λ f knows. subst (λ q. IsMove f h q a.predicate places text (Some a.made)) (there f knows) (is f knows);
-      does = λ f knows s is. i.does f knows s is ∙ ap (option_map (moves (aim f h a.cell))) (there f knows);
+      is = λ f knows. subst (λ q. IsMove f h q p places text (Some m)) (there f knows) (i.is f knows);
+      does = λ f knows s is. i.does f knows s is ∙ ap (option_map (moves (aim f h x))) (there f knows);
     }
 
 -- a plan that was found to read
 pub plan_reads : (program : Program) (h : Held CellName) (w : Made) (g : Goal CellName) (c : ℕ) (places : List (Place CellName)) (text : List ℕ) (o : Option Plan) (control : Control CellName) → o ≡ Some (plan.Reads control) → MatchOption o (DoesNothing program h w g c) (IsPlan program h w g c places text) →
     ReadsBy program h w g c control
-plan_reads program h w g c places text o control e a = MatchOption-at_some (DoesNothing program h w g c) (IsPlan program h w g c places text) (plan.Reads control) e a
+plan_reads program h w g c places text o control e a =
+    let D : Option Plan → Type 0 = λ q. MatchOption q (DoesNothing program h w g c) (IsPlan program h w g c places text) in
+    subst D e a
 
 -- one to make a move
 pub plan_moves : (program : Program) (h : Held CellName) (w : Made) (g : Goal CellName) (c : ℕ) (places : List (Place CellName)) (text : List ℕ) (o : Option Plan) (x : PlannedMove) → o ≡ Some (plan.Moves x) → MatchOption o (DoesNothing program h w g c) (IsPlan program h w g c places text) →
     MovesBy program h w g c places text x
-plan_moves program h w g c places text o x e a = MatchOption-at_some (DoesNothing program h w g c) (IsPlan program h w g c places text) (plan.Moves x) e a
+plan_moves program h w g c places text o x e a =
+    let D : Option Plan → Type 0 = λ q. MatchOption q (DoesNothing program h w g c) (IsPlan program h w g c places text) in
+    subst D e a

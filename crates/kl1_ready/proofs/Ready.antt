@@ -1,5 +1,37 @@
 -- What is found when a goal is looked at.
-use Rattle.kl1_ready.proofs.Words.{◌≡◌, ℕ, ◌||◌, Bool, true, false, List, refl, sym, ap, subst, ◌∙◌, Option, Some, None, option_map, Rules, Module, Term, path_within, awaited_by_term, awaited_by_substitute, Reads, CellName, Cell, Qualified, Hook, Held, qualified_term, Predicate, Kind, IsKind, HasPredicate, StandsAs, SubstituteStands, hangs_on_same, Monitor, Reduces, Substitutes, Shoen, shoen_in, is_enabled_at, Program, contents, HangsOnEach, Reading, built, meaning, aim, Knows, control_at, front_with, monitor_clause, awaited_by_monitor, kind_at, IsReadyBy, IsHeardAt, IsReadyAt}
+use Rattle.std.proofs.Common.{◌≡◌, ℕ, ◌||◌, Bool, true, false, List, refl, sym, ap, subst, ◌∙◌}
+use Rattle.std.specs.Prelude.{Option, Some, None, option_map}
+use Rattle.kl1_model.specs.declared.rules.Rules.{Rules}
+use Rattle.kl1_model.specs.Module.{Module}
+use Rattle.kl1_model.specs.Term.{Term}
+use Rattle.kl1_model.specs.Tree.{path_within}
+use Rattle.kl1_model.specs.code.Waits.{awaited_by_term, awaited_by_substitute}
+use Rattle.kl1_text.specs.Reading.{Reads}
+use Rattle.kl1_text.specs.declared.cell_name.CellName.{CellName}
+use Rattle.kl1_store.specs.declared.cell.Cell.{Cell}
+use Rattle.kl1_store.specs.declared.qualified.Qualified.{Qualified}
+use Rattle.kl1_store.specs.Hooks.{Hook}
+use Rattle.kl1_store.specs.Held.{Held}
+use Rattle.kl1_store.specs.InModules.{qualified_term}
+use Rattle.kl1_clause.specs.declared.predicate.Predicate.{Predicate}
+use Rattle.kl1_goals_moves.specs.declared.kind.Kind.{Kind}
+use Rattle.kl1_goals_moves.specs.Kinds.{IsKind}
+use Rattle.kl1_goals_moves.specs.Moves.{HasPredicate}
+use Rattle.kl1_goals_moves.specs.Standing.{StandsAs}
+use Rattle.kl1_goals_moves.specs.Substitutes.{SubstituteStands}
+use Rattle.kl1_goals_moves.proofs.Hooked.{hangs_on_same}
+use Rattle.kl1_goals.specs.declared.task.Task.TheVariants.{Monitor, Reduces, Substitutes}
+use Rattle.kl1_shoen_paths.specs.declared.shoen.Shoen.{Shoen}
+use Rattle.kl1_shoen.specs.Shoens.{shoen_in, is_enabled_at}
+use Rattle.kl1_codes.specs.Shelves.{Program}
+use Rattle.kl1_codes.specs.Finding.{contents}
+use Rattle.kl1_store_hooks.specs.Hanging.{HangsOnEach}
+use Rattle.kl1_user_effects.specs.Fitting.{Reading, built}
+use Rattle.kl1_user_effects.specs.Account.{meaning, aim}
+use Rattle.kl1_user_effects.specs.Works.{Knows}
+use Rattle.kl1_user_effects.specs.Settled.{control_at, front_with, monitor_clause, awaited_by_monitor}
+use Rattle.kl1_user_effects.proofs.Aims.{kind_at}
+use Rattle.kl1_ready.specs.Ready.{IsReadyBy, IsHeardAt, IsReadyAt}
 
 -- a goal whose number hangs on what it waits for, and that can step by this clause
 pub ready_by : (rules : Rules) (h : Held CellName) (hooks : List Hook) (kind : Kind CellName) (p : Predicate CellName) (n : ℕ) (vs ws : List ℕ) (clause : Option ℕ) →

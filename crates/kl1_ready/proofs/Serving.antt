@@ -1,6 +1,27 @@
 -- Predicates that goals call, found or known.
-use Rattle.kl1_ready.proofs.Words.{◌≡◌, ℕ, ◌==◌, ◌&&◌, true, List, map, refl, sym, ap, subst, ◌∙◌, Option, and_parts, eqb-true, Clause, Term, clauses_of, CellName, Held, AreCompiled, FoundAs, Predicate, Call, Kind, Calls, call_at, IsKind, HasPredicate, Numbered, contents, Finds, Reading, Knows, Serves, calls_same}
+use Rattle.std.proofs.Common.{◌≡◌, ℕ, ◌==◌, ◌&&◌, true, List, map, refl, sym, ap, subst, ◌∙◌}
+use Rattle.std.specs.Prelude.{Option}
+use Rattle.std.proofs.lemmas.Bool.{and_parts, eqb-true}
+use Rattle.kl1_model.specs.Module.{Clause}
+use Rattle.kl1_model.specs.Term.{Term}
+use Rattle.kl1_model.specs.Match.{clauses_of}
+use Rattle.kl1_text.specs.declared.cell_name.CellName.{CellName}
+use Rattle.kl1_store.specs.Held.{Held}
+use Rattle.kl1_clause.specs.Clauses.{AreCompiled}
+use Rattle.kl1_clause.specs.Predicates.{FoundAs}
+use Rattle.kl1_clause.specs.declared.predicate.Predicate.{Predicate}
+use Rattle.kl1_goals_moves.specs.declared.call.Call.{Call}
+use Rattle.kl1_goals_moves.specs.declared.kind.Kind.{Kind}
+use Rattle.kl1_goals_moves.specs.declared.kind.Kind.TheVariants.{Calls}
 use Rattle.kl1_goals_moves.specs.declared.kind.Kind.TheVariants as kinds
+use Rattle.kl1_goals_moves.specs.Calls.{call_at}
+use Rattle.kl1_goals_moves.specs.Kinds.{IsKind}
+use Rattle.kl1_goals_moves.specs.Moves.{HasPredicate}
+use Rattle.kl1_codes.specs.Numbered.{Numbered}
+use Rattle.kl1_codes.specs.Finding.{contents, Finds}
+use Rattle.kl1_user_effects.specs.Fitting.{Reading}
+use Rattle.kl1_user_effects.specs.Works.{Knows}
+use Rattle.kl1_ready.specs.Serving.{Serves, calls_same}
 
 -- a predicate that was found serves whatever goals call it
 pub call_serves : (ms : List Numbered) (kind : Kind CellName) (c : Call CellName) (found : Option (Predicate CellName)) (p : Predicate CellName) → kind ≡ Calls c → Finds ms c.module_name c.name c.count found →

@@ -1,6 +1,37 @@
 -- Goals that nothing woke stay as they stood.
-use Rattle.kl1_ready.proofs.Words.{◌≡◌, ℕ, suc, ◌==◌, Bool, true, false, if◌then◌else◌, List, [], ◌∷◌, map, refl, sym, ap, ◌∙◌, arith, subst, Contains, Option, Some, None, option_map, ne_eqb, Term, substituted, Replacement, awaits_message, tells, tells_other, ends, breaks_off, control_of, awaited_by_control, awaited_by_found, LeavesEach, term_clause, awaited_by_term, awaited_by_substitute, look_clause, substitute_clause, control_substituted, values_of, replaced_is, substitutes_stay, term_stays, is_replaced, left_alone, control_stays, CellName, Cell, Hook, Held, IsIn, term_of, bound_since, IsFormed, Grown, is_later, Task, Monitor, Reduces, Substitutes, Goal, Shoen, shoen_in, contents, Program, HangsOnEach, Reading, meaning, task_with, aim, IsTaskIn, AreShoensIn, control_at, front_with, control_with, control_clause, monitor_clause, awaited_by_monitor, task_clause, awaited_by_task, IsSettled, aim_later}
-use Rattle.kl1_model.specs.Control.{Control}
+use Rattle.std.proofs.Common.{◌≡◌, ℕ, suc, ◌==◌, Bool, true, false, if◌then◌else◌, List, [], ◌∷◌, map, refl, sym, ap, ◌∙◌, arith, subst}
+use Rattle.std.specs.Prelude.{Contains, Option, Some, None, option_map}
+use Rattle.std.proofs.lemmas.Bool.{ne_eqb}
+use Rattle.kl1_model.specs.Term.{Term, substituted, Replacement}
+use Rattle.kl1_model.specs.Control.{Control, awaits_message, tells, tells_other, ends, breaks_off, control_of}
+use Rattle.kl1_model.specs.code.Awaited.{awaited_by_control, awaited_by_found}
+use Rattle.kl1_model.specs.code.Waits.{LeavesEach, term_clause, awaited_by_term, awaited_by_substitute, look_clause, substitute_clause}
+use Rattle.kl1_model.specs.laws.WaitsLaws.{control_substituted}
+use Rattle.kl1_model.proofs.Substitutions.{values_of, replaced_is}
+use Rattle.kl1_model.proofs.LookStays.{substitutes_stay}
+use Rattle.kl1_model.proofs.TermStays.{term_stays, is_replaced, left_alone}
+use Rattle.kl1_model.proofs.ControlStays.{control_stays}
+use Rattle.kl1_text.specs.declared.cell_name.CellName.{CellName}
+use Rattle.kl1_store.specs.declared.cell.Cell.{Cell}
+use Rattle.kl1_store.specs.Hooks.{Hook}
+use Rattle.kl1_store.specs.Held.{Held, IsIn}
+use Rattle.kl1_store.specs.Meaning.{term_of}
+use Rattle.kl1_store.specs.Later.{bound_since}
+use Rattle.kl1_store.specs.Sound.{IsFormed, Grown}
+use Rattle.kl1_store.proofs.Later.{is_later}
+use Rattle.kl1_goals.specs.declared.task.Task.{Task}
+use Rattle.kl1_goals.specs.declared.task.Task.TheVariants.{Monitor, Reduces, Substitutes}
+use Rattle.kl1_goals.specs.declared.goal.Goal.{Goal}
+use Rattle.kl1_shoen_paths.specs.declared.shoen.Shoen.{Shoen}
+use Rattle.kl1_shoen.specs.Shoens.{shoen_in}
+use Rattle.kl1_codes.specs.Finding.{contents}
+use Rattle.kl1_codes.specs.Shelves.{Program}
+use Rattle.kl1_store_hooks.specs.Hanging.{HangsOnEach}
+use Rattle.kl1_user_effects.specs.Fitting.{Reading}
+use Rattle.kl1_user_effects.specs.Account.{meaning, task_with, aim}
+use Rattle.kl1_user_effects.specs.Kept.{IsTaskIn, AreShoensIn}
+use Rattle.kl1_user_effects.specs.Settled.{control_at, front_with, control_with, control_clause, monitor_clause, awaited_by_monitor, task_clause, awaited_by_task, IsSettled}
+use Rattle.kl1_user_effects.proofs.Aims.{aim_later}
 
 -- a number hangs on no variable of these
 abbrev pub HangsOnNone : List Hook → ℕ → List ℕ → Type 0

@@ -5,11 +5,15 @@ use Rattle.kl1_model.specs.Reduction as reduction
 use Rattle.kl1_model.specs.Reduction.{Action, reads, moves, goes, task_action}
 use Rattle.kl1_text.specs.declared.cell_name.CellName.{CellName}
 use Rattle.kl1_store.specs.Held.{Held, IsIn}
+use Rattle.kl1_store.specs.declared.qualified.Qualified.{Qualified}
 use Rattle.kl1_stream.specs.declared.control.Control.{Control}
 use Rattle.kl1_stream.specs.declared.control.Control.TheVariants.{Awaits, Tells, TellsOther, Ends, BreaksOff}
 use Rattle.kl1_stream.specs.Controls.{control_as, ControlIn}
+use Rattle.kl1_clause.specs.declared.predicate.Predicate.{Predicate}
 use Rattle.kl1_clause.specs.Predicates.{AreSome}
 use Rattle.kl1_match.specs.declared.place.Place.{Place}
+use Rattle.kl1_goals_moves.specs.declared.kind.Kind.{Kind}
+use Rattle.kl1_goals_moves.specs.declared.moves.Move.{Move}
 use Rattle.kl1_goals_moves.specs.Moves.{IsMove, MoveIn}
 use Rattle.kl1_goals.specs.declared.task.Task.TheVariants.{Monitor}
 use Rattle.kl1_goals.specs.declared.goal.Goal.{Goal}
@@ -62,6 +66,11 @@ pub record MovesBy (program : Program) (h : Held CellName) (w : Made) (g : Goal 
   pub move : Reading → reduction.Move
   pub is : (f : Reading) → Knows program.loaded f → IsMove f h (Some (move f)) a.predicate places text (Some a.made)
   pub does : (f : Reading) → Knows program.loaded f → CanDo program h w g c f (Some (moves (aim f h a.cell) (move f)))
+
+-- the plan to make a move, if one was found
+abbrev pub planned : Qualified CellName → Kind CellName → Predicate CellName → Option (Move CellName) → Option Plan
+planned x kind p None = None
+planned x kind p (Some m) = Some (plan.Moves (record { cell = x; kind = kind; predicate = p; made = m }))
 
 -- what a goal is to do
 abbrev pub IsPlan : Program → Held CellName → Made → Goal CellName → ℕ → List (Place CellName) → List ℕ → Plan → Type 0

@@ -9,7 +9,7 @@ ghost use Rattle.kl1_goals.specs.declared.task.Task.TheVariants.{Monitor, Reduce
 ghost use Rattle.kl1_codes.specs.Shelves.{Program};
 ghost use Rattle.kl1_user_effects.specs.Kept.{IsTaskIn, AreShoensIn};
 ghost use Rattle.kl1_user_effects.specs.Works.{Made};
-ghost use Rattle.kl1_ready.specs.Plans.{is_read, IsPlan, DoesNothing};
+ghost use Rattle.kl1_ready.specs.Plans.{is_read, planned, IsPlan, DoesNothing};
 
 use crate::call_cache::predicate_of;
 use kl1_clause::Predicate;
@@ -75,6 +75,26 @@ fn plan_reading<'a>(
     Some(Plan::Reads(control))
 }
 
+/// The plan to make a move, if one was found.
+fn planned<'a>(
+    cell: Qualified<CellName>,
+    kind: Kind<CellName>,
+    predicate: Predicate<'a, CellName>,
+    made: Option<Move<CellName>>,
+) -> Option<Plan<'a>>
+    ensures { result ≡ planned cell kind predicate.entry made }
+{
+    let Some(made) = made else {
+        return None;
+    };
+    Some(Plan::Moves(PlannedMove {
+        cell,
+        kind,
+        predicate,
+        made,
+    }))
+}
+
 /// What a goal for a cell is to do by a clause of its predicate; nothing if it can do nothing by it.
 fn plan_move<'a, C: CodeSource>(
     store: &Store<CellName>,
@@ -90,15 +110,8 @@ fn plan_move<'a, C: CodeSource>(
 {
     let kind = kind_of_qualified(store, cell);
     let predicate = predicate_of(modules, kind);
-    let Some(made) = move_of(store, modules.rules(), kind, predicate, clause, trial)? else {
-        return Ok(None);
-    };
-    Ok(Some(Plan::Moves(PlannedMove {
-        cell,
-        kind,
-        predicate,
-        made,
-    })))
+    let made = move_of(store, modules.rules(), kind, predicate, clause, trial)?;
+    Ok(planned(cell, kind, predicate, made))
 }
 
 /// What a substitute that waits for a cell is to do by a clause; nothing if it waits still.
@@ -113,20 +126,13 @@ fn plan_substitute<'a, C: CodeSource>(
     requires cell { IsIn store.now.held term }
     ensures { (w : Made) (places : List (Place CellName)) (text : List ℕ) → MatchOption result (DoesNothing modules.now store.now.held w goal clause) (IsPlan modules.now store.now.held w goal clause places text) }
 {
-    let Some(made) = substitute_move(store, term, clause) else {
-        return None;
-    };
     let cell = Qualified {
         module_name: None,
         cell: term,
     };
     let predicate = predicate_of(modules, Kind::Nothing);
-    Some(Plan::Moves(PlannedMove {
-        cell,
-        kind: Kind::Nothing,
-        predicate,
-        made,
-    }))
+    let made = substitute_move(store, term, clause);
+    planned(cell, Kind::Nothing, predicate, made)
 }
 
 /// What a goal is to do by a clause; nothing if it can do nothing by it.

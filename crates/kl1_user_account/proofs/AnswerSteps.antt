@@ -1,7 +1,36 @@
 -- What refuses an answer, and the step of one that nothing refuses.
-use Rattle.kl1_user_account.proofs.Words.{◌≡◌, ℕ, ◌+◌, ◌-◌, not, ◌&&◌, Bool, true, false, if◌then◌else◌, List, [], ◌∷◌, refl, sym, ap, ap₂, ◌∙◌, subst, nat_le, Option, Some, None, option_map, option_and_then, unwrap_or, and_parts, Rules, Limits, Term, highest, structures_of, State, has_substitutes, shoen_at, is_living, names_of, with_names, Transition, answer, refuse, unless, syntax, no_shoen, shoen_ended, if_living, may_answer, has_room_to_answer, unanswered_at, answer_by, answer_living, answer_to, step, Reads, CellName, Known, Held, IsUnbound, Refusal, Syntax, NoShoen, Ended, Goal, Origin, Shoen, shoen_in, lives_in, Reading, built, Means, meaning, origin_with, shoen_with, state_with, with_kept, found_in, kept_at, Counted, HasNames, refusals_of, refused_or, IsFree, has_room_to_answer_beside, RefusesAnswer, IsAnswerable}
-use Rattle.kl1_model.specs.State.{Origin as Tails, Shoen as ShoenMeant}
-use Rattle.kl1_user_account.proofs.StartSteps.{refusals_at, refusals_in}
+use Rattle.std.proofs.Common.{◌≡◌, ℕ, ◌+◌, ◌-◌, not, ◌&&◌, Bool, true, false, if◌then◌else◌, List, [], ◌∷◌, refl, sym, ap, ap₂, ◌∙◌, subst}
+use Rattle.std.specs.Prelude.{nat_le, Option, Some, None, option_map, option_and_then, unwrap_or}
+use Rattle.std.proofs.lemmas.Bool.{and_parts}
+use Rattle.kl1_model.specs.declared.rules.Rules.{Rules}
+use Rattle.kl1_model.specs.declared.limits.Limits.{Limits}
+use Rattle.kl1_model.specs.Term.{Term}
+use Rattle.kl1_model.specs.Meaning.{highest}
+use Rattle.kl1_model.specs.Nodes.{structures_of}
+use Rattle.kl1_model.specs.State.{Origin as Tails, Shoen as ShoenMeant, State, has_substitutes, shoen_at, is_living, names_of, with_names}
+use Rattle.kl1_model.specs.Event.{Transition, answer, refuse, unless, are_too_many, is_full, syntax, no_shoen, shoen_ended, too_many_names, limit_passed, journal_full}
+use Rattle.kl1_model.specs.Sending.{if_living}
+use Rattle.kl1_model.specs.Answering.{may_answer, has_room_to_answer, unanswered_at, answer_by, answer_living, answer_to}
+use Rattle.kl1_model.specs.Step.{step}
+use Rattle.kl1_text.specs.Reading.{Reads}
+use Rattle.kl1_text.specs.declared.cell_name.CellName.{CellName}
+use Rattle.kl1_atoms.specs.declared.known.Known.{Known}
+use Rattle.kl1_store.specs.Held.{Held}
+use Rattle.kl1_store.specs.Unbound.{IsUnbound}
+use Rattle.kl1_user_events.specs.declared.refusal.Refusal.{Refusal}
+use Rattle.kl1_user_events.specs.declared.refusal.Refusal.TheVariants.{Syntax, NoShoen, Ended}
+use Rattle.kl1_goals.specs.declared.goal.Goal.{Goal}
+use Rattle.kl1_shoen_paths.specs.declared.shoen.Origin.{Origin}
+use Rattle.kl1_shoen_paths.specs.declared.shoen.Shoen.{Shoen}
+use Rattle.kl1_shoen.specs.Shoens.{shoen_in, lives_in}
+use Rattle.kl1_user_effects.specs.Fitting.{Reading, built}
+use Rattle.kl1_user_effects.specs.Account.{Means, meaning, origin_with, shoen_with, state_with, with_kept}
+use Rattle.kl1_user_effects.proofs.States.{found_in}
+use Rattle.kl1_user_effects.proofs.Messages.{kept_at}
+use Rattle.kl1_user_account.specs.declared.counted.Counted.{Counted}
+use Rattle.kl1_user_account.specs.Starting.{HasNames, refusals_of, refused_or, IsFree}
+use Rattle.kl1_user_account.specs.Answering.{has_room_to_answer_beside, RefusesAnswer, IsAnswerable}
+use Rattle.kl1_user_account.proofs.StartSteps.{refusals_in}
 
 -- ---- a shoen of which the console keeps something
 
@@ -77,7 +106,7 @@ module _ (rules : Rules) (h : Held CellName) (ss : List (Shoen CellName)) (names
       let after = answer_by S goal (unanswered_at (meaning f h o.reports) report) in
       by_right true j.right f s goals same
       ∙ kept_there S (answer_living S report goal) (meaning f h) o true (shoen_in n ss) j.kept j.lives
-      ∙ ap (λ b. unless S (refusals_at S goal b) after) (room_in S names c goal at ∙ sym j.has)
+      ∙ ap (λ b. unless S ((are_too_many (with_names S.names (names_of goal)), too_many_names) ∷ (not b, limit_passed) ∷ (is_full S, journal_full) ∷ []) after) (room_in S names c goal at ∙ sym j.has)
       ∙ ap (λ rs. unless S rs after) (refusals_in S names c goal texts has_room at j.texts_are)
       ∙ j.refuses S after
 

@@ -1,9 +1,42 @@
 -- The variables that goals wait for.
-use Rattle.kl1_user_account.proofs.Words.{◌≡◌, ℕ, List, [], refl, sym, ap, subst, ◌∙◌, Option, Some, None, option_map, Contains, Term, Module, Reads, CellName, Cell, Qualified, Held, qualified_term, Predicate, AreSame, same_as_itself, Kind, IsKind, HasPredicate, StandsAs, Task, Monitor, Reduces, Substitutes, Goal, has_number, Shoen, shoen_in, contents, Program, AreListedOf, AreAwaited, awaited_by_goal, Reading, built, Account, program_of, meaning, aim, task_with, shoen_with, state_of, Knows, control_at, control_with, front_with, awaited_by_monitor, awaited_by_task, kind_at, found_in, AwaitsMessage, Awaits, ListsAwaited, no_control}
+use Rattle.std.proofs.Common.{◌≡◌, ℕ, List, [], refl, sym, ap, subst, ◌∙◌}
+use Rattle.std.specs.Prelude.{Option, Some, None, option_map, Contains}
 use Rattle.std.specs.List.{find}
+use Rattle.kl1_model.specs.Term.{Term}
+use Rattle.kl1_model.specs.Module.{Module}
 use Rattle.kl1_model.specs.State as model
+use Rattle.kl1_text.specs.Reading.{Reads}
+use Rattle.kl1_text.specs.declared.cell_name.CellName.{CellName}
+use Rattle.kl1_store.specs.declared.cell.Cell.{Cell}
+use Rattle.kl1_store.specs.declared.qualified.Qualified.{Qualified}
+use Rattle.kl1_store.specs.Held.{Held}
+use Rattle.kl1_store.specs.InModules.{qualified_term}
+use Rattle.kl1_clause.specs.declared.predicate.Predicate.{Predicate}
+use Rattle.kl1_match.specs.Waiting.{AreSame}
+use Rattle.kl1_match.proofs.Naming.{same_as_itself}
+use Rattle.kl1_goals_moves.specs.declared.kind.Kind.{Kind}
+use Rattle.kl1_goals_moves.specs.Kinds.{IsKind}
+use Rattle.kl1_goals_moves.specs.Moves.{HasPredicate}
+use Rattle.kl1_goals_moves.specs.Standing.{StandsAs}
+use Rattle.kl1_goals.specs.declared.task.Task.{Task}
+use Rattle.kl1_goals.specs.declared.task.Task.TheVariants.{Monitor, Reduces, Substitutes}
+use Rattle.kl1_goals.specs.declared.goal.Goal.{Goal}
+use Rattle.kl1_goals.specs.Lists.{has_number}
+use Rattle.kl1_shoen_paths.specs.declared.shoen.Shoen.{Shoen}
+use Rattle.kl1_shoen.specs.Shoens.{shoen_in}
+use Rattle.kl1_codes.specs.Finding.{contents}
+use Rattle.kl1_codes.specs.Shelves.{Program}
 use Rattle.kl1_user_events.specs.Viewing as shown
+use Rattle.kl1_user_events.specs.Viewing.{AreListedOf, AreAwaited, awaited_by_goal}
+use Rattle.kl1_user_effects.specs.Fitting.{Reading, built}
+use Rattle.kl1_user_effects.specs.Account.{Account, program_of, meaning, aim, task_with, shoen_with, state_of}
+use Rattle.kl1_user_effects.specs.Works.{Knows}
+use Rattle.kl1_user_effects.specs.Settled.{control_at, control_with, front_with, awaited_by_monitor, awaited_by_task}
+use Rattle.kl1_user_effects.proofs.Aims.{kind_at}
+use Rattle.kl1_user_effects.proofs.States.{found_in}
+use Rattle.kl1_user_account.specs.Viewed.{AwaitsMessage, Awaits, ListsAwaited}
 use Rattle.kl1_user_account.proofs.Goals.{finds_goal}
+use Rattle.kl1_ready.proofs.Ready.{no_control}
 
 -- nobody waits for a message to a shoen that isn't there
 pub nobody_awaits : (program : Program) (shoens : List (Shoen CellName)) (h : Held CellName) (n : ℕ) (vs : List ℕ) → None ≡ shoen_in n shoens → vs ≡ [] → Awaits program shoens h n Monitor vs
@@ -43,8 +76,18 @@ task_read f a n Monitor = by_case (shoen_in n a.shoens) ∙ ap shown.awaited_by_
 task_read f a n (Reduces x) = refl
 task_read f a n (Substitutes x) = refl
 
+-- no goal has the number
+pub none_awaited : (f : Reading) (a b : Account) (n : ℕ) → a ≡ b → find (has_number n) a.goals ≡ None → AreAwaited (state_of f b) n None
+none_awaited f a b n is e =
+    let P : Account → Type 0 = λ z. AreAwaited (state_of f z) n None in
+    let Q : Option model.Goal → Type 0 = λ o. AreListedOf None (option_map (awaited_by_goal (state_of f a)) o) in
+    subst P is (subst Q (sym (finds_goal f a n None e)) tt)
+
 -- what the goal with the number waits for
-pub some_awaited : (f : Reading) (a : Account) (n : ℕ) (g : Goal CellName) (vs : List ℕ) → find (has_number n) a.goals ≡ Some g → Knows a.modules f → ListsAwaited (program_of a) a.shoens a.held g.shoen g.task vs → AreAwaited (state_of f a) n (Some vs)
-some_awaited f a n g vs e knows lists =
-    subst (λ (o : Option model.Goal). AreListedOf (Some vs) (option_map (awaited_by_goal (state_of f a)) o)) (sym (finds_goal f a n (Some g) e))
-    (record { increasing = lists.increasing; each = (subst (λ (ws : List ℕ). AreSame vs ws) (task_read f a g.shoen g.task) (lists.awaits f knows)).each })
+pub some_awaited : (f : Reading) (a b : Account) (n : ℕ) (g : Goal CellName) (vs : List ℕ) → a ≡ b → find (has_number n) a.goals ≡ Some g → Knows a.modules f → ListsAwaited (program_of a) a.shoens a.held g.shoen g.task vs → AreAwaited (state_of f b) n (Some vs)
+some_awaited f a b n g vs is e knows lists =
+    let P : Account → Type 0 = λ z. AreAwaited (state_of f z) n (Some vs) in
+    let Q : Option model.Goal → Type 0 = λ o. AreListedOf (Some vs) (option_map (awaited_by_goal (state_of f a)) o) in
+    let L : List ℕ → Type 0 = λ ws. AreSame vs ws in
+    let same = subst L (task_read f a g.shoen g.task) (lists.awaits f knows) in
+    subst P is (subst Q (sym (finds_goal f a n (Some g) e)) (record { increasing = lists.increasing; each = same.each }))

@@ -1,5 +1,11 @@
 -- What always holds holds of an account in which nothing has happened.
-use Rattle.kl1_user_account.proofs.Words.{◌≡◌, ℕ, List, refl, arith, Rules, Known, Hook, AreSmall, begun, IsKept, CountsWork}
+use Rattle.std.proofs.Common.{◌≡◌, ℕ, List, refl, arith}
+use Rattle.kl1_model.specs.declared.rules.Rules.{Rules}
+use Rattle.kl1_atoms.specs.declared.known.Known.{Known}
+use Rattle.kl1_store.specs.Hooks.{Hook}
+use Rattle.kl1_user_effects.specs.Naming.{AreSmall}
+use Rattle.kl1_user_account.specs.Beginning.{begun}
+use Rattle.kl1_user_account.specs.Keeping.{IsKept, CountsWork}
 
 pub begun_kept : (own : List ℕ) (rules : Rules) (names : List Known) (sessions : ℕ) (hooks : List Hook) → AreSmall names → IsKept (begun own rules names sessions) hooks 0 0
 begun_kept own rules names sessions hooks small = record {

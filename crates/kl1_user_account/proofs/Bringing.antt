@@ -1,6 +1,21 @@
 -- An account after an event that brought a goal, whose names were published.
-use Rattle.kl1_user_account.proofs.Words.{◌≡◌, ℕ, suc, ◌<◌, ◌≤◌, List, length, sym, ap, ◌∙◌, subst, arith, limits_of, State, with_entry, CellName, IsNameList, Reading, Fits, Account, state_of, AreSpared, Machine, Brought, Keeps, IsRested, goal_of, change_of, PublishesNames, Brings, IsPublished, published_states, published_rested, published_alike, CountsWork, MayBring}
-use Rattle.std.proofs.Common.{None}
+use Rattle.std.proofs.Common.{◌≡◌, ℕ, suc, ◌<◌, ◌≤◌, List, length, None, sym, ap, ◌∙◌, subst, arith}
+use Rattle.kl1_model.specs.Rules.{limits_of}
+use Rattle.kl1_model.specs.State.{State}
+use Rattle.kl1_model.specs.Event.{with_entry}
+use Rattle.kl1_text.specs.declared.cell_name.CellName.{CellName}
+use Rattle.kl1_clause.specs.NameList.{IsNameList}
+use Rattle.kl1_user_effects.specs.Fitting.{Reading, Fits}
+use Rattle.kl1_user_effects.specs.Account.{Account, state_of}
+use Rattle.kl1_user_effects.specs.Exchanging.{AreSpared}
+use Rattle.kl1_machine.specs.declared.machine.Machine.{Machine}
+use Rattle.kl1_machine.specs.declared.machine.bringing.Brought.{Brought}
+use Rattle.kl1_machine.specs.Machines.{Keeps}
+use Rattle.kl1_machine.specs.Rested.{IsRested}
+use Rattle.kl1_machine.specs.Bringing.{goal_of, change_of, PublishesNames, Brings, IsPublished}
+use Rattle.kl1_machine.proofs.Bringing.{published_states, published_rested, published_alike}
+use Rattle.kl1_user_account.specs.Keeping.{CountsWork}
+use Rattle.kl1_user_account.specs.Bringing.{MayBring}
 use Rattle.kl1_user_account.proofs.Counting.{counts_entry}
 use Rattle.kl1_user_account.proofs.Machines.{Aside, account_of, state_aside, state_is, kept_alike, Leaves, left_holds, Began, began_state, rules_after, rested_after, noted, Ends}
 

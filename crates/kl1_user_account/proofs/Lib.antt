@@ -26,4 +26,3 @@ mod Messages
 mod Bringing
 mod Loaded
 mod Started
-pub mod Words

@@ -1,8 +1,40 @@
 -- An account after a module was loaded.
-use Rattle.kl1_user_account.proofs.Words.{◌≡◌, ℕ, suc, ◌<◌, ◌≤◌, false, List, [], ◌∷◌, ◌++◌, length, map, refl, sym, ap, ◌∙◌, subst, Rules, limits_of, Module, State, names_of_module, with_names, load, loaded, with_entry, Transition, step, with_module, CellName, AreNames, Hook, Held, HangsOnEach, with_texts, Goal, Shoen, Numbered, own_names, number_of, contents, is_numbered, Program, with_last, Reading, Fits, Account, Means, meaning, task_with, goal_with, shoen_with, texts_of, state_of, NameShelf, AreSmall, AreNumbersOf, control_with, task_clause, awaited_by_task, AreSettled, IsEnabled, of_module, Machine, IsMachine, IsRested, unready, Reschedules, AllSettled, looked_hold, unready_hold, looked_read, settled_alike, CountsWork, IsDraftOf}
+use Rattle.std.proofs.Common.{◌≡◌, ℕ, suc, ◌<◌, ◌≤◌, false, List, [], ◌∷◌, ◌++◌, length, map, refl, sym, ap, ◌∙◌, subst}
+use Rattle.kl1_model.specs.declared.rules.Rules.{Rules}
+use Rattle.kl1_model.specs.Rules.{limits_of}
+use Rattle.kl1_model.specs.Module.{Module}
 use Rattle.kl1_model.specs.State as model
+use Rattle.kl1_model.specs.State.{State, names_of_module, with_names}
+use Rattle.kl1_model.specs.Event.{load, loaded, with_entry, Transition}
+use Rattle.kl1_model.specs.Step.{step}
+use Rattle.kl1_model.specs.code.Steps.{with_module}
+use Rattle.kl1_text.specs.declared.cell_name.CellName.{CellName}
+use Rattle.kl1_atoms.specs.Names.{AreNames}
+use Rattle.kl1_store.specs.Hooks.{Hook}
+use Rattle.kl1_store.specs.Held.{Held}
+use Rattle.kl1_store_hooks.specs.Hanging.{HangsOnEach}
+use Rattle.kl1_clause.specs.NameList.{with_texts}
+use Rattle.kl1_goals.specs.declared.goal.Goal.{Goal}
+use Rattle.kl1_shoen_paths.specs.declared.shoen.Shoen.{Shoen}
+use Rattle.kl1_codes.specs.Numbered.{Numbered, own_names, number_of}
+use Rattle.kl1_codes.specs.Finding.{contents, is_numbered}
+use Rattle.kl1_codes.specs.Shelves.{Program, with_last}
+use Rattle.kl1_user_effects.specs.Fitting.{Reading, Fits}
+use Rattle.kl1_user_effects.specs.Account.{Account, Means, meaning, task_with, goal_with, shoen_with, texts_of, state_of}
+use Rattle.kl1_user_effects.specs.Naming.{NameShelf, AreSmall, AreNumbersOf}
+use Rattle.kl1_user_effects.specs.Settled.{control_with, task_clause, awaited_by_task, AreSettled, IsEnabled}
+use Rattle.kl1_user_effects.proofs.ModuleNames.{of_module}
+use Rattle.kl1_machine.specs.declared.machine.Machine.{Machine}
+use Rattle.kl1_machine.specs.Machines.{IsMachine}
+use Rattle.kl1_machine.specs.Rested.{IsRested}
+use Rattle.kl1_machine.specs.Rescheduling.{unready, Reschedules, AllSettled}
+use Rattle.kl1_machine.proofs.Looking.{looked_hold, unready_hold}
+use Rattle.kl1_machine.proofs.Resting.{looked_read}
+use Rattle.kl1_user_effects.proofs.Exchanged.{settled_alike}
 use Rattle.kl1_user_account.proofs.Counting.{counts_entry}
 use Rattle.kl1_user_account.proofs.Loads.{read_more, contents_more, still_new, has_no_room, more_entry}
+use Rattle.kl1_user_account.specs.Keeping.{CountsWork}
+use Rattle.kl1_user_account.specs.Loadings.{IsDraftOf}
 use Rattle.kl1_user_account.proofs.Machines.{Aside, account_of, program_in, Leaves, left_holds, Began, Ends}
 
 -- goals are settled by modules of the same contents too

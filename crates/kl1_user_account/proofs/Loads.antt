@@ -1,6 +1,34 @@
 -- Loads, by the definition of the step.
-use Rattle.kl1_user_account.proofs.Words.{◌≡◌, ℕ, ◌<◌, ◌≤◌, suc, Bool, true, false, List, [], ◌∷◌, ◌++◌, length, not, refl, sym, ap, ap₂, ◌∙◌, subst, arith, nat_lt, is_some, le-leb, lt-ltb, ltb-true, ltb-false, map-append, MOST_NAMES, MOST_MODULES, MOST_SOURCE_BYTES, Module, read_module, good, module_of, State, names_of_module, with_names, limits_of, Transition, load, loaded, unless, are_too_many, is_full, exists, too_many_names, limit_passed, journal_full, with_entry, step, load_module, with_module, Reads, AtomNo, CellName, Known, AreNames, reading, text_or_mark, is_reading, with_texts, Numbered, own_names, number_of, IsRead, AreRead, contents, is_numbered, TellsModule, number_reads, Loading, Refused, Drafted, Reading, Fits, built, Account, texts_of, state_of, ReadsDraft, AreNumbersOf, HasModules, IsDraft, IsDraftOf, LoadsAs, StandsIn, of_module}
+use Rattle.std.proofs.Common.{◌≡◌, ℕ, ◌<◌, ◌≤◌, suc, Bool, true, false, List, [], ◌∷◌, ◌++◌, length, not, refl, sym, ap, ap₂, ◌∙◌, subst, arith, nat_lt}
+use Rattle.std.specs.Prelude.{is_some}
+use Rattle.std.proofs.lemmas.Bool.{le-leb, lt-ltb, ltb-true, ltb-false}
+use Rattle.std.proofs.lemmas.List.{map-append}
+use Rattle.kl1_model.specs.declared.limits.TheConstants.{MOST_NAMES, MOST_MODULES, MOST_SOURCE_BYTES}
+use Rattle.kl1_model.specs.Module.{Module, read_module, good}
+use Rattle.kl1_model.specs.Match.{module_of}
+use Rattle.kl1_model.specs.State.{State, names_of_module, with_names}
+use Rattle.kl1_model.specs.Rules.{limits_of}
+use Rattle.kl1_model.specs.Event.{Transition, load, loaded, unless, are_too_many, is_full, exists, too_many_names, limit_passed, journal_full, with_entry}
+use Rattle.kl1_model.specs.Step.{step, load_module}
+use Rattle.kl1_model.specs.code.Steps.{with_module}
+use Rattle.kl1_text.specs.Reading.{Reads}
+use Rattle.kl1_text.specs.declared.atom_no.AtomNo.{AtomNo}
+use Rattle.kl1_text.specs.declared.cell_name.CellName.{CellName}
+use Rattle.kl1_atoms.specs.declared.known.Known.{Known}
+use Rattle.kl1_atoms.specs.Names.{AreNames, reading, text_or_mark}
+use Rattle.kl1_atoms.specs.Knowing.{is_reading}
+use Rattle.kl1_clause.specs.NameList.{with_texts}
+use Rattle.kl1_codes.specs.Numbered.{Numbered, own_names, number_of, IsRead, AreRead}
+use Rattle.kl1_codes.specs.Finding.{contents, is_numbered, TellsModule}
+use Rattle.kl1_codes.proofs.Names.{number_reads}
 use Rattle.kl1_codes.proofs.Shelving.{tells}
+use Rattle.kl1_user_account.specs.declared.loading.Loading.{Loading}
+use Rattle.kl1_user_account.specs.declared.loading.Loading.TheVariants.{Refused, Drafted}
+use Rattle.kl1_user_effects.specs.Fitting.{Reading, Fits, built}
+use Rattle.kl1_user_effects.specs.Account.{Account, texts_of, state_of}
+use Rattle.kl1_user_effects.specs.Naming.{ReadsDraft, AreNumbersOf}
+use Rattle.kl1_user_account.specs.Loadings.{HasModules, IsDraft, IsDraftOf, LoadsAs, StandsIn}
+use Rattle.kl1_user_effects.proofs.ModuleNames.{of_module}
 use Rattle.kl1_user_account.proofs.StartSteps.{many_is}
 
 -- ---- whether a drafted module may be loaded

@@ -1,6 +1,23 @@
 -- An account and its machine: what always holds of the one, and what holds of the other between events.
-use Rattle.kl1_user_account.proofs.Words.{◌≡◌, ℕ, suc, ◌≤◌, false, List, [], length, refl, sym, ap, ◌∙◌, subst, Rules, limits_of, State, point_of, Known, Numbered, Program, Reading, Fits, Account, texts_of, state_of, NameShelf, AreSmall, names_with, worked, Machine, made, IsBegun, IsRested, ReadsAlike, Inside, IsKept, CountsWork}
-use Rattle.std.proofs.Common.{Option, None}
+use Rattle.std.proofs.Common.{◌≡◌, ℕ, suc, ◌≤◌, false, List, [], length, Option, None, refl, sym, ap, ◌∙◌, subst}
+use Rattle.kl1_model.specs.declared.rules.Rules.{Rules}
+use Rattle.kl1_model.specs.Rules.{limits_of}
+use Rattle.kl1_model.specs.State.{State}
+use Rattle.kl1_store.specs.Hooks.{point_of}
+use Rattle.kl1_atoms.specs.declared.known.Known.{Known}
+use Rattle.kl1_codes.specs.Numbered.{Numbered}
+use Rattle.kl1_codes.specs.Shelves.{Program}
+use Rattle.kl1_user_effects.specs.Fitting.{Reading, Fits}
+use Rattle.kl1_user_effects.specs.Account.{Account, texts_of, state_of}
+use Rattle.kl1_user_effects.specs.Naming.{NameShelf, AreSmall}
+use Rattle.kl1_user_effects.specs.Drafts.{names_with}
+use Rattle.kl1_user_effects.specs.Works.{worked}
+use Rattle.kl1_machine.specs.declared.machine.Machine.{Machine}
+use Rattle.kl1_machine.specs.Machines.{made, IsBegun}
+use Rattle.kl1_machine.specs.Rested.{IsRested}
+use Rattle.kl1_machine.specs.Reducing.{ReadsAlike}
+use Rattle.kl1_user_account.specs.declared.account.Account.TheInside.{Inside}
+use Rattle.kl1_user_account.specs.Keeping.{IsKept, CountsWork}
 
 -- what an account has besides its machine
 pub record Aside : Type 0 where

@@ -1,5 +1,21 @@
 -- A message to a shoen of an account, which its machine is sent.
-use Rattle.kl1_user_account.proofs.Words.{◌≡◌, ℕ, suc, ◌≤◌, List, length, refl, sym, ap, ◌∙◌, subst, arith, Message, control, sent, refused, Transition, limits_of, State, step, Reads, Refusal, refusal_of, Reading, Fits, built, Account, state_of, NameShelf, AreSmall, Machine, Trail, Keeps, Sends, IsRefusedMessage, refused_as, CountsWork}
+use Rattle.std.proofs.Common.{◌≡◌, ℕ, suc, ◌≤◌, List, length, refl, sym, ap, ◌∙◌, subst, arith}
+use Rattle.kl1_model.specs.declared.message.Message.{Message}
+use Rattle.kl1_model.specs.Event.{control, sent, refused, Transition}
+use Rattle.kl1_model.specs.Rules.{limits_of}
+use Rattle.kl1_model.specs.State.{State}
+use Rattle.kl1_model.specs.Step.{step}
+use Rattle.kl1_text.specs.Reading.{Reads}
+use Rattle.kl1_user_events.specs.declared.refusal.Refusal.{Refusal}
+use Rattle.kl1_user_events.specs.Views.{refusal_of}
+use Rattle.kl1_user_effects.specs.Fitting.{Reading, Fits, built}
+use Rattle.kl1_user_effects.specs.Account.{Account, state_of}
+use Rattle.kl1_user_effects.specs.Naming.{NameShelf, AreSmall}
+use Rattle.kl1_machine.specs.declared.machine.Machine.{Machine}
+use Rattle.kl1_machine.specs.Machines.{Trail, Keeps}
+use Rattle.kl1_machine.specs.Sending.{Sends, IsRefusedMessage}
+use Rattle.kl1_machine.proofs.Sending.{refused_as}
+use Rattle.kl1_user_account.specs.Keeping.{CountsWork}
 use Rattle.kl1_user_account.proofs.Counting.{counts_entry}
 use Rattle.kl1_user_account.proofs.Machines.{Aside, account_of, state_aside, state_is, Holds, Leaves, left_holds, Began, began_state, rules_after, rested_after, noted}
 

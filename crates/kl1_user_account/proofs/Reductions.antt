@@ -1,7 +1,25 @@
 -- A reduction of an account, which its machine does.
-use Rattle.kl1_user_account.proofs.Words.{◌≡◌, ℕ, suc, ◌+◌, ◌≤◌, ◌==◌, not, ◌&&◌, ◌||◌, Bool, true, false, if◌then◌else◌, nat_lt, [], length, refl, sym, ap, ◌∙◌, subst, arith, ltb-true, is_in_run, reduce, reduced, is_full, needs_entry, run_after, with_reduction, Transition, limits_of, State, step, contents, Program, Refusal, reduced_or, Reading, Fits, Account, state_of, NameShelf, Machine, Trail, Keeps, IsRested, CanPublish, Publishes, Refuses, state_in, IsReduced, published_reduced}
-use Rattle.std.proofs.Common.{Option, Some, None}
-use Rattle.kl1_machine.specs.Reducing.{Reduces}
+use Rattle.std.proofs.Common.{◌≡◌, ℕ, suc, ◌+◌, ◌≤◌, ◌==◌, not, ◌&&◌, ◌||◌, Bool, true, false, if◌then◌else◌, nat_lt, [], length, Option, Some, None, refl, sym, ap, ◌∙◌, subst, arith}
+use Rattle.std.proofs.lemmas.Bool.{ltb-true}
+use Rattle.kl1_model.specs.Choice.{is_in_run}
+use Rattle.kl1_model.specs.Event.{reduce, reduced, is_full, needs_entry, run_after, with_reduction, Transition}
+use Rattle.kl1_model.specs.Rules.{limits_of}
+use Rattle.kl1_model.specs.State.{State}
+use Rattle.kl1_model.specs.Step.{step}
+use Rattle.kl1_codes.specs.Finding.{contents}
+use Rattle.kl1_codes.specs.Shelves.{Program}
+use Rattle.kl1_user_events.specs.declared.refusal.Refusal.{Refusal}
+use Rattle.kl1_user_events.specs.Views.{reduced_or}
+use Rattle.kl1_user_effects.specs.Fitting.{Reading, Fits}
+use Rattle.kl1_user_effects.specs.Account.{Account, state_of}
+use Rattle.kl1_user_effects.specs.Naming.{NameShelf}
+use Rattle.kl1_machine.specs.declared.machine.Machine.{Machine}
+use Rattle.kl1_machine.specs.Machines.{Trail, Keeps}
+use Rattle.kl1_machine.specs.Rested.{IsRested}
+use Rattle.kl1_machine.specs.Naming.{CanPublish, Publishes}
+use Rattle.kl1_machine.specs.Reducing.{Reduces, Refuses}
+use Rattle.kl1_machine.proofs.Planned.{state_in}
+use Rattle.kl1_machine.proofs.Published.{IsReduced, published_reduced}
 use Rattle.kl1_user_account.proofs.Counting.{counts_reduction}
 use Rattle.kl1_user_account.proofs.Machines.{Aside, account_of, state_aside, state_is, kept_alike, Leaves, left_holds, Began, began_rested, began_state, rules_after, rested_after, Ends}
 
@@ -84,7 +102,7 @@ module _ (r : Reduction) (u v : Machine) (y : Aside) (d : Done r u v y) where
   x = r.event.aside
 
   is_reduced : IsReduced r.event.program r.number r.clause m v
-  is_reduced = published_reduced r.event.program r.number r.clause m u v (began_rested r.event) (kept_alike x m r.event.holds) d.reduces d.keeps d.rests d.published
+  is_reduced = published_reduced r.event.program r.number r.clause m u v (began_rested r.event) (kept_alike x m r.event.holds) d.reduces d.keeps d.rests.0 d.rests.1 d.published
 
   -- a reading of the names after it is one of those before it
   still_fits : (f : Reading) → Fits v.names.names f → Fits m.names.names f

@@ -1,6 +1,14 @@
 -- What is known of a goal that may be started, or be an answer.
-use Rattle.kl1_user_account.proofs.Words.{◌≡◌, ℕ, ◌<◌, ◌≤◌, ◌&&◌, Bool, true, length, arith, nat_le, and_parts, leb-true, Term, is_number, is_range, MOST_LINE_BYTES, MOST_PRIORITY, MONITOR_PRIORITY, is_goal, is_writable, may_start, start_line, may_answer, answer_line}
-use Rattle.kl1_model.specs.Meaning.{is_numbered}
+use Rattle.std.proofs.Common.{◌≡◌, ℕ, ◌<◌, ◌≤◌, ◌&&◌, Bool, true, length, arith}
+use Rattle.std.specs.Prelude.{nat_le}
+use Rattle.std.proofs.lemmas.Bool.{and_parts, leb-true}
+use Rattle.kl1_model.specs.Term.{Term}
+use Rattle.kl1_model.specs.Event.{is_number, is_range}
+use Rattle.kl1_model.specs.declared.limits.TheConstants.{MOST_LINE_BYTES, MOST_PRIORITY, MONITOR_PRIORITY}
+use Rattle.kl1_model.specs.Goal.{is_goal}
+use Rattle.kl1_model.specs.Meaning.{is_writable, is_numbered}
+use Rattle.kl1_model.specs.Opening.{may_start, start_line}
+use Rattle.kl1_model.specs.Answering.{may_answer, answer_line}
 
 -- of five tests that hold, the first, the second and the fourth
 all_hold : (a b c d e : Bool) → (a && b && c && d && e) ≡ true → (a ≡ true) × ((b ≡ true) × (d ≡ true))

@@ -1,8 +1,23 @@
 -- What refuses a goal of the console, and the step of a start that nothing refuses.
-use Rattle.kl1_user_account.proofs.Words.{◌≡◌, ℕ, suc, ◌+◌, not, ◌&&◌, Bool, true, false, if◌then◌else◌, List, [], ◌∷◌, length, refl, sym, ap, ap₂, ◌∙◌, subst, nat_le, Option, Some, None, Limits, MOST_NAMES, Term, highest, goal_nodes, State, names_of, with_names, Transition, start, opened, refuse, unless, are_too_many, is_full, syntax, too_many_names, limit_passed, journal_full, with_entry, may_start, has_room_to_start, start_goal, goals_alive, step, start_by, Known, with_texts, Refusal, texts_of, Counted, HasNames, has_room_beside, refusals_of, refused_or, IsFree, IsStartable, names_used}
-use Rattle.std.specs.Prelude.{nat_lt}
-use Rattle.kl1_model.specs.State.{limits_of}
-use Rattle.kl1_model.specs.Event.{Refusal as Reason}
+use Rattle.std.proofs.Common.{◌≡◌, ℕ, suc, ◌+◌, not, ◌&&◌, Bool, true, false, if◌then◌else◌, List, [], ◌∷◌, length, refl, sym, ap, ap₂, ◌∙◌, subst}
+use Rattle.std.specs.Prelude.{nat_lt, nat_le, Option, Some, None}
+use Rattle.kl1_model.specs.declared.limits.Limits.{Limits}
+use Rattle.kl1_model.specs.declared.limits.TheConstants.{MOST_NAMES}
+use Rattle.kl1_model.specs.Term.{Term}
+use Rattle.kl1_model.specs.Meaning.{highest}
+use Rattle.kl1_model.specs.Nodes.{goal_nodes}
+use Rattle.kl1_model.specs.State.{State, limits_of, names_of, with_names}
+use Rattle.kl1_model.specs.Event.{Transition, Refusal as Reason, start, opened, refuse, unless, are_too_many, is_full, syntax, too_many_names, limit_passed, journal_full, with_entry}
+use Rattle.kl1_model.specs.Opening.{may_start, has_room_to_start, start_goal}
+use Rattle.kl1_model.specs.Tree.{goals_alive}
+use Rattle.kl1_model.specs.Step.{step, start_by}
+use Rattle.kl1_atoms.specs.declared.known.Known.{Known}
+use Rattle.kl1_clause.specs.NameList.{with_texts}
+use Rattle.kl1_user_events.specs.declared.refusal.Refusal.{Refusal}
+use Rattle.kl1_user_effects.specs.Account.{texts_of}
+use Rattle.kl1_user_account.specs.declared.counted.Counted.{Counted}
+use Rattle.kl1_user_account.specs.Starting.{HasNames, has_room_beside, refusals_of, refused_or, IsFree, IsStartable}
+use Rattle.kl1_machine.proofs.Bringing.{names_used}
 use Rattle.kl1_user_account.proofs.Counting.{not_less}
 
 -- ---- names, room and the journal
@@ -15,12 +30,9 @@ many_is n = ap not (not_less n MOST_NAMES) ∙ twice (nat_lt MOST_NAMES n)
     twice true = refl
     twice false = refl
 
--- what a state refuses a goal of the console for, if there is room for it or not
-abbrev pub refusals_at : State → Term → Bool → List (Bool × Reason)
-refusals_at s goal has_room = (are_too_many (with_names s.names (names_of goal)), too_many_names) ∷ (not has_room, limit_passed) ∷ (is_full s, journal_full) ∷ []
-
--- that is known by its names and counts
-pub refusals_in : (s : State) (names : List Known) (c : Counted) (goal : Term) (texts : List (List ℕ)) (has_room : Bool) → HasNames s names c → texts ≡ with_names [] (names_of goal) → refusals_at s goal has_room ≡ refusals_of c names texts has_room
+-- what a state with these names and counts refuses a goal for, if there is room for it or not
+pub refusals_in : (s : State) (names : List Known) (c : Counted) (goal : Term) (texts : List (List ℕ)) (has_room : Bool) → HasNames s names c → texts ≡ with_names [] (names_of goal) →
+    (are_too_many (with_names s.names (names_of goal)), too_many_names) ∷ (not has_room, limit_passed) ∷ (is_full s, journal_full) ∷ [] ≡ refusals_of c names texts has_room
 refusals_in s names c goal texts has_room at are =
     let R : Bool → Bool → List (Bool × Reason) = λ many full. (many, too_many_names) ∷ (not has_room, limit_passed) ∷ (full, journal_full) ∷ [] in
     let count : length (with_names s.names (names_of goal)) ≡ length (with_texts (texts_of names) texts) =
@@ -53,7 +65,7 @@ pub start_steps : (names : List Known) (c : Counted) (allowance low high : ℕ) 
 start_steps names c allowance low high goal texts has_room o j s at =
     let done : Transition = record { state = with_entry (start_goal s allowance low high goal); reply = opened (suc s.last_shoen) } in
     ap (λ b. if b then start_by s allowance low high goal else refuse s syntax) j.may
-    ∙ ap (λ b. unless s (refusals_at s goal b) done) (room_in s names c goal at ∙ sym j.has)
+    ∙ ap (λ b. unless s ((are_too_many (with_names s.names (names_of goal)), too_many_names) ∷ (not b, limit_passed) ∷ (is_full s, journal_full) ∷ []) done) (room_in s names c goal at ∙ sym j.has)
     ∙ ap (λ rs. unless s rs done) (refusals_in s names c goal texts has_room at j.texts_are)
     ∙ j.refuses s done
 

@@ -1,7 +1,26 @@
 -- A goal that the console brings to an account, if nothing refuses it.
-use Rattle.kl1_user_account.proofs.Words.{◌≡◌, ℕ, suc, ◌+◌, ◌≤◌, ◌&&◌, true, List, [], length, sym, ap, ◌∙◌, subst, arith, nat_le, and_parts, leb-true, Limits, MOST_NAMES, Term, is_goal, highest, goal_nodes, structures_of, names_of, with_names, with_texts, IsNameList, Reading, Account, state_of, texts_of, Answer, Starts, Answers, Start, Counted, Starting, Answering, HasNames, has_room_beside, IsFree, IsStartable, StartsAs, has_room_to_answer_beside, IsAnswerable, AnswersAs, MayBring}
-use Rattle.std.specs.Prelude.{nat_lt}
-use Rattle.kl1_model.specs.Meaning.{is_numbered}
+use Rattle.std.proofs.Common.{◌≡◌, ℕ, suc, ◌+◌, ◌≤◌, ◌&&◌, true, List, [], length, sym, ap, ◌∙◌, subst, arith}
+use Rattle.std.specs.Prelude.{nat_lt, nat_le}
+use Rattle.std.proofs.lemmas.Bool.{and_parts, leb-true}
+use Rattle.kl1_model.specs.declared.limits.Limits.{Limits}
+use Rattle.kl1_model.specs.declared.limits.TheConstants.{MOST_NAMES}
+use Rattle.kl1_model.specs.Term.{Term}
+use Rattle.kl1_model.specs.Goal.{is_goal}
+use Rattle.kl1_model.specs.Meaning.{highest, is_numbered}
+use Rattle.kl1_model.specs.Nodes.{goal_nodes, structures_of}
+use Rattle.kl1_model.specs.State.{names_of, with_names}
+use Rattle.kl1_clause.specs.NameList.{with_texts, IsNameList}
+use Rattle.kl1_user_effects.specs.Fitting.{Reading}
+use Rattle.kl1_user_effects.specs.Account.{Account, state_of, texts_of}
+use Rattle.kl1_machine.specs.declared.machine.answering.Answer.{Answer}
+use Rattle.kl1_machine.specs.declared.machine.bringing.Brought.TheVariants.{Starts, Answers}
+use Rattle.kl1_machine.specs.declared.machine.starting.Start.{Start}
+use Rattle.kl1_user_account.specs.declared.counted.Counted.{Counted}
+use Rattle.kl1_user_account.specs.declared.startable.Starting.{Starting}
+use Rattle.kl1_user_account.specs.declared.answerable.Answering.{Answering}
+use Rattle.kl1_user_account.specs.Starting.{HasNames, has_room_beside, IsFree, IsStartable, StartsAs}
+use Rattle.kl1_user_account.specs.Answering.{has_room_to_answer_beside, IsAnswerable, AnswersAs}
+use Rattle.kl1_user_account.specs.Bringing.{MayBring}
 use Rattle.kl1_user_account.proofs.Counting.{low_limits}
 use Rattle.kl1_user_account.proofs.StartChecks.{start_goal_is, start_range, answer_goal_is}
 

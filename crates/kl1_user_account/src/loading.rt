@@ -14,7 +14,7 @@ use kl1_clause::{Code, CodeFault};
 use kl1_codes::{CodeSource, Loaded, Modules, number_by};
 use kl1_model::limits::{MOST_MODULES, MOST_SOURCE_BYTES};
 use kl1_text::{AtomText, CellName};
-use kl1_user_effects::{AccountNames, spare_row};
+use kl1_user_effects::{AccountNames, draft_row};
 use kl1_user_events::Refusal;
 use std::alloc::{AllocError, Global};
 
@@ -32,9 +32,8 @@ fn row_of(alloc: Global, names: &AccountNames, code: &Code) -> Result<Vec<CellNa
     requires small { AreSmall names.now.names }
     ensures { IfOk result (λ row. ReadsDraft names.now.names (own_names code.now) row.items) }
 {
-    let texts = code.names();
-    let mut row = Vec::with_capacity(alloc, texts.len())?;
-    spare_row(names, texts, &mut row)?;
+    let mut row = Vec::with_capacity(alloc, code.names().len())?;
+    draft_row(names, code.names(), &mut row)?;
     Ok(row)
 }
 

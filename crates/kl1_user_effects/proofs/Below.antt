@@ -1,5 +1,14 @@
 -- Shoens that are below one, and which goals are of them.
-use Rattle.kl1_user_effects.proofs.Words.{◌≡◌, ℕ, ◌<◌, ◌≤◌, ◌||◌, Bool, true, false, List, [], ◌∷◌, length, refl, arith, AllByRecursion, is_among, CellName, Goal, Shoen, is_on_path_in, AreBelow, AreOwned, is_of_any, among_contains, contains_among}
+use Rattle.std.proofs.Common.{◌≡◌, ℕ, ◌<◌, ◌≤◌, ◌||◌, Bool, true, false, List, [], ◌∷◌, length, refl, arith}
+use Rattle.std.specs.List.{AllByRecursion}
+use Rattle.kl1_model.specs.Module.{is_among}
+use Rattle.kl1_text.specs.declared.cell_name.CellName.{CellName}
+use Rattle.kl1_goals.specs.declared.goal.Goal.{Goal}
+use Rattle.kl1_shoen_paths.specs.declared.shoen.Shoen.{Shoen}
+use Rattle.kl1_shoen.specs.Shoens.{is_on_path_in, AreBelow}
+use Rattle.kl1_user_effects.specs.Kept.{AreOwned}
+use Rattle.kl1_user_effects.specs.Drafts.{is_of_any}
+use Rattle.kl1_shoen_paths.proofs.Below.{among_contains, contains_among}
 
 -- of two the second decides if it holds
 pub or_true : (b : Bool) → (b || true) ≡ true

@@ -1,9 +1,74 @@
 -- Readings by which a spare number stands for a name that another number has, and goals that are read as the same.
-use Rattle.kl1_user_effects.proofs.Words.{◌≡◌, ℕ, ◌<◌, ◌==◌, ◌^◌, ◌⊎◌, List, [], ◌∷◌, ◌++◌, map, sym, ap, ap₂, ◌∙◌, subst, inl, inr, arith, bytes_eq, Option, Some, None, option_map, cases_Bool, bytes_eq-Decides, map-append, Control, control_of, shoen_at, place_of, built_in_of, place-below, CellName, Known, number_in, number_by, Adds, option_cases, adds_one, still_known, Hook, Held, Goal, Shoen, shoen_in, contents, Program, HangsOnEach, Reading, Fits, Means, meaning, task_with, goal_with, shoen_with, texts_of, AreSmall, spare, control_with, task_clause, awaited_by_task, IsSettled, AreSettled, exchanged}
+use Rattle.std.proofs.Common.{◌≡◌, ℕ, ◌<◌, ◌==◌, ◌^◌, Bool, true, false, if◌then◌else◌, List, [], ◌∷◌, ◌++◌, map, refl, sym, ap, ap₂, ◌∙◌, subst, inl, inr, arith, bytes_eq}
+use Rattle.std.specs.Prelude.{Option, Some, None, option_map}
+use Rattle.std.proofs.lemmas.Bool.{eq-eqb, ne_eqb, eqb-true, eqb-false}
+use Rattle.std.proofs.lemmas.List.{map-append}
+use Rattle.kl1_model.specs.declared.built_in.BuiltIn.{BuiltIn}
+use Rattle.kl1_model.specs.Text.{text_of}
+use Rattle.kl1_model.specs.Control.{Control, control_of}
 use Rattle.kl1_model.specs.State as model
-use Rattle.kl1_user_effects.proofs.Swaps.{same_name, number_test, swap_first, exchange_fits}
+use Rattle.kl1_model.specs.State.{shoen_at}
+use Rattle.kl1_text.specs.BuiltIns.{place_of, built_in_of}
+use Rattle.kl1_text.proofs.BuiltInLaws.{of_text, place-below}
+use Rattle.kl1_text.specs.declared.cell_name.CellName.{CellName}
+use Rattle.kl1_atoms.specs.declared.known.Known.{Known}
+use Rattle.kl1_atoms.specs.Names.{number_in, number_by, Adds}
+use Rattle.kl1_atoms.specs.Knowing.{option_cases, adds_one, still_known}
+use Rattle.kl1_store.specs.Hooks.{Hook}
+use Rattle.kl1_store.specs.Held.{Held}
+use Rattle.kl1_goals.specs.declared.goal.Goal.{Goal}
+use Rattle.kl1_shoen_paths.specs.declared.shoen.Shoen.{Shoen}
+use Rattle.kl1_shoen.specs.Shoens.{shoen_in}
+use Rattle.kl1_codes.specs.Finding.{contents}
+use Rattle.kl1_codes.specs.Shelves.{Program}
+use Rattle.kl1_store_hooks.specs.Hanging.{HangsOnEach}
+use Rattle.kl1_user_effects.specs.Fitting.{Reading, Fits, built}
+use Rattle.kl1_user_effects.specs.Account.{Means, meaning, task_with, goal_with, shoen_with, texts_of}
+use Rattle.kl1_user_effects.specs.Naming.{AreSmall}
+use Rattle.kl1_user_effects.specs.Calling.{spare}
+use Rattle.kl1_user_effects.specs.Settled.{control_with, task_clause, awaited_by_task, IsSettled, AreSettled}
+use Rattle.kl1_user_effects.specs.Exchanging.{swapped, exchanged}
 use Rattle.kl1_user_effects.proofs.KnownNames.{not_known}
 use Rattle.kl1_user_effects.proofs.States.{found_in}
+use Rattle.kl1_user_effects.proofs.DraftRows.{by_text}
+
+-- ---- two numbers, each in place of the other
+
+pub same_name : (m n : CellName) → m.number ≡ n.number → m ≡ n
+same_name m n e = ap (λ x. let c : CellName = record { number = x } in c) e
+
+pub swap_first : (a b n : CellName) → n.number ≡ a.number → swapped a b n ≡ b
+swap_first a b n e = ap (λ c. if c then b else if n.number == b.number then a else n) (eq-eqb n.number a.number e)
+
+pub swap_second : (a b n : CellName) → n.number ≡ b.number → swapped a b n ≡ a
+swap_second a b n e = by_case (n.number == a.number) refl
+  where
+    by_case : (c : Bool) → (n.number == a.number) ≡ c → swapped a b n ≡ a
+    by_case true q = swap_first a b n (eqb-true n.number a.number q) ∙ same_name b a (sym e ∙ eqb-true n.number a.number q)
+    by_case false q =
+        ap (λ c. if c then b else if n.number == b.number then a else n) q
+        ∙ ap (λ c. if c then a else n) (eq-eqb n.number b.number e)
+
+pub swap_other : (a b n : CellName) → (n.number ≡ a.number → ⊥) → (n.number ≡ b.number → ⊥) → swapped a b n ≡ n
+swap_other a b n x y =
+    ap (λ c. if c then b else if n.number == b.number then a else n) (ne_eqb n.number a.number x)
+    ∙ ap (λ c. if c then a else n) (ne_eqb n.number b.number y)
+
+pub swap_back : (a b n : CellName) → swapped a b (swapped a b n) ≡ n
+swap_back a b n = by_first (n.number == a.number) refl
+  where
+    by_second : (c : Bool) → (n.number == b.number) ≡ c → (n.number ≡ a.number → ⊥) → swapped a b (swapped a b n) ≡ n
+    by_second true q ne =
+        let e = eqb-true n.number b.number q in
+        ap (swapped a b) (swap_second a b n e) ∙ swap_first a b a refl ∙ same_name b n (sym e)
+    by_second false q ne =
+        let is = swap_other a b n ne (eqb-false n.number b.number q) in ap (swapped a b) is ∙ is
+
+    by_first : (c : Bool) → (n.number == a.number) ≡ c → swapped a b (swapped a b n) ≡ n
+    by_first true q =
+        let e = eqb-true n.number a.number q in
+        ap (swapped a b) (swap_first a b n e) ∙ swap_second a b b refl ∙ same_name a n (sym e)
+    by_first false q = by_second (n.number == b.number) refl (eqb-false n.number a.number q)
 
 -- ---- a name that is new, by the spare number
 
@@ -13,16 +78,21 @@ with_spare names text = names ++ record { text = text; number = record { number 
 
 small_in : (names : List Known) (t : List ℕ) (n : ℕ) → AreSmall names → number_in names t ≡ Some n → n < 2 ^ 32
 small_in [] t n a e = absurd (cc)
-small_in (k ∷ names) t n a e = elim (cases_Bool (bytes_eq k.text t)) [
-  | inl same ↦ let found : Some k.number.number ≡ Some n = rw same at e in let is : k.number.number ≡ n = cc in let low = a.0 in omega (arith, is, low)
-  | inr other ↦ small_in names t n a.1 (rw other at e)
-]
+small_in (k ∷ names) t n a e = by_case (bytes_eq k.text t) (small_in names t n a.1) e
+  where
+    by_case : (c : Bool) → (number_in names t ≡ Some n → n < 2 ^ 32) → (if c then Some k.number.number else number_in names t) ≡ Some n → n < 2 ^ 32
+    by_case true later q = let is : k.number.number ≡ n = cc in let low = a.0 in omega (arith, is, low)
+    by_case false later q = later q
 
 -- the number of a name that is known has 32 bits
 pub small_by : (names : List Known) (t : List ℕ) (n : ℕ) → AreSmall names → number_by names t ≡ Some n → n < 2 ^ 32
 small_by names t n a e = elim (option_cases (built_in_of t)) [
   | inl none ↦ small_in names t n a (rw none at e)
-  | inr some ↦ let found : Some (place_of some.0) ≡ Some n = rw some.1 at e in let is : place_of some.0 ≡ n = cc in let low = place-below some.0 in omega (arith, is, low)
+  | inr some ↦
+      let found : Some (place_of some.0) ≡ Some n = rw some.1 at e in
+      let is : place_of some.0 ≡ n = cc in
+      let low = place-below some.0 in
+      omega (arith, is, low)
 ]
 
 spare_adds : (names : List Known) (text : List ℕ) → number_by names text ≡ None → Adds names text (record { number = 2 ^ 32 }) (with_spare names text)
@@ -43,35 +113,36 @@ spare_fits names text new g fits = record {
 pub spare_reads : (names : List Known) (text : List ℕ) → number_by names text ≡ None → (g : Reading) → Fits (with_spare names text) g → g spare ≡ text
 spare_reads names text new g fits = fits.texts text (2 ^ 32) ((spare_adds names text new).number)
 
--- a name is found among names and one more if it was, or is that one
-more_by_text : (ks : List Known) (k : Known) (t : List ℕ) (n : ℕ) → number_in (ks ++ k ∷ []) t ≡ Some n → (number_in ks t ≡ Some n) ⊎ ((k.text ≡ t) × (k.number.number ≡ n))
-more_by_text [] k t n e = elim (cases_Bool (bytes_eq k.text t)) [
-  | inl same ↦ inr ((bytes_eq-Decides k.text t).0 same, (let found : Some k.number.number ≡ Some n = rw same at e in cc))
-  | inr other ↦ let none : None ≡ Some n = rw other at e in cc
-]
-more_by_text (x ∷ ks) k t n e = elim (cases_Bool (bytes_eq x.text t)) [
-  | inl same ↦ inl (rw same (rw same at e))
-  | inr other ↦ elim (more_by_text ks k t n (rw other at e)) [ inl was ↦ inl (rw other was) | inr is ↦ inr is ]
-]
-
--- and so is one that is known
-by_text : (ks : List Known) (k : Known) (t : List ℕ) (n : ℕ) → number_by (ks ++ k ∷ []) t ≡ Some n → (number_by ks t ≡ Some n) ⊎ ((k.text ≡ t) × (k.number.number ≡ n))
-by_text ks k t n e = elim (option_cases (built_in_of t)) [
-  | inl none ↦ elim (more_by_text ks k t n (rw none at e)) [ inl was ↦ inl (rw none was) | inr is ↦ inr is ]
-  | inr some ↦ inl (rw some.1 (rw some.1 at e))
-]
-
 -- a reading that reads a number as a text that is new fits the text by the spare number, when the two are exchanged
 pub exchanged_fits : (names : List Known) (text : List ℕ) (k : CellName) (f : Reading) → AreSmall names → number_by names text ≡ None → f k ≡ text → Fits names f → Fits (with_spare names text) (exchanged spare k f)
-exchanged_fits names text k f small new reads fits =
-    let before = exchange_fits names text spare k f new (λ u m was e. let low = small_by names u m small was in omega (arith, e, low)) reads fits in
-    record {
-      reads = before.reads;
-      texts = λ t n e. elim (by_text names (record { text = text; number = record { number = 2 ^ 32 } }) t n e) [
-        | inl was ↦ before.texts t n was
-        | inr is ↦ ap (exchanged spare k f) (same_name (record { number = n }) spare (sym is.1)) ∙ ap f (swap_first (λ (m j : CellName). m.number == j.number) number_test spare k) ∙ reads ∙ is.0
-      ];
-    }
+exchanged_fits names text k f small new reads fits = record {
+  reads = record {
+    once = λ a b e. sym (swap_back spare k a) ∙ ap (swapped spare k) (fits.reads.once (swapped spare k a) (swapped spare k b) e) ∙ swap_back spare k b;
+    texts = λ b. ap f (swap_other spare k (built b) (above b) (other b)) ∙ fits.reads.texts b;
+  };
+  texts = λ t n e. elim (by_text names (record { text = text; number = record { number = 2 ^ 32 } }) t n e) [
+    | inl was ↦ ap f (swap_other spare k (record { number = n }) (below t n was) (no_known t n was)) ∙ fits.texts t n was
+    | inr is ↦ ap f (swap_first spare k (record { number = n }) (sym is.1)) ∙ reads ∙ is.0
+  ];
+}
+  where
+    above : (b : BuiltIn) → place_of b ≡ 2 ^ 32 → ⊥
+    above b e = let low = place-below b in omega (arith, e, low)
+
+    other : (b : BuiltIn) → place_of b ≡ k.number → ⊥
+    other b e =
+        let is : text_of b ≡ text = sym (fits.reads.texts b) ∙ ap f (same_name (built b) k e) ∙ reads in
+        let found : Some b ≡ None = sym (of_text b) ∙ ap built_in_of is ∙ (not_known names text new).0 in
+        cc
+
+    below : (t : List ℕ) (n : ℕ) → number_by names t ≡ Some n → n ≡ 2 ^ 32 → ⊥
+    below t n was e = let low = small_by names t n small was in omega (arith, e, low)
+
+    no_known : (t : List ℕ) (n : ℕ) → number_by names t ≡ Some n → n ≡ k.number → ⊥
+    no_known t n was e =
+        let is : t ≡ text = sym (fits.texts t n was) ∙ ap f (same_name (record { number = n }) k e) ∙ reads in
+        let found : Some n ≡ None = sym was ∙ ap (number_by names) is ∙ new in
+        cc
 
 -- ---- goals that are read as the same
 
@@ -80,7 +151,11 @@ abbrev front_of : Option model.Shoen → Option Control
 front_of o = option_map (λ (h : model.Shoen). control_of h.control) o
 
 control_read : (t : Means) (ss : List (Shoen CellName)) (n : ℕ) → control_with t ss n ≡ front_of (shoen_at n (map (shoen_with t) ss))
-control_read t ss n = rw (found_in t n ss) (elim (option_cases (shoen_in n ss)) [ inl none ↦ rw none | inr some ↦ rw some.1 ])
+control_read t ss n = by_case (shoen_in n ss) ∙ sym (ap front_of (found_in t n ss))
+  where
+    by_case : (o : Option (Shoen CellName)) → option_map (λ y. control_of (t y)) (option_map (λ (h : Shoen CellName). h.control) o) ≡ front_of (option_map (shoen_with t) o)
+    by_case None = refl
+    by_case (Some h) = refl
 
 -- two ways to read shoens read the same control streams if they read the same shoens
 control_alike : (t u : Means) (ss : List (Shoen CellName)) (n : ℕ) → map (shoen_with t) ss ≡ map (shoen_with u) ss → control_with t ss n ≡ control_with u ss n

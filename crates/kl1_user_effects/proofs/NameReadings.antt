@@ -1,8 +1,33 @@
 -- Readings of numbers as names, when a name comes that is new.
-use Rattle.kl1_user_effects.proofs.Words.{◌≡◌, ℕ, zero, suc, ◌+◌, ◌<◌, Bool, true, false, if◌then◌else◌, ◌||◌, List, [], ◌∷◌, ◌++◌, length, map, is_some, bytes_eq, refl, sym, ap, ◌∙◌, subst, inl, inr, arith, length-append, slice_get, unwrap_or, list_any, cases_Bool, false≢true, slice_get_cases, bytes_eq-Decides, variable, integer, atom, is_built_in, BuiltIn, Reads, built_in_of, place_of, CellName, Known, number_in, number_by, option_cases, is_of_language, found_in_language, missed_in_language, Cell, Variable, Integer, Atom, Structure, Shape, Held, IsIn, IsLower, is_bound, found, arguments_of, shape_arguments, term_of, IsFormed, term_of-Integer, term_of-Atom, term_of-unbound, term_of-Structure, Numbered, IsRead, AreRead, Reading, Fits, built, meaning}
-use Rattle.std.proofs.Common.{Option, Some, None}
-use Rattle.kl1_user_effects.proofs.Swaps.{swap, text_test, swap_first, retold, retold_fits}
-use Rattle.kl1_user_effects.proofs.LateFree.{bound_to, in_lower, lower_still}
+use Rattle.std.proofs.Common.{◌≡◌, ℕ, zero, suc, ◌+◌, ◌<◌, ◌≤◌, Bool, true, false, if◌then◌else◌, ◌||◌, List, [], ◌∷◌, ◌++◌, length, map, Option, Some, None, is_some, bytes_eq, refl, sym, ap, ◌∙◌, subst, inl, inr, arith, length-append}
+use Rattle.std.specs.Prelude.{slice_get, unwrap_or}
+use Rattle.std.specs.List.{list_any}
+use Rattle.std.proofs.lemmas.Bool.{cases_Bool, false≢true}
+use Rattle.std.proofs.lemmas.Option.{slice_get_cases}
+use Rattle.std.proofs.lemmas.Slice.Eq.{bytes_eq-Decides}
+use Rattle.kl1_model.specs.Term.{variable, integer, atom}
+use Rattle.kl1_model.specs.Text.{text_of, is_built_in}
+use Rattle.kl1_model.specs.declared.built_in.BuiltIn.{BuiltIn}
+use Rattle.kl1_text.specs.Reading.{Reads}
+use Rattle.kl1_text.specs.BuiltIns.{built_in_of, place_of}
+use Rattle.kl1_text.specs.declared.cell_name.CellName.{CellName}
+use Rattle.kl1_text.proofs.BuiltInLaws.{of_text}
+use Rattle.kl1_atoms.specs.declared.known.Known.{Known}
+use Rattle.kl1_atoms.specs.Names.{number_in, number_by}
+use Rattle.kl1_atoms.specs.Knowing.{option_cases}
+use Rattle.kl1_clause.specs.NameList.{is_of_language}
+use Rattle.kl1_clause.proofs.Language.{found_in_language, missed_in_language}
+use Rattle.kl1_store.specs.declared.cell.Cell.{Cell}
+use Rattle.kl1_store.specs.declared.cell.Cell.TheVariants.{Variable, Integer, Atom, Structure}
+use Rattle.kl1_store.specs.Held.{Shape, Held, IsIn, IsLower, is_bound, found, arguments_of, shape_arguments}
+use Rattle.kl1_store.specs.Meaning.{term_of}
+use Rattle.kl1_store.specs.Sound.{IsFormed, IsBoundTo}
+use Rattle.kl1_store.proofs.Terms.{term_of-Integer, term_of-Atom, term_of-unbound, term_of-Structure}
+use Rattle.kl1_store.proofs.Walking.{found_itself, bound_at}
+use Rattle.kl1_codes.specs.Numbered.{Numbered, IsRead, AreRead}
+use Rattle.kl1_user_effects.specs.Fitting.{Reading, Fits, built}
+use Rattle.kl1_user_effects.specs.Account.{meaning}
+use Rattle.kl1_user_effects.proofs.KnownNames.{not_known}
 
 -- ---- cells that are atoms
 
@@ -18,12 +43,18 @@ same_text s t e = cc
 no_variable : (v : ℕ) (t : List ℕ) → variable v ≡ atom t → ⊥
 no_variable v t e = cc
 
+lower_still : (v n : ℕ) (x : Cell CellName) → v ≤ n → IsLower v x → IsLower n x
+lower_still v n (Variable w) le l = omega arith
+lower_still v n (Integer i) le l = tt
+lower_still v n (Atom a) le l = tt
+lower_still v n (Structure s) le l = tt
+
 atom_below : (n : ℕ) (f : Reading) (h : Held CellName) (x : Cell CellName) (t : List ℕ) → IsFormed h → IsIn h x → IsLower n x → term_of f h x ≡ atom t → IsAtomAt h x f t
 atom_below zero f h (Variable v) t formed inside low e = absurd (omega (arith, low))
 atom_below (suc n) f h (Variable v) t formed inside low e = elim (cases_Bool (is_bound v h.bindings)) [
   | inl bound ↦
       let y = found v h.bindings in
-      let b = bound_to h v formed inside bound in
+      let b : IsBoundTo h v y = bound_at h v y formed inside refl (λ same. false≢true (sym (found_itself h v formed same) ∙ bound)) in
       let is = atom_below n f h y t formed b.inside (lower_still v n y (omega (arith, low)) b.lower) (b.means f ∙ e) in
       record { number = is.number; read = is.read; means = λ g. sym (b.means g) ∙ is.means g }
   | inr free ↦ absurd (no_variable v t (sym (term_of-unbound f h v free) ∙ e))
@@ -43,7 +74,49 @@ atom_below n f h (Structure s) t formed inside low e = elim (slice_get_cases h.s
 
 -- a cell of a store that is read as an atom is a number
 pub atom_at : (f : Reading) (h : Held CellName) (x : Cell CellName) (t : List ℕ) → IsFormed h → IsIn h x → meaning f h x ≡ atom t → IsAtomAt h x f t
-atom_at f h x t formed inside e = atom_below h.variables f h x t formed inside (in_lower h x inside) e
+atom_at f h (Variable v) t formed inside e = atom_below (suc v) f h (Variable v) t formed inside (omega arith) e
+atom_at f h (Integer i) t formed inside e = atom_below 0 f h (Integer i) t formed inside tt e
+atom_at f h (Atom k) t formed inside e = atom_below 0 f h (Atom k) t formed inside tt e
+atom_at f h (Structure s) t formed inside e = atom_below 0 f h (Structure s) t formed inside tt e
+
+-- ---- one text in place of another
+
+-- a text in place of another, and that one in its place
+abbrev swapped : List ℕ → List ℕ → List ℕ → List ℕ
+swapped s t x = if bytes_eq x s then t else if bytes_eq x t then s else x
+
+apart : (x s : List ℕ) → bytes_eq x s ≡ false → x ≡ s → ⊥
+apart x s is e = false≢true (sym is ∙ (bytes_eq-Decides x s).1 e)
+
+differs : (x s : List ℕ) → (x ≡ s → ⊥) → bytes_eq x s ≡ false
+differs x s ne = elim (cases_Bool (bytes_eq x s)) [ inl is ↦ absurd (ne ((bytes_eq-Decides x s).0 is)) | inr is ↦ is ]
+
+swapped_first : (s t : List ℕ) → swapped s t s ≡ t
+swapped_first s t = ap (λ b. if b then t else if bytes_eq s t then s else s) ((bytes_eq-Decides s s).1 refl)
+
+swapped_second : (s t : List ℕ) → swapped s t t ≡ s
+swapped_second s t = elim (cases_Bool (bytes_eq t s)) [
+  | inl is ↦ ap (λ b. if b then t else if bytes_eq t t then s else t) is ∙ (bytes_eq-Decides t s).0 is
+  | inr is ↦ ap (λ b. if b then t else if bytes_eq t t then s else t) is ∙ ap (λ b. if b then s else t) ((bytes_eq-Decides t t).1 refl)
+]
+
+swapped_other : (s t x : List ℕ) → (x ≡ s → ⊥) → (x ≡ t → ⊥) → swapped s t x ≡ x
+swapped_other s t x a b = ap (λ c. if c then t else if bytes_eq x t then s else x) (differs x s a) ∙ ap (λ c. if c then s else x) (differs x t b)
+
+swapped_back : (s t x : List ℕ) → swapped s t (swapped s t x) ≡ x
+swapped_back s t x = elim (cases_Bool (bytes_eq x s)) [
+  | inl is ↦
+      let same : x ≡ s = (bytes_eq-Decides x s).0 is in
+      ap (λ y. swapped s t (swapped s t y)) same ∙ ap (swapped s t) (swapped_first s t) ∙ swapped_second s t ∙ sym same
+  | inr first ↦ elim (cases_Bool (bytes_eq x t)) [
+    | inl is ↦
+        let same : x ≡ t = (bytes_eq-Decides x t).0 is in
+        ap (λ y. swapped s t (swapped s t y)) same ∙ ap (swapped s t) (swapped_second s t) ∙ swapped_first s t ∙ sym same
+    | inr second ↦
+        let other = swapped_other s t x (apart x s first) (apart x t second) in
+        ap (swapped s t) other ∙ other
+  ]
+]
 
 -- ---- a text that no name has
 
@@ -52,14 +125,11 @@ abbrev long : List Known → List ℕ
 long [] = []
 long (k ∷ ks) = k.text ++ long ks
 
-apart : (x s : List ℕ) → (x ≡ s → ⊥) → bytes_eq x s ≡ false
-apart x s other = elim (cases_Bool (bytes_eq x s)) [ inl is ↦ absurd (other ((bytes_eq-Decides x s).0 is)) | inr is ↦ is ]
-
 unknown_in : (ks : List Known) (w : List ℕ) → length (long ks) < length w → number_in ks w ≡ None
 unknown_in [] w lt = refl
 unknown_in (k ∷ ks) w lt =
     let sum : length (k.text ++ long ks) ≡ length k.text + length (long ks) = length-append k.text (long ks) in
-    let ne : bytes_eq k.text w ≡ false = apart k.text w (λ e. let n : length k.text ≡ length w = ap length e in omega (arith, sum, n, lt)) in
+    let ne : bytes_eq k.text w ≡ false = differs k.text w (λ e. let n : length k.text ≡ length w = ap length e in omega (arith, sum, n, lt)) in
     ap (λ b. if b then Some k.number.number else number_in ks w) ne ∙ unknown_in ks w (omega (arith, sum, lt))
 
 -- a text that is longer than each of names, and than another text
@@ -72,17 +142,32 @@ unknown_new ks s = unknown_in ks (unknown ks s) (let n : length (s ++ long ks) �
 unknown_other : (ks : List Known) (s : List ℕ) → unknown ks s ≡ s → ⊥
 unknown_other ks s e = let n : length (s ++ long ks) ≡ length s + length (long ks) = length-append s (long ks) in let m : length (unknown ks s) ≡ length s = ap length e in omega (arith, n, m)
 
+not_known_is : (ks : List Known) (s t : List ℕ) (n : ℕ) → number_by ks s ≡ None → number_by ks t ≡ Some n → t ≡ s → ⊥
+not_known_is ks s t n none some e = let a : number_by ks s ≡ Some n = ap (number_by ks) (sym e) ∙ some in let b : None ≡ Some n = sym none ∙ a in cc
+
+not_built : (ks : List Known) (s : List ℕ) (b : BuiltIn) → number_by ks s ≡ None → text_of b ≡ s → ⊥
+not_built ks s b none e = let a : built_in_of s ≡ Some b = ap built_in_of (sym e) ∙ of_text b in let n : None ≡ Some b = sym (not_known ks s none).0 ∙ a in cc
+
 -- a reading that reads as another text what a reading reads as this text
 abbrev pub otherwise : List Known → List ℕ → Reading → Reading
-otherwise ks s f = retold s (unknown ks s) f
+otherwise ks s f = λ c. swapped s (unknown ks s) (f c)
 
 -- if the text isn't known, it reads names as well
 pub otherwise_fits : (ks : List Known) (s : List ℕ) (f : Reading) → number_by ks s ≡ None → Fits ks f → Fits ks (otherwise ks s f)
-otherwise_fits ks s f none fits = retold_fits ks s (unknown ks s) f none (unknown_new ks s) fits
+otherwise_fits ks s f none fits =
+    let w = unknown ks s in
+    let new = unknown_new ks s in
+    record {
+      reads = record {
+        once = λ a b e. fits.reads.once a b (sym (swapped_back s w (f a)) ∙ ap (swapped s w) e ∙ swapped_back s w (f b));
+        texts = λ b. ap (swapped s w) (fits.reads.texts b) ∙ swapped_other s w (text_of b) (not_built ks s b none) (not_built ks w b new);
+      };
+      texts = λ t n e. ap (swapped s w) (fits.texts t n e) ∙ swapped_other s w t (not_known_is ks s t n none e) (not_known_is ks w t n new e);
+    }
 
 -- and it reads no number as the text that the other reads as it
 pub otherwise_other : (ks : List Known) (s : List ℕ) (f : Reading) (c : CellName) → f c ≡ s → otherwise ks s f c ≡ s → ⊥
-otherwise_other ks s f c is e = unknown_other ks s (sym (swap_first bytes_eq text_test s (unknown ks s)) ∙ ap (swap bytes_eq s (unknown ks s)) (sym is) ∙ e)
+otherwise_other ks s f c is e = unknown_other ks s (sym (swapped_first s (unknown ks s)) ∙ ap (swapped s (unknown ks s)) (sym is) ∙ e)
 
 -- ---- names as modules without clauses
 
@@ -115,10 +200,25 @@ abbrev pub as_modules : List Known → List Numbered
 as_modules ks = map (named_alone ks) ks
 
 alone_read : (f : Reading) (all : List Known) (k : Known) → (is_built_in k.text ≡ false → f (first_for all k.text) ≡ k.text) → IsRead f (named_alone all k)
-alone_read f all k same = elim (cases_Bool (is_built_in k.text)) [ inl old ↦ simp old | inr new ↦ simp new (ap (λ (t : List ℕ). t ∷ []) (same new)) ]
+alone_read f all k same = by_case (is_built_in k.text || list_any (bytes_eq k.text) []) (λ e. same (none (is_built_in k.text) e))
+  where
+    none : (b : Bool) → (b || false) ≡ false → b ≡ false
+    none true e = e
+    none false e = e
+
+    by_case : (b : Bool) → (b ≡ false → f (first_for all k.text) ≡ k.text) → map f (if b then [] else first_for all k.text ∷ []) ≡ (if b then [] else [] ++ k.text ∷ [])
+    by_case true e = refl
+    by_case false e = ap (λ t. t ∷ []) (e refl)
 
 read_alone : (f : Reading) (all : List Known) (k : Known) → is_built_in k.text ≡ false → IsRead f (named_alone all k) → f (first_for all k.text) ≡ k.text
-read_alone f all k new is = let one : f (first_for all k.text) ∷ [] ≡ k.text ∷ [] = simp new at is in cc
+read_alone f all k new is = by_case (is_built_in k.text || list_any (bytes_eq k.text) []) (ap (λ b. b || false) new) is
+  where
+    head : (s t : List ℕ) → s ∷ [] ≡ t ∷ [] → s ≡ t
+    head s t e = cc
+
+    by_case : (b : Bool) → b ≡ false → map f (if b then [] else first_for all k.text ∷ []) ≡ (if b then [] else [] ++ k.text ∷ []) → f (first_for all k.text) ≡ k.text
+    by_case true e r = absurd (cc)
+    by_case false e r = head (f (first_for all k.text)) k.text r
 
 not_of_language : (t : List ℕ) → built_in_of t ≡ None → is_built_in t ≡ false
 unfolding is_of_language
@@ -127,6 +227,10 @@ not_of_language t e = missed_in_language t e
 of_language : (t : List ℕ) (b : BuiltIn) → built_in_of t ≡ Some b → is_built_in t ≡ true
 unfolding is_of_language
 of_language t b e = (found_in_language t b e).1
+
+some_number : (o : Option ℕ) (n : ℕ) → o ≡ Some n → is_some o ≡ true
+some_number None n e = absurd (cc)
+some_number (Some m) n e = refl
 
 number_there : (all : List Known) (t : List ℕ) → is_built_in t ≡ false → is_some (number_in all t) ≡ true → number_by all t ≡ Some (unwrap_or (number_in all t) 0)
 number_there all t new there = elim (option_cases (built_in_of t)) [
@@ -172,10 +276,13 @@ modules_fit f ks reads are = record {
     | inl none ↦
         let there : number_in ks t ≡ Some n = rw none at e in
         let c : ℕ → CellName = λ m. record { number = m } in
-        ap (λ o. f (c (unwrap_or o 0))) (sym there) ∙ read_modules f ks ks t are (not_of_language t none) (ap (λ (o : Option ℕ). is_some o) there)
+        ap (λ o. f (c (unwrap_or o 0))) (sym there) ∙ read_modules f ks ks t are (not_of_language t none) (some_number (number_in ks t) n there)
     | inr some ↦
         let place : Some (place_of some.0) ≡ Some n = rw some.1 at e in
         let c : ℕ → CellName = λ m. record { number = m } in
-        ap (λ m. f (c m)) (let same : n ≡ place_of some.0 = cc in same) ∙ reads.texts some.0 ∙ (found_in_language t some.0 some.1).0
+        ap (λ m. f (c m)) (number_is (place_of some.0) n place) ∙ reads.texts some.0 ∙ (found_in_language t some.0 some.1).0
   ];
 }
+  where
+    number_is : (m n : ℕ) → Some m ≡ Some n → n ≡ m
+    number_is m n e = cc

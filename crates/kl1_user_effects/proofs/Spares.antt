@@ -1,23 +1,63 @@
 -- A reading of names, some of which are new, by the spare numbers of these.
-use Rattle.kl1_user_effects.proofs.Words.{◌≡◌, ℕ, suc, ◌<◌, ◌^◌, Bool, if◌then◌else◌, List, [], ◌∷◌, length, map, get_or, refl, sym, ap, ap₂, ◌∙◌, subst, inl, inr, arith, bytes_eq, AllByRecursion, eq-eqb, ne_eqb, map-map, CellName, Known, number_by, AreNames, option_cases, IsNameList, Reading, Fits, marked_reading, marked_fits, reading_of, reading_fits, AreSmall, AreNumbersOf, ReadsDraft, swapped, swapped_one, swapped_all, read_exchanged, IsSpared, AreSpared}
-use Rattle.std.proofs.Common.{None}
-use Rattle.kl1_user_effects.proofs.Swaps.{text_test, swap_first, swap_other, retold, retold_fits, exchange_fits, one_first, one_other}
-use Rattle.kl1_user_effects.proofs.CellReadings.{is_known, is_small}
-use Rattle.kl1_user_effects.proofs.Exchanged.{small_by}
+use Rattle.std.proofs.Common.{◌≡◌, ℕ, suc, ◌+◌, ◌<◌, ◌≤◌, ◌==◌, ◌^◌, ◌⊎◌, Bool, true, false, if◌then◌else◌, List, [], ◌∷◌, length, map, get_or, Some, None, refl, sym, ap, ap₂, ◌∙◌, subst, inl, inr, arith}
+use Rattle.std.specs.List.{AllByRecursion}
+use Rattle.std.proofs.lemmas.Bool.{cases_lt, eq-eqb, ne_eqb}
+use Rattle.kl1_model.specs.declared.built_in.BuiltIn.{BuiltIn}
+use Rattle.kl1_model.specs.Text.{text_of}
+use Rattle.kl1_text.specs.BuiltIns.{place_of, built_in_of}
+use Rattle.kl1_text.proofs.BuiltInLaws.{of_text, place-below}
+use Rattle.kl1_text.specs.declared.cell_name.CellName.{CellName}
+use Rattle.kl1_atoms.specs.declared.known.Known.{Known}
+use Rattle.kl1_atoms.specs.Names.{number_by, text_in, text_by, text_or_mark, AreNames}
+use Rattle.kl1_clause.specs.NameList.{IsNameList}
+use Rattle.kl1_user_effects.specs.Fitting.{Reading, Fits, built, marked_reading, marked_fits}
+use Rattle.kl1_user_effects.specs.Naming.{AreSmall, AreNumbersOf}
+use Rattle.kl1_user_effects.proofs.KnownNames.{not_known}
+use Rattle.kl1_user_effects.specs.Exchanging.{swapped, exchanged, read_with_two, read_exchanged, IsSpared, AreSpared}
+use Rattle.kl1_user_effects.proofs.Exchanged.{same_name, swap_first, swap_other, swap_back, small_by}
+use Rattle.kl1_user_effects.proofs.DraftRows.{spare_number}
 
 -- ---- numbers of names have 32 bits
+
+none_above : (ks : List Known) (n : ℕ) → AreSmall ks → 2 ^ 32 ≤ n → text_in ks n ≡ None
+none_above [] n small le = refl
+none_above (k ∷ ks) n small le =
+    let low = small.0 in
+    ap (λ b. if b then Some k.text else text_in ks n) (ne_eqb k.number.number n (λ e. omega (arith, low, e, le))) ∙ none_above ks n small.1 le
+
+no_text_above : (ks : List Known) (n : ℕ) → AreSmall ks → 2 ^ 32 ≤ n → text_by ks n ≡ None
+no_text_above ks n small le = rw (spare_number n le) (none_above ks n small le)
+
+-- a number that each reading reads as a text has 32 bits
+number_small : (ks : List Known) (c : CellName) (t : List ℕ) → AreNames ks → AreSmall ks → ((f : Reading) → Fits ks f → f c ≡ t) → c.number < 2 ^ 32
+number_small ks c t names small reads = by_order (cases_lt c.number (2 ^ 32))
+  where
+    other : (m : ℕ) → m < 32 → 2 ^ 32 ≤ c.number → m ∷ c.number ∷ [] ≡ t
+    other m low le = sym (ap (text_or_mark m c.number) (no_text_above ks c.number small le)) ∙ reads (marked_reading m ks) (marked_fits m ks low names)
+
+    -- texts that begin with two marks are two
+    apart : (m k : ℕ) → m ∷ c.number ∷ [] ≡ k ∷ c.number ∷ [] → m ≡ k
+    apart m k e = cc
+
+    by_order : (c.number < 2 ^ 32) ⊎ (2 ^ 32 ≤ c.number) → c.number < 2 ^ 32
+    by_order (inl lt) = lt
+    by_order (inr le) = let same = apart 1 2 (other 1 (omega arith) le ∙ sym (other 2 (omega arith) le)) in omega (arith, same)
 
 -- each of these numbers has 32 bits
 abbrev pub AreShort : List CellName → Type 0
 AreShort cs = AllByRecursion (λ c. c.number < 2 ^ 32) cs
 
+first_of : (a b : List ℕ) (as' bs : List (List ℕ)) → a ∷ as' ≡ b ∷ bs → a ≡ b
+first_of a b as' bs e = cc
+
+rest_of : (a b : List ℕ) (as' bs : List (List ℕ)) → a ∷ as' ≡ b ∷ bs → as' ≡ bs
+rest_of a b as' bs e = cc
+
 pub numbers_short : (ks : List Known) (ts : List (List ℕ)) (ns : List CellName) → AreNames ks → AreSmall ks → AreNumbersOf ks ts ns → AreShort ns
 numbers_short ks ts [] names small are = tt
 numbers_short ks [] (n ∷ ns) names small are = (let e = are (marked_reading 1 ks) (marked_fits 1 ks (omega arith) names) in absurd (cc))
-numbers_short ks (t ∷ ts) (n ∷ ns) names small are = (
-  is_small ks n.number small (is_known ks n names (λ f g a b. let p : f n ∷ map f ns ≡ t ∷ ts = are f a in let q : g n ∷ map g ns ≡ t ∷ ts = are g b in cc)),
-  numbers_short ks ts ns names small (λ f fits. let e : f n ∷ map f ns ≡ t ∷ ts = are f fits in cc),
-)
+numbers_short ks (t ∷ ts) (n ∷ ns) names small are =
+    (number_small ks n t names small (λ f fits. first_of (f n) t (map f ns) ts (are f fits)), numbers_short ks ts ns names small (λ f fits. rest_of (f n) t (map f ns) ts (are f fits)))
 
 -- ---- names that are given once
 
@@ -44,120 +84,116 @@ once_by (t ∷ ts) h = (
 pub names_once : (ts : List (List ℕ)) → IsNameList ts → AreOnce ts
 names_once ts list = once_by ts (λ i j a b e. list.once i j a b e)
 
--- ---- numbers that are exchanged for spare ones
+-- ---- two numbers that are exchanged
+
+-- a reading that reads a number as a text that is new fits names still when the number and a spare one are exchanged
+exchange_fits : (names : List Known) (t : List ℕ) (s n : CellName) (f : Reading) → AreSmall names → number_by names t ≡ None → 2 ^ 32 ≤ s.number → f n ≡ t → Fits names f → Fits names (exchanged s n f)
+exchange_fits names t s n f small new high reads fits = record {
+  reads = record {
+    once = λ a b e. sym (swap_back s n a) ∙ ap (swapped s n) (fits.reads.once (swapped s n a) (swapped s n b) e) ∙ swap_back s n b;
+    texts = λ b. ap f (swap_other s n (built b) (above b) (other b)) ∙ fits.reads.texts b;
+  };
+  texts = λ u m e. ap f (swap_other s n (record { number = m }) (below u m e) (no_known u m e)) ∙ fits.texts u m e;
+}
+  where
+    above : (b : BuiltIn) → place_of b ≡ s.number → ⊥
+    above b e = let low = place-below b in omega (arith, e, low, high)
+
+    other : (b : BuiltIn) → place_of b ≡ n.number → ⊥
+    other b e =
+        let is : text_of b ≡ t = sym (fits.reads.texts b) ∙ ap f (same_name (built b) n e) ∙ reads in
+        let found : Some b ≡ None = sym (of_text b) ∙ ap built_in_of is ∙ (not_known names t new).0 in
+        cc
+
+    below : (u : List ℕ) (m : ℕ) → number_by names u ≡ Some m → m ≡ s.number → ⊥
+    below u m was e = let low = small_by names u m small was in omega (arith, e, low, high)
+
+    no_known : (u : List ℕ) (m : ℕ) → number_by names u ≡ Some m → m ≡ n.number → ⊥
+    no_known u m was e =
+        let is : u ≡ t = sym (fits.texts u m was) ∙ ap f (same_name (record { number = m }) n e) ∙ reads in
+        let found : Some m ≡ None = sym was ∙ ap (number_by names) is ∙ new in
+        cc
+
+-- ---- all of them
+
+-- a number is none of a name's other than its own
+apart_spare : (names : List Known) (f : Reading) (place : ℕ) (n : CellName) (t u : List ℕ) (s : CellName) → Fits names f → f n ≡ t → n.number < 2 ^ 32 → (u ≡ t → ⊥) → IsSpared names place u s → n.number ≡ s.number → ⊥
+apart_spare names f place n t u s fits reads low ne (inl known) e = ne (sym (fits.texts u s.number known) ∙ ap f (same_name (record { number = s.number }) n (sym e)) ∙ reads)
+apart_spare names f place n t u s fits reads low ne (inr new) e = let is = new.1 in omega (arith, low, is, e)
+
+apart_number : (f : Reading) (n m : CellName) (t u : List ℕ) → f n ≡ t → f m ≡ u → (u ≡ t → ⊥) → n.number ≡ m.number → ⊥
+apart_number f n m t u reads other ne e = ne (sym other ∙ ap f (same_name m n (sym e)) ∙ reads)
+
+-- a number that is read as another name is read as that still
+untouched : (names : List Known) (f : Reading) (n : CellName) (t : List ℕ) (place : ℕ) (ts : List (List ℕ)) (ss ns : List CellName) → Fits names f → f n ≡ t → n.number < 2 ^ 32 → AreSpared names place ts ss → map f ns ≡ ts → IsOther t ts → read_exchanged ss ns f n ≡ t
+untouched names f n t place [] [] ns fits reads low a e o = reads
+untouched names f n t place [] (s ∷ ss) ns fits reads low a e o = absurd a
+untouched names f n t place (u ∷ ts) [] ns fits reads low a e o = absurd a
+untouched names f n t place (u ∷ ts) (s ∷ ss) [] fits reads low a e o = absurd (cc)
+untouched names f n t place (u ∷ ts) (s ∷ ss) (m ∷ ns) fits reads low a e o =
+    by_case (s.number == m.number) (untouched names f n t (suc place) ts ss ns fits reads low a.1 (rest_of (f m) u (map f ns) ts e) o.1)
+  where
+    stays : swapped s m n ≡ n
+    stays = swap_other s m n (apart_spare names f place n t u s fits reads low o.0 a.0) (apart_number f n m t u reads (first_of (f m) u (map f ns) ts e) o.0)
+
+    by_case : (c : Bool) → read_exchanged ss ns f n ≡ t → (if c then read_exchanged ss ns f else exchanged s m (read_exchanged ss ns f)) n ≡ t
+    by_case true h = h
+    by_case false h = ap (read_exchanged ss ns f) stays ∙ h
+
+-- spare numbers of later places are read as before when two others are exchanged
+later_stay : (names : List Known) (f g : Reading) (s n : CellName) (t : List ℕ) (first place : ℕ) (ts : List (List ℕ)) (ss : List CellName) → AreSmall names → Fits names f → f n ≡ t → n.number < 2 ^ 32 → s.number ≡ 2 ^ 32 + first → first < place → AreSpared names place ts ss → IsOther t ts → map (exchanged s n g) ss ≡ map g ss
+later_stay names f g s n t first place [] [] small fits reads low is lt a o = refl
+later_stay names f g s n t first place [] (r ∷ ss) small fits reads low is lt a o = absurd a
+later_stay names f g s n t first place (u ∷ ts) [] small fits reads low is lt a o = absurd a
+later_stay names f g s n t first place (u ∷ ts) (r ∷ ss) small fits reads low is lt a o =
+    ap₂ (λ (x : List ℕ) (xs : List (List ℕ)). x ∷ xs)
+    (ap g (swap_other s n r (other a.0) (λ e. apart_spare names f place n t u r fits reads low o.0 a.0 (sym e))))
+    (later_stay names f g s n t first (suc place) ts ss small fits reads low is (omega (arith, lt)) a.1 o.1)
+  where
+    other : IsSpared names place u r → r.number ≡ s.number → ⊥
+    other (inl known) e = let short = small_by names u r.number small known in omega (arith, short, is, e)
+    other (inr new) e = let at = new.1 in omega (arith, at, is, e, lt)
 
 -- a reading fits names, and reads these numbers as texts
 pub record ReadsSpares (names : List Known) (ts : List (List ℕ)) (ss : List CellName) (f : Reading) : Type 0 where
   pub fits : Fits names f
   pub reads : map f ss ≡ ts
 
-module _ (names : List Known) (f : Reading) (small : AreSmall names) (fits : Fits names f) where
-  -- numbers of two names are two, be they spare ones or not
-  apart : (p q : ℕ) (s r : CellName) (t u : List ℕ) → p < q → IsSpared names p t s → IsSpared names q u r → (u ≡ t → ⊥) → r ≡ s → ⊥
-  apart p q s r t u lt (inl a) (inl b) ne e = ne (sym (fits.texts u r.number b) ∙ ap f e ∙ fits.texts t s.number a)
-  apart p q s r t u lt (inl a) (inr b) ne e = let low = small_by names t s.number small a in let is = b.1 in let m = ap (λ (c : CellName). c.number) e in omega (arith, low, is, m)
-  apart p q s r t u lt (inr a) (inl b) ne e = let low = small_by names u r.number small b in let is = a.1 in let m = ap (λ (c : CellName). c.number) e in omega (arith, low, is, m)
-  apart p q s r t u lt (inr a) (inr b) ne e = let is = a.1 in let at = b.1 in let m = ap (λ (c : CellName). c.number) e in omega (arith, is, at, m, lt)
-
-  -- a number of 32 bits that is read as a text is none of those of another
-  not_its : (q : ℕ) (n r : CellName) (t u : List ℕ) → f n ≡ t → n.number < 2 ^ 32 → IsSpared names q u r → (u ≡ t → ⊥) → n ≡ r → ⊥
-  not_its q n r t u here low (inl b) ne e = ne (sym (fits.texts u r.number b) ∙ ap f (sym e) ∙ here)
-  not_its q n r t u here low (inr b) ne e = let is = b.1 in let m = ap (λ (c : CellName). c.number) e in omega (arith, low, is, m)
-
-  -- it stays if others are exchanged
-  stays : (place : ℕ) (n : CellName) (t : List ℕ) (ts : List (List ℕ)) (ss ns : List CellName) → f n ≡ t → n.number < 2 ^ 32 → AreSpared names place ts ss → map f ns ≡ ts → IsOther t ts → swapped_all ss ns n ≡ n
-  stays place n t [] [] ns here low a e o = refl
-  stays place n t [] (s ∷ ss) ns here low a e o = absurd a
-  stays place n t (u ∷ ts) [] ns here low a e o = absurd a
-  stays place n t (u ∷ ts) (s ∷ ss) [] here low a e o = refl
-  stays place n t (u ∷ ts) (s ∷ ss) (m ∷ ns) here low a e o =
-      let first : f m ≡ u = cc in
-      let rest : map f ns ≡ ts = cc in
-      ap (swapped_all ss ns) (one_other s m n (not_its place n s t u here low a.0 o.0) (λ q. o.0 (sym first ∙ ap f (sym q) ∙ here)))
-      ∙ stays (suc place) n t ts ss ns here low a.1 rest o.1
-
-  -- and so do the numbers of later names
-  later_stay : (first place : ℕ) (s n : CellName) (t : List ℕ) (ts : List (List ℕ)) (ss : List CellName) → (f n ≡ t) × (n.number < 2 ^ 32) → IsSpared names first t s → first < place → AreSpared names place ts ss → IsOther t ts → map (swapped_one s n) ss ≡ ss
-  later_stay first place s n t [] [] here own lt a o = refl
-  later_stay first place s n t [] (r ∷ ss) here own lt a o = absurd a
-  later_stay first place s n t (u ∷ ts) [] here own lt a o = absurd a
-  later_stay first place s n t (u ∷ ts) (r ∷ ss) here own lt a o =
-      ap₂ (λ (x : CellName) (xs : List CellName). x ∷ xs)
-      (one_other s n r (apart first place s r t u lt own a.0 o.0) (λ e. not_its place n r t u here.0 here.1 a.0 o.0 (sym e)))
-      (later_stay first (suc place) s n t ts ss here own (omega (arith, lt)) a.1 o.1)
-
-  -- the reading by the spare numbers
-  reads_all : (place : ℕ) (ts : List (List ℕ)) (ss ns : List CellName) → AreSpared names place ts ss → map f ns ≡ ts → AreShort ns → AreOnce ts → ReadsSpares names ts ss (read_exchanged ss ns f)
-  reads_all place [] [] ns a e low once = record { fits = fits; reads = refl }
-  reads_all place [] (s ∷ ss) ns a e low once = absurd a
-  reads_all place (t ∷ ts) [] ns a e low once = absurd a
-  reads_all place (t ∷ ts) (s ∷ ss) [] a e low once = absurd (cc)
-  reads_all place (t ∷ ts) (s ∷ ss) (n ∷ ns) a e low once =
-      let here : f n ≡ t = cc in
-      let rest : map f ns ≡ ts = cc in
-      let g = read_exchanged ss ns f in
-      let later : ReadsSpares names ts ss g = reads_all (suc place) ts ss ns a.1 rest low.1 once.1 in
-      let there : g n ≡ t = ap f (stays (suc place) n t ts ss ns here low.0 a.1 rest once.0) ∙ here in
-      record {
-        fits = by_name a.0 here g there later.fits;
-        reads =
-            ap₂ (λ (x : List ℕ) (xs : List (List ℕ)). x ∷ xs) (ap g (one_first s n) ∙ there)
-            (sym (map-map g (swapped_one s n) ss) ∙ ap (map g) (later_stay place (suc place) s n t ts ss (here, low.0) a.0 (omega arith) a.1 once.0) ∙ later.reads);
-      }
-    where
-      by_name : IsSpared names place t s → f n ≡ t → (g : Reading) → g n ≡ t → Fits names g → Fits names (λ c. g (swapped_one s n c))
-      by_name (inl known) here g there fit =
-          let P : Bool → Type 0 = λ b. Fits names (λ c. g (if b then c else swapped s n c)) in
-          subst P (sym (eq-eqb s.number n.number (ap (λ (c : CellName). c.number) (fits.reads.once s n (fits.texts t s.number known ∙ sym here))))) fit
-      by_name (inr new) here g there fit =
-          let P : Bool → Type 0 = λ b. Fits names (λ c. g (if b then c else swapped s n c)) in
-          let short = low.0 in
-          let is = new.1 in
-          subst P (sym (ne_eqb s.number n.number (λ q. omega (arith, short, is, q))))
-          (exchange_fits names t s n g new.0 (λ u m was q. let small_one = small_by names u m small was in omega (arith, small_one, is, q)) there fit)
-
-  -- a reading by which a number is another text reads the numbers of later names as before
-  later_read : (first place : ℕ) (s : CellName) (t : List ℕ) (ts : List (List ℕ)) (ss : List CellName) → IsSpared names first t s → first < place → AreSpared names place ts ss → map f ss ≡ ts → IsOther t ts → map (retold (f s) t f) ss ≡ ts
-  later_read first place s t [] [] own lt a e o = refl
-  later_read first place s t [] (r ∷ ss) own lt a e o = absurd a
-  later_read first place s t (u ∷ ts) [] own lt a e o = absurd a
-  later_read first place s t (u ∷ ts) (r ∷ ss) own lt a e o =
-      let here : f r ≡ u = cc in
-      let rest : map f ss ≡ ts = cc in
-      ap₂ (λ (x : List ℕ) (xs : List (List ℕ)). x ∷ xs)
-      (swap_other bytes_eq text_test (f s) t (f r) (λ q. apart first place s r t u lt own a.0 o.0 (fits.reads.once r s q)) (λ q. o.0 (sym here ∙ q)) ∙ here)
-      (later_read first (suc place) s t ts ss own (omega (arith, lt)) a.1 rest o.1)
-
 -- the reading by the spare numbers does, if the other reads the numbers that came as these texts
 pub reads_spares : (names : List Known) (f : Reading) (place : ℕ) (ts : List (List ℕ)) (ss ns : List CellName) → AreSmall names → Fits names f → AreSpared names place ts ss → map f ns ≡ ts → AreShort ns → AreOnce ts → ReadsSpares names ts ss (read_exchanged ss ns f)
-reads_spares names f place ts ss ns small fits a e low once = reads_all names f small fits place ts ss ns a e low once
-
--- ---- a draft
-
-drafted : (names : List Known) → AreNames names → AreSmall names → (place : ℕ) (ts : List (List ℕ)) (ss : List CellName) → AreSpared names place ts ss → AreOnce ts → ReadsDraft names ts ss
-drafted names one small place [] [] a once = record { reading = reading_of names; fits = reading_fits names one; reads = refl }
-drafted names one small place [] (s ∷ ss) a once = absurd a
-drafted names one small place (t ∷ ts) [] a once = absurd a
-drafted names one small place (t ∷ ts) (s ∷ ss) a once = by_name a.0 (drafted names one small (suc place) ts ss a.1 once.1)
+reads_spares names f place [] [] ns small fits a e low once = record { fits = fits; reads = refl }
+reads_spares names f place [] (s ∷ ss) ns small fits a e low once = absurd a
+reads_spares names f place (t ∷ ts) [] ns small fits a e low once = absurd a
+reads_spares names f place (t ∷ ts) (s ∷ ss) [] small fits a e low once = absurd (cc)
+reads_spares names f place (t ∷ ts) (s ∷ ss) (n ∷ ns) small fits a e low once =
+    by_name a.0 (reads_spares names f (suc place) ts ss ns small fits a.1 (rest_of (f n) t (map f ns) ts e) low.1 once.1)
   where
-    by_name : IsSpared names place t s → ReadsDraft names ts ss → ReadsDraft names (t ∷ ts) (s ∷ ss)
-    by_name (inl known) d = record { reading = d.reading; fits = d.fits; reads = ap₂ (λ (x : List ℕ) (xs : List (List ℕ)). x ∷ xs) (d.fits.texts t s.number known) d.reads }
-    by_name (inr new) d =
-        let f = d.reading in
-        let unread : number_by names (f s) ≡ None = elim (option_cases (number_by names (f s))) [
-          | inl none ↦ none
-          | inr some ↦
-              let low = small_by names (f s) some.0 small some.1 in
-              let same = ap (λ (c : CellName). c.number) (d.fits.reads.once (record { number = some.0 }) s (d.fits.texts (f s) some.0 some.1)) in
-              let is = new.1 in
-              absurd (omega (arith, low, same, is))
-        ] in
-        record {
-          reading = retold (f s) t f;
-          fits = retold_fits names (f s) t f unread new.0 d.fits;
-          reads = ap₂ (λ (x : List ℕ) (xs : List (List ℕ)). x ∷ xs) (swap_first bytes_eq text_test (f s) t) (later_read names f small d.fits place (suc place) s t ts ss (inr new) (omega arith) a.1 d.reads once.0);
-        }
+    here : f n ≡ t
+    here = first_of (f n) t (map f ns) ts e
 
--- numbers of names, of which those of new ones are spare, are read as these by a reading of the names that are known
-pub spared_draft : (names : List Known) (texts : List (List ℕ)) (row : List CellName) → IsNameList texts → AreNames names → AreSmall names → AreSpared names 0 texts row → ReadsDraft names texts row
-spared_draft names texts row list one small a = drafted names one small 0 texts row a (names_once texts list)
+    g : Reading
+    g = read_exchanged ss ns f
+
+    F : Bool → Reading
+    F c = if c then g else exchanged s n g
+
+    by_name : IsSpared names place t s → ReadsSpares names ts ss g → ReadsSpares names (t ∷ ts) (s ∷ ss) (read_with_two s n g)
+    by_name (inl known) later =
+        let own : f s ≡ t = ap f (same_name s (record { number = s.number }) refl) ∙ fits.texts t s.number known in
+        let same : s ≡ n = fits.reads.once s n (own ∙ sym here) in
+        let one : (s.number == n.number) ≡ true = eq-eqb s.number n.number (ap (λ (c : CellName). c.number) same) in
+        let P : Bool → Type 0 = λ c. ReadsSpares names (t ∷ ts) (s ∷ ss) (F c) in
+        subst P (sym one) (record {
+          fits = later.fits;
+          reads = ap₂ (λ (x : List ℕ) (xs : List (List ℕ)). x ∷ xs) (ap g (same_name s (record { number = s.number }) refl) ∙ later.fits.texts t s.number known) later.reads;
+        })
+    by_name (inr new) later =
+        let short = low.0 in
+        let is = new.1 in
+        let two : (s.number == n.number) ≡ false = ne_eqb s.number n.number (λ q. omega (arith, short, is, q)) in
+        let there : g n ≡ t = untouched names f n t (suc place) ts ss ns fits here short a.1 (rest_of (f n) t (map f ns) ts e) once.0 in
+        let P : Bool → Type 0 = λ c. ReadsSpares names (t ∷ ts) (s ∷ ss) (F c) in
+        subst P (sym two) (record {
+          fits = exchange_fits names t s n g small new.0 (omega (arith, is)) there later.fits;
+          reads = ap₂ (λ (x : List ℕ) (xs : List (List ℕ)). x ∷ xs) (ap g (swap_first s n s refl) ∙ there) (later_stay names f g s n t place (suc place) ts ss small fits here short is (omega arith) a.1 once.0 ∙ later.reads);
+        })

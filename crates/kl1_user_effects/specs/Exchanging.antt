@@ -16,6 +16,16 @@ swapped a b n = if n.number == a.number then b else if n.number == b.number then
 abbrev pub exchanged : CellName → CellName → Reading → Reading
 exchanged a b f n = f (swapped a b n)
 
+-- what is held, if two numbers stand for one another; a number stands for itself
+abbrev pub held_with_two : CellName → CellName → Held CellName → Held CellName
+held_with_two a b h = if a.number == b.number then h else held_renamed (swapped a b) h
+
+-- what is held, if each of these numbers and the one at its place among others stand for one another, the first two first
+abbrev pub held_exchanged : List CellName → List CellName → Held CellName → Held CellName
+held_exchanged [] ns h = h
+held_exchanged (s ∷ ss) [] h = h
+held_exchanged (s ∷ ss) (n ∷ ns) h = held_exchanged ss ns (held_with_two s n h)
+
 -- a number, if one stands for another and that for this; a number stands for itself
 abbrev pub swapped_one : CellName → CellName → CellName → CellName
 swapped_one a b n = if a.number == b.number then n else swapped a b n
@@ -25,10 +35,6 @@ abbrev pub swapped_all : List CellName → List CellName → CellName → CellNa
 swapped_all [] ns c = c
 swapped_all (s ∷ ss) [] c = c
 swapped_all (s ∷ ss) (n ∷ ns) c = swapped_all ss ns (swapped_one s n c)
-
--- what is held, if each of these numbers and the one at its place among others stand for one another, the first two first
-abbrev pub held_exchanged : List CellName → List CellName → Held CellName → Held CellName
-held_exchanged ss ns h = held_renamed (swapped_all ss ns) h
 
 -- both of two numbers, and none if they are one
 abbrev pub pair_of : CellName → CellName → List ℕ
@@ -45,9 +51,15 @@ pub record IsRowOf (ss ns : List CellName) (row : List ℕ) : Type 0 where
   pub rises : (i j : ℕ) → i ≤ j → j < length row → get_or row i 0 ≤ get_or row j 0
   pub others : (n : ℕ) → (Contains row n → ⊥) → Contains (touched ss ns) n → ⊥
 
+-- a reading that reads each of two numbers as the other, if they are two
+abbrev pub read_with_two : CellName → CellName → Reading → Reading
+read_with_two a b f = if a.number == b.number then f else exchanged a b f
+
 -- the reading by which what was held meant what it means when these numbers and others stand for one another
 abbrev pub read_exchanged : List CellName → List CellName → Reading → Reading
-read_exchanged ss ns f c = f (swapped_all ss ns c)
+read_exchanged [] ns f = f
+read_exchanged (s ∷ ss) [] f = f
+read_exchanged (s ∷ ss) (n ∷ ns) f = read_with_two s n (read_exchanged ss ns f)
 
 -- the number of a name among names, or the spare number of a place if it is new
 abbrev pub IsSpared : List Known → ℕ → List ℕ → CellName → Type 0

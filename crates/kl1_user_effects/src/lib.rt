@@ -15,7 +15,7 @@ pub use bodies::{clipped_in, keep_at_times, priority_in, whole};
 pub use exchanging::{exchange, row_for_pairs, spare_row};
 pub use last::last_of;
 pub use limits::{are_numbers, is_number, is_within};
-pub use names::{AccountNames, has_room, publish};
+pub use names::{AccountNames, draft_row, has_room, publish};
 pub use path_scan::{PathScan, put_reached};
 pub use sending::{nodes_of, origin_for};
 pub use spelled::Spelled;

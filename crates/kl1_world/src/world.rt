@@ -97,6 +97,24 @@ impl<A: AtomSource + Drop, C: CodeSource + Drop> World<A, C> {
         kept.apply(&mut self.names, &mut self.code_source, event)
     }
 
+    /// Reduces a goal of an account by a clause, or says why that is refused: what `apply` does if that is the event.
+    fn reduce_at(
+        &mut self,
+        account: usize,
+        goal: GoalNo,
+        clause: ClauseNo,
+    ) -> Result<Option<Refusal>, AllocError>
+        requires { account < length self.old.0 }
+        ensures step { IfOk result (λ refused. (f : Reading) → Fits (account_in self.new.0 account).0.names f → done (kept_of f (account_in self.old.0 account)) (reduce_event goal.0 clause.0) ≡ record { kept = kept_of f (account_in self.new.0 account); reply = reduced_or refused }) }
+        ensures err { OnErr result (self.new ≡ self.old) }
+        ensures others { self.new.0 ≡ slice_set self.old.0 account (account_in self.new.0 account) }
+        ensures at { self.new.1 ≡ self.old.1 }
+        ensures before { (f : Reading) → Fits (account_in self.new.0 account).0.names f → Fits (account_in self.old.0 account).0.names f }
+    {
+        let kept = &mut self.accounts[account];
+        kept.reduce(&mut self.names, &self.code_source, goal, clause)
+    }
+
     /// The lines of an account's journal from one on, the first being 1, at most `count` of them.
     fn journal_at(&self, account: usize, from: u64, count: u64) -> Result<Listed, AllocError>
         requires { account < length self.now.0 }
@@ -215,8 +233,7 @@ impl<A: AtomSource + Drop, C: CodeSource + Drop> Host for World<A, C> {
     }
 
     fn reduce(&mut self, goal: GoalNo, clause: ClauseNo) -> Result<Option<Refusal>, AllocError> {
-        let kept = &mut self.accounts[self.at];
-        kept.reduce(&mut self.names, &self.code_source, goal, clause)
+        self.reduce_at(self.at, goal, clause)
     }
 
     fn journal(&self, from: u64, count: u64) -> Result<Listed, AllocError> {

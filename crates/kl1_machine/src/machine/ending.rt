@@ -5,10 +5,10 @@ ghost use Rattle.std.specs.List.{list_any};
 ghost use Rattle.kl1_model.specs.Term.{atom};
 ghost use Rattle.kl1_model.specs.Text.{text_of};
 ghost use Rattle.kl1_model.specs.Report.{report_each};
-ghost use Rattle.kl1_model.specs.Ending.{after_reduction};
+ghost use Rattle.kl1_model.specs.Ending.{settle, after_reduction};
 ghost use Rattle.kl1_goals.specs.Lists.{is_goal_of};
 ghost use Rattle.kl1_shoen.specs.Shoens.{path_in, lives_in};
-ghost use Rattle.kl1_user_effects.specs.Endings.{finished_each};
+ghost use Rattle.kl1_user_effects.specs.Endings.{finished, finished_each};
 ghost use Rattle.kl1_user_effects.specs.Walks.{ends_in, ending_in, reached_in};
 ghost use Rattle.kl1_machine.specs.declared.machine.Machine.{Machine};
 ghost use Rattle.kl1_machine.specs.Machines.{IsMachine, Keeps};
@@ -120,19 +120,37 @@ impl Machine {
         Ok(())
     }
 
-    /// Does what is left of the terminations of these shoens after their lives have ended, in order: the monitor of each goes, it reports
-    /// that it has terminated, and its stream is closed.
-    pub(crate) fn finish_each(&mut self, numbers: &[u64]) -> Result<(), AllocError>
+    /// Does what is left of a termination after the shoen's life has ended: its monitor goes, it reports that, and its stream is closed.
+    fn finish(&mut self, number: u64) -> Result<(), AllocError>
+        requires machine { IsMachine self.old }
+        ensures ok { OnOk result (TurnsAs (λ f. finished number) self.old self.new) }
+        ensures since { (b : Machine) → Since b self.old → StillSince result b self.new }
+    {
+        self.remove_monitor(number)?;
+        self.report_name(number, BuiltIn::Terminated)?;
+        self.close(number)
+    }
+
+    /// Does what is left of the terminations of these shoens, in order.
+    fn finish_each(&mut self, numbers: &[u64]) -> Result<(), AllocError>
         requires machine { IsMachine self.old }
         ensures ok { OnOk result (TurnsAs (λ f. finished_each numbers.now) self.old self.new) }
         ensures since { (b : Machine) → Since b self.old → StillSince result b self.new }
     {
         for number in numbers {
-            self.remove_monitor(*number)?;
-            self.report_name(*number, BuiltIn::Terminated)?;
-            self.close(*number)?;
+            self.finish(*number)?;
         }
         Ok(())
+    }
+
+    /// Terminations on the path of a shoen, innermost first. What `scan` holds after it is of no use.
+    pub(crate) fn settle(&mut self, scan: &mut PathScan, number: u64) -> Result<(), AllocError>
+        requires machine { IsMachine self.old }
+        ensures ok { OnOk result (TurnsAs (λ f. settle number) self.old self.new) }
+        ensures since { (b : Machine) → Since b self.old → StillSince result b self.new }
+    {
+        self.end_lives(number, &mut scan.ending)?;
+        self.finish_each(scan.ending.as_slice())
     }
 
     /// What comes after the effects of a reduction in a shoen: the shoens on its path that have just been charged what they may be, and

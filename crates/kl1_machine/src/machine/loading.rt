@@ -4,7 +4,6 @@ ghost use Rattle.std.specs.Prelude.{◌≡◌, false, [], ◌∷◌, map, OnOk};
 ghost use Rattle.kl1_codes.specs.Numbered.{number_of};
 ghost use Rattle.kl1_codes.specs.Finding.{is_numbered};
 ghost use Rattle.kl1_codes.specs.Shelves.{with_last};
-ghost use Rattle.kl1_machine.specs.declared.machine.Machine.{Machine};
 ghost use Rattle.kl1_machine.specs.Machines.{IsMachine, Keeps};
 ghost use Rattle.kl1_machine.specs.Rescheduling.{Wakes, Reschedules, AllSettled, unready};
 
@@ -27,7 +26,7 @@ impl Machine {
         requires machine { IsMachine self.old }
         requires new { is_numbered modules.now.loaded (number_of loaded.now) ≡ false }
         ensures ok { OnOk result (Wakes (with_last modules.now loaded.now) (number ∷ []) self.old self.new) }
-        ensures keeps { (b : Machine) → Keeps b self.old → Keeps b self.new }
+        ensures keeps { Keeps self.old self.new }
     {
         let Some(goal) = self.goals.get(number) else {
             return Ok(());

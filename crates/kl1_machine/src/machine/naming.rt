@@ -83,16 +83,18 @@ impl Machine {
         let Some(text) = self.name else {
             return;
         };
-        let spelled = self.spelled;
         self.name = None;
-        self.spelled = None;
         text.shows_text();
         let number = names.intern(seat, text);
         self.names.learn(text, number);
-        let name = Cell::Atom(CellName::of_number(number));
-        if let Some(spelled) = spelled {
-            self.store
-                .rebind_constant(spelled.before, spelled.variable, name);
-        }
+        let Some(spelled) = self.spelled else {
+            return;
+        };
+        self.spelled = None;
+        self.store.rebind_constant(
+            spelled.before,
+            spelled.variable,
+            Cell::Atom(CellName::of_number(number)),
+        );
     }
 }

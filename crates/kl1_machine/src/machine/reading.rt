@@ -31,7 +31,6 @@ impl Machine {
         ensures since { (b : Machine) → Since b self.old → StillSince result b self.new }
     {
         self.hear(scan, monitor, number, control)?;
-        self.end_lives(number, &mut scan.ending)?;
-        self.finish_each(scan.ending.as_slice())
+        self.settle(scan, number)
     }
 }

@@ -43,7 +43,7 @@ impl Machine {
         requires machine { IsMachine self.old }
         requires served { IsServed calls.now.modules.now.loaded calls.now.known calls.now.predicate }
         ensures ok { OnOk result (Wakes calls.now.modules.now (number ∷ []) self.old self.new) }
-        ensures keeps { (b : Machine) → Keeps b self.old → Keeps b self.new }
+        ensures keeps { Keeps self.old self.new }
     {
         let Some(goal) = self.goals.lend(number) else {
             return Ok(());
@@ -61,7 +61,7 @@ impl Machine {
         requires machine { IsMachine self.old }
         requires served { IsServed calls.now.modules.now.loaded calls.now.known calls.now.predicate }
         ensures ok { OnOk result (Wakes calls.now.modules.now self.old.told.items self.old self.new) }
-        ensures keeps { (b : Machine) → Keeps b self.old → Keeps b self.new }
+        ensures keeps { Keeps self.old self.new }
     {
         for place in 0..self.told.len() {
             let number = self.told[place];
@@ -83,7 +83,7 @@ impl Machine {
         requires served { IsServed calls.now.modules.now.loaded calls.now.known calls.now.predicate }
         requires lets { is_enabled_at self.old.shoens.shoens self.old.shoens.work running ≡ true }
         ensures ok { (n : ℕ) → number ≡ suc n → OnOk result (Schedules calls.now.modules.now n number self.old self.new) }
-        ensures keeps { (b : Machine) → Keeps b self.old → Keeps b self.new }
+        ensures keeps { Keeps self.old self.new }
     {
         let Some(goal) = self.goals.lend(number) else {
             return Ok(());
@@ -106,7 +106,7 @@ impl Machine {
         requires served { IsServed calls.now.modules.now.loaded calls.now.known calls.now.predicate }
         requires lets { is_enabled_at self.old.shoens.shoens self.old.shoens.work running ≡ true }
         ensures ok { OnOk result (Schedules calls.now.modules.now self.old.begun.last_goal last self.old self.new) }
-        ensures keeps { (b : Machine) → Keeps b self.old → Keeps b self.new }
+        ensures keeps { Keeps self.old self.new }
     {
         let mut number = self.begun.last_goal;
         while number < last {
@@ -119,7 +119,7 @@ impl Machine {
     /// Lets goals step, or holds them back, of each shoen in which that may be other than when the event began, if it may be so in any.
     fn shift(&mut self) -> Result<(), AllocError>
         ensures ok { OnOk result (Shifts self.old self.new) }
-        ensures keeps { (b : Machine) → Keeps b self.old → Keeps b self.new }
+        ensures keeps { Keeps self.old self.new }
     {
         if !self.shifts {
             return Ok(());

@@ -22,7 +22,7 @@ fn parent_of(number: u64) -> Option<ShoenNo>
 }
 
 /// What is shown of a shoen.
-pub(crate) fn view_of(
+fn view_of(
     shoens: &ShoenTree<CellName>,
     goals: &GoalTable<CellName>,
     shoen: &Shoen<CellName>,

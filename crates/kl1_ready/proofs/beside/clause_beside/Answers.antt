@@ -1,4 +1,5 @@
-use Rattle.kl1_ready.proofs.Words.{IfOk-weaker, with_last}
+use Rattle.std.proofs.lemmas.Result.{IfOk-weaker}
+use Rattle.kl1_codes.specs.Shelves.{with_last}
 use Rattle.kl1_ready.proofs.Ready.{ready_goal}
 use Rattle.kl1_ready.proofs.beside.clause_beside.Goals as goal
 

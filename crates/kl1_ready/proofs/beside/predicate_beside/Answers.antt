@@ -1,4 +1,4 @@
-use Rattle.kl1_ready.proofs.Words.{◌++◌, ◌∷◌, []}
+use Rattle.std.proofs.Common.{◌++◌, ◌∷◌, []}
 use Rattle.kl1_ready.proofs.Serving.{call_has}
 use Rattle.kl1_ready.proofs.beside.predicate_beside.Goals as goal
 

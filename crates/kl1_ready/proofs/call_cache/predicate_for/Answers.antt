@@ -1,4 +1,4 @@
-use Rattle.kl1_ready.proofs.Words.{sym, ◌∙◌}
+use Rattle.std.proofs.Common.{sym, ◌∙◌}
 use Rattle.kl1_ready.proofs.Serving.{serves_too}
 use Rattle.kl1_ready.proofs.call_cache.predicate_for.Goals as goal
 

@@ -1,4 +1,8 @@
-use Rattle.kl1_ready.proofs.Words.{sym, ap, Option, option_map, IfOk-weaker, CellName, Shoen}
+use Rattle.std.proofs.Common.{sym, ap}
+use Rattle.std.specs.Prelude.{Option, option_map}
+use Rattle.std.proofs.lemmas.Result.{IfOk-weaker}
+use Rattle.kl1_text.specs.declared.cell_name.CellName.{CellName}
+use Rattle.kl1_shoen_paths.specs.declared.shoen.Shoen.{Shoen}
 use Rattle.kl1_ready.proofs.SettledStays.{control_in}
 use Rattle.kl1_ready.proofs.Ready.{ready_nobody, ready_monitor}
 use Rattle.kl1_ready.proofs.clauses.clause_of_monitor.Goals as goal

@@ -1,4 +1,7 @@
-use Rattle.kl1_ready.proofs.Words.{◌≡◌, ℕ, List, [], arith, sym, rules, subst, vec_len, nil_from_length, HangsOnEach}
+use Rattle.std.proofs.Common.{◌≡◌, ℕ, List, [], arith, sym, rules, subst}
+use Rattle.std.specs.Vec.{vec_len}
+use Rattle.std.proofs.lemmas.List.{nil_from_length}
+use Rattle.kl1_store_hooks.specs.Hanging.{HangsOnEach}
 use Rattle.kl1_ready.proofs.Ready.{ready_substitute}
 use Rattle.kl1_ready.proofs.clauses.clause_of_substitute.Goals as goal
 

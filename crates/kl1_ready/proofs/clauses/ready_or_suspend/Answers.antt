@@ -1,4 +1,6 @@
-use Rattle.kl1_ready.proofs.Words.{◌≡◌, [], arith, sym, rules, vec_len, nil_from_length}
+use Rattle.std.proofs.Common.{◌≡◌, [], arith, sym, rules}
+use Rattle.std.specs.Vec.{vec_len}
+use Rattle.std.proofs.lemmas.List.{nil_from_length}
 use Rattle.kl1_ready.proofs.Ready.{ready_by}
 use Rattle.kl1_ready.proofs.clauses.ready_or_suspend.Goals as goal
 

@@ -1,5 +1,6 @@
 -- after the shifts that are left the goals are as after all
-use Rattle.kl1_ready.proofs.Words.{◌≡◌, drop, shifted_by}
+use Rattle.std.proofs.Common.{◌≡◌, drop}
+use Rattle.kl1_user_effects.specs.Installing.{shifted_by}
 use Rattle.kl1_ready.proofs.looking.enable_each.Given as goal
 
 abbrev pub invariant-loop-shift : goal.invariant-loop-shift

@@ -1,4 +1,6 @@
-use Rattle.kl1_ready.proofs.Words.{ap, ◌∙◌, is_monitor, is_enabled_at}
+use Rattle.std.proofs.Common.{ap, ◌∙◌}
+use Rattle.kl1_goals.specs.Lists.{is_monitor}
+use Rattle.kl1_shoen.specs.Shoens.{is_enabled_at}
 use Rattle.kl1_ready.proofs.Ready.{lets_too}
 use Rattle.kl1_ready.proofs.looking.may_step.Goals as goal
 

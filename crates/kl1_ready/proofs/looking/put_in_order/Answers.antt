@@ -1,4 +1,7 @@
-use Rattle.kl1_ready.proofs.Words.{ℕ, List, ◌∙◌, ap, arith, dedup_is, IsStrictlyIncreasing-dedup, is_among}
+use Rattle.std.proofs.Common.{ℕ, List, ◌∙◌, ap, arith}
+use Rattle.std.proofs.lemmas.List.Filters.{dedup_is}
+use Rattle.std.proofs.lemmas.Map.Keys.{IsStrictlyIncreasing-dedup}
+use Rattle.kl1_model.specs.Module.{is_among}
 use Rattle.kl1_ready.proofs.Numbers.{among_permuted, among_dedup}
 use Rattle.kl1_ready.proofs.looking.put_in_order.Goals as goal
 

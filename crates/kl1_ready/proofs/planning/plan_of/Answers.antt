@@ -1,5 +1,13 @@
-use Rattle.kl1_ready.proofs.Words.{subst, Option, MatchOption, IfOk-weaker, CellName, Task, taken_places, IsTaskIn, Made, Plan, IsPlan, DoesNothing}
-use Rattle.std.specs.Prelude.{◌≡◌}
+use Rattle.std.proofs.Common.{subst}
+use Rattle.std.specs.Prelude.{Option, MatchOption, ◌≡◌}
+use Rattle.std.proofs.lemmas.Result.{IfOk-weaker}
+use Rattle.kl1_text.specs.declared.cell_name.CellName.{CellName}
+use Rattle.kl1_goals.specs.declared.task.Task.{Task}
+use Rattle.kl1_goals_moves.specs.Moves.{taken_places}
+use Rattle.kl1_user_effects.specs.Kept.{IsTaskIn}
+use Rattle.kl1_user_effects.specs.Works.{Made}
+use Rattle.kl1_ready.specs.declared.planning.Plan.{Plan}
+use Rattle.kl1_ready.specs.Plans.{IsPlan, DoesNothing}
 use Rattle.kl1_ready.proofs.planning.plan_of.Goals as goal
 
 pub returns-in-Monitor : goal.returns-in-Monitor

@@ -1,4 +1,9 @@
-use Rattle.kl1_ready.proofs.Words.{List, true, false, refl, sym, ap, ◌∙◌, Some, None, option_copied, CellName, Shoen, shoen_in, found_shoen_in}
+use Rattle.std.proofs.Common.{List, true, false, refl, sym, ap, ◌∙◌}
+use Rattle.std.specs.Prelude.{Some, None, option_copied}
+use Rattle.kl1_text.specs.declared.cell_name.CellName.{CellName}
+use Rattle.kl1_shoen_paths.specs.declared.shoen.Shoen.{Shoen}
+use Rattle.kl1_shoen.specs.Shoens.{shoen_in}
+use Rattle.kl1_user_effects.proofs.States.{found_shoen_in}
 use Rattle.kl1_ready.proofs.Plans.{monitor_does, monitor_takes, monitor_reads}
 use Rattle.kl1_ready.proofs.planning.plan_reading.Goals as goal
 

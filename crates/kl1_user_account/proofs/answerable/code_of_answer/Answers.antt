@@ -1,7 +1,16 @@
-use Rattle.kl1_user_account.proofs.Words.{◌≡◌, ◌&&◌, true, [], sym, ap, ap₂, ◌∙◌, refl, Option, Some, None, Term, may_answer, answer_by, State, has_substitutes, names_of, with_names, Transition, unless, Refusal, with_kept, origin_in, refusals_of, refused_or, has_room_to_answer_beside}
+use Rattle.std.proofs.Common.{◌≡◌, ◌&&◌, true, [], sym, ap, ap₂, ◌∙◌, refl}
+use Rattle.std.specs.Prelude.{Option, Some, None}
+use Rattle.kl1_model.specs.Term.{Term}
+use Rattle.kl1_model.specs.Answering.{may_answer, answer_by}
+use Rattle.kl1_model.specs.State.{State, has_substitutes, names_of, with_names}
+use Rattle.kl1_model.specs.Event.{Transition, unless}
+use Rattle.kl1_user_events.specs.declared.refusal.Refusal.{Refusal}
+use Rattle.kl1_user_effects.specs.Account.{with_kept}
+use Rattle.kl1_user_effects.proofs.Messages.{origin_in}
+use Rattle.kl1_user_account.specs.Starting.{refusals_of, refused_or}
+use Rattle.kl1_user_account.specs.Answering.{has_room_to_answer_beside}
 use Rattle.kl1_user_account.proofs.AnswerSteps.{IsJudged, refused_wrong, refused_nowhere, refused_ended, answer_steps, answerable}
 use Rattle.kl1_user_account.proofs.StartChecks.{right_report}
-use Rattle.kl1_user_account.proofs.answerable.code_of_answer.Goals.{After-origin_at, After-refusal_of}
 use Rattle.kl1_user_account.proofs.answerable.code_of_answer.Goals as goal
 
 pub returns-then-not-has_substitutes : goal.returns-then-not-has_substitutes
@@ -61,12 +70,12 @@ returns-in-None c = λ f reads s goals same at.
     let m = c.args.machine.now in
     let S = with_kept f s m.store.held goals m.shoens.shoens in
     answer_steps m.rules m.store.held m.shoens.shoens m.names.names c.args.counted c.args.number c.args.report c.args.goal.now c.in-Some.origin c.names.result.now c.has_room_to_answer-has_room.result None
-    (judged (goal.at.returns-in-None c).After-refusal_of None (rw c.in_default-refusal_of.is at c.refusal_of.ensures.refuses)) f s goals same at
+    (judged (goal.at.returns-in-None c).After-refusal_of None (rw c.in_default.is at c.refusal_of.ensures.refuses)) f s goals same at
     ∙ ap (answer_by S c.args.goal.now) (c.unanswered_at.ensures.variable f reads ∙ c.in-None.is)
 
 pub returns-in-Some-unanswered_at : goal.returns-in-Some-unanswered_at
 returns-in-Some-unanswered_at c =
     let m = c.args.machine.now in
     answerable m.rules m.store.held m.shoens.shoens m.names.names c.args.counted c.args.number c.args.report c.args.goal.now c.in-Some.origin c.in_ok-code.code c.in-Some-unanswered_at.variable c.names.result.now c.has_room_to_answer-has_room.result
-    (judged (goal.at.returns-in-Some-unanswered_at c).After-refusal_of None (rw c.in_default-refusal_of.is at c.refusal_of.ensures.refuses)) (c.refusal_of.ensures.free c.in_default-refusal_of.is) c.in_ok-code.ensures
+    (judged (goal.at.returns-in-Some-unanswered_at c).After-refusal_of None (rw c.in_default.is at c.refusal_of.ensures.refuses)) (c.refusal_of.ensures.free c.in_default.is) c.in_ok-code.ensures
     (rw c.in-Some-unanswered_at.is at c.unanswered_at.ensures.unbound) (λ f reads. c.unanswered_at.ensures.variable f reads ∙ c.in-Some-unanswered_at.is)

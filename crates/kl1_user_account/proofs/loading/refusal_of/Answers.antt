@@ -1,7 +1,13 @@
-use Rattle.kl1_user_account.proofs.Words.{◌≡◌, true, false, length, refl, sym, ap, ◌∙◌, arith, is_some, lt-ltb, le-ltb, MOST_NAMES, MOST_MODULES, module_of, with_texts, own_names, contents, is_numbered, texts_of}
-use Rattle.std.specs.Prelude.{nat_lt}
+use Rattle.std.proofs.Common.{◌≡◌, true, false, length, refl, sym, ap, ◌∙◌, arith}
+use Rattle.std.specs.Prelude.{nat_lt, is_some}
+use Rattle.std.proofs.lemmas.Bool.{lt-ltb, le-ltb}
+use Rattle.kl1_model.specs.declared.limits.TheConstants.{MOST_NAMES, MOST_MODULES}
+use Rattle.kl1_model.specs.Match.{module_of}
+use Rattle.kl1_clause.specs.NameList.{with_texts}
+use Rattle.kl1_codes.specs.Numbered.{own_names}
+use Rattle.kl1_codes.specs.Finding.{contents, is_numbered}
+use Rattle.kl1_user_effects.specs.Account.{texts_of}
 use Rattle.kl1_user_account.proofs.Loads.{tells_name, load_by, draft_loads}
-use Rattle.kl1_user_account.proofs.loading.refusal_of.Goals.{After-has, After-are_too_many}
 use Rattle.kl1_user_account.proofs.loading.refusal_of.Goals as goal
 
 -- whether a module of its name is there

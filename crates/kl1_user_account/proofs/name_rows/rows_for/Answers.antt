@@ -1,4 +1,7 @@
-use Rattle.kl1_user_account.proofs.Words.{List, subst, Known, AreSpared, spared_count}
+use Rattle.std.proofs.Common.{List, subst}
+use Rattle.kl1_atoms.specs.declared.known.Known.{Known}
+use Rattle.kl1_user_effects.specs.Exchanging.{AreSpared}
+use Rattle.kl1_user_effects.proofs.Exchanges.{spared_count}
 use Rattle.kl1_user_account.proofs.name_rows.rows_for.Goals as goal
 
 pub returns-clause-rows : goal.returns-clause-rows

@@ -1,6 +1,12 @@
-use Rattle.kl1_user_account.proofs.Words.{◌≡◌, [], sym, ap, ap₂, ◌∙◌, refl, Option, Some, None, Term, goal_nodes, State, names_of, with_names, Transition, unless, Refusal, has_room_beside, refusals_of, refused_or}
+use Rattle.std.proofs.Common.{◌≡◌, [], sym, ap, ap₂, ◌∙◌, refl}
+use Rattle.std.specs.Prelude.{Option, Some, None}
+use Rattle.kl1_model.specs.Term.{Term}
+use Rattle.kl1_model.specs.Nodes.{goal_nodes}
+use Rattle.kl1_model.specs.State.{State, names_of, with_names}
+use Rattle.kl1_model.specs.Event.{Transition, unless}
+use Rattle.kl1_user_events.specs.declared.refusal.Refusal.{Refusal}
+use Rattle.kl1_user_account.specs.Starting.{has_room_beside, refusals_of, refused_or}
 use Rattle.kl1_user_account.proofs.StartSteps.{IsJudged, start_steps, startable}
-use Rattle.kl1_user_account.proofs.startable.code_of.Goals.{After-refusal_of}
 use Rattle.kl1_user_account.proofs.startable.code_of.Goals as goal
 
 judged : (c : goal.After-refusal_of) (o : Option Refusal) → ((s : State) (after : Transition) → unless s (refusals_of c.args.counted c.args.names.now.names c.names.result.now c.has_room_to_start-has_room.result) after ≡ refused_or s after o) →

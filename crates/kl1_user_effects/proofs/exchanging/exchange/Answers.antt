@@ -1,5 +1,8 @@
-use Rattle.kl1_user_effects.proofs.Words.{◌≡◌, length, refl, ◌∙◌, rules, Mark, renamed_everywhere, swapped_all}
-use Rattle.kl1_user_effects.proofs.Swapping.{none_exchanged}
+use Rattle.std.proofs.Common.{◌≡◌, length, refl, sym, ◌∙◌, rules}
+use Rattle.kl1_store.specs.declared.mark.Mark.{Mark}
+use Rattle.kl1_store.proofs.Renamed.{renamed_everywhere}
+use Rattle.kl1_user_effects.specs.Exchanging.{swapped_all}
+use Rattle.kl1_user_effects.proofs.Swapping.{as_one, none_exchanged}
 use Rattle.kl1_user_effects.proofs.exchanging.exchange.Goals as goal
 
 pub returns-then-is_empty-clause-held : goal.returns-then-is_empty-clause-held
@@ -14,4 +17,4 @@ returns-clause-held c =
     let ns = c.args.numbers.now in
     let h = c.args.store.now.held in
     let beginning : Mark = record c.mark-beginning.result.sizes { structures = 0; bindings = 0 } in
-    c.rename.ensures.held ∙ renamed_everywhere (swapped_all ss ns) beginning h refl refl
+    c.rename.ensures.held ∙ renamed_everywhere (swapped_all ss ns) beginning h refl refl ∙ sym (as_one ss ns h)

@@ -1,4 +1,7 @@
-use Rattle.kl1_user_effects.proofs.Words.{◌≡◌, ap₂, ◌∙◌, arith, take_all, IsNonDecreasingBy-from_sort, touched}
+use Rattle.std.proofs.Common.{◌≡◌, ap₂, ◌∙◌, arith}
+use Rattle.std.proofs.lemmas.List.{take_all}
+use Rattle.std.proofs.lemmas.List.Sorted.{IsNonDecreasingBy-from_sort}
+use Rattle.kl1_user_effects.specs.Exchanging.{touched}
 use Rattle.kl1_user_effects.proofs.Swapping.{touched_next, row_sorted}
 use Rattle.kl1_user_effects.proofs.exchanging.fill_row.Goals as goal
 

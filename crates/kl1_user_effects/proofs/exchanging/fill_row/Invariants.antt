@@ -1,4 +1,5 @@
-use Rattle.kl1_user_effects.proofs.Words.{◌≡◌, ◌≤◌, ◌*◌, length, take, vec_len, vec_capacity, touched}
+use Rattle.std.proofs.Common.{◌≡◌, ◌≤◌, ◌*◌, length, take, vec_len, vec_capacity}
+use Rattle.kl1_user_effects.specs.Exchanging.{touched}
 use Rattle.kl1_user_effects.proofs.exchanging.fill_row.Given as goal
 
 -- the row has the numbers that the exchanges so far can change

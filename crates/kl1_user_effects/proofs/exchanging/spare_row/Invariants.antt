@@ -1,4 +1,5 @@
-use Rattle.kl1_user_effects.proofs.Words.{◌≡◌, take, AreSpared}
+use Rattle.std.proofs.Common.{◌≡◌, take}
+use Rattle.kl1_user_effects.specs.Exchanging.{AreSpared}
 use Rattle.kl1_user_effects.proofs.exchanging.spare_row.Given as goal
 
 -- the row has the numbers of the names so far

@@ -1,4 +1,5 @@
-use Rattle.kl1_user_effects.proofs.Words.{◌≡◌, drop, is_among}
+use Rattle.std.proofs.Common.{◌≡◌, drop}
+use Rattle.kl1_model.specs.Module.{is_among}
 use Rattle.kl1_user_effects.proofs.path_scan.is_among.Given as goal
 
 -- the number is among those that are left as among all

@@ -1,4 +1,7 @@
-use Rattle.kl1_machine.proofs.Words.{map, length-map, aborted_below_in, aborted_in}
+use Rattle.std.proofs.Common.{map}
+use Rattle.std.proofs.lemmas.List.{length-map}
+use Rattle.kl1_shoen.specs.Shoens.{aborted_below_in}
+use Rattle.kl1_user_effects.proofs.Effects.{aborted_in}
 use Rattle.kl1_machine.proofs.Shoens.{aborted_outlines, becomes_shifting, since_shifting}
 use Rattle.kl1_machine.proofs.machine.Machine.abort_below.Goals as goal
 

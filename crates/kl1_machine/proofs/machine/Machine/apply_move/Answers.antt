@@ -1,12 +1,14 @@
-use Rattle.kl1_machine.proofs.Words.{on_ok_weaker, taken_places, Making}
-use Rattle.kl1_machine.proofs.Keeping.{grown_machine}
-use Rattle.kl1_machine.proofs.Sincing.{still, since_store}
+use Rattle.std.proofs.lemmas.Result.{on_ok_weaker}
+use Rattle.kl1_goals_moves.specs.Moves.{taken_places}
+use Rattle.kl1_machine.specs.Moving.{Making}
+use Rattle.kl1_machine.proofs.Keeping.{keeps_store, keeps_then, grown_machine}
+use Rattle.kl1_machine.proofs.Sincing.{since_store}
 use Rattle.kl1_machine.proofs.Moving.{moves_commit, moves_exception, moves_unification, moves_order, moves_nothing, moves_giving_way}
 use Rattle.kl1_machine.proofs.Unifying.{same_grows, unified_bound, unified_clash}
 use Rattle.kl1_machine.proofs.machine.Machine.apply_move.Goals as goal
 
-pub unreachable-requires : goal.unreachable-requires
-unreachable-requires c = c.requires.nameless c.in-Names._target c.in-Names.is
+pub prove-unreachable-requires : goal.prove-unreachable-requires
+prove-unreachable-requires c = c.requires.nameless c.in-Names._target c.in-Names.is
 
 pub returns-in-Commits-clause-ok : goal.returns-in-Commits-clause-ok
 returns-in-Commits-clause-ok c =
@@ -34,36 +36,36 @@ pub returns-in-Bound-clause-ok : goal.returns-in-Bound-clause-ok
 returns-in-Bound-clause-ok c =
     let a : Making = record { predicate = c.args.predicate; move = c.args.made; places = taken_places c.args.trial.now; text = c.args.trial.now.text } in
     moves_unification a c.in-Unifies.left c.in-Unifies.right c.args.goal c.args.cell c.args.self.now _ c.in-Unifies.is
-    (unified_bound c.args.goal c.args.cell c.in-Unifies.left c.in-Unifies.right c.args.self.now c.unify.new.store c.requires.machine c.unify.ensures.hooks (rw c.in-Bound.is at c.in_ok-unify-in-Unifies.ensures.ok))
+    (unified_bound c.args.goal c.args.cell c.in-Unifies.left c.in-Unifies.right c.args.self.now c.unify.new.store c.requires.machine c.unify.ensures.hooks (rw c.in-Bound.is at c.in_ok-unify.ensures.ok))
 
 pub returns-in-Clash-clause-ok : goal.returns-in-Clash-clause-ok
 returns-in-Clash-clause-ok c =
     let a : Making = record { predicate = c.args.predicate; move = c.args.made; places = taken_places c.args.trial.now; text = c.args.trial.now.text } in
     on_ok_weaker c.raise-in-Clash.result
     (λ raised. moves_unification a c.in-Unifies.left c.in-Unifies.right c.args.goal c.args.cell c.args.self.now c.raise-in-Clash.new.self c.in-Unifies.is
-    (unified_clash c.args.goal c.args.cell c.in-Unifies.left c.in-Unifies.right c.args.self.now c.unify.new.store c.raise-in-Clash.new.self (rw c.in-Clash.is at c.in_ok-unify-in-Unifies.ensures.ok) raised))
+    (unified_clash c.args.goal c.args.cell c.in-Unifies.left c.in-Unifies.right c.args.self.now c.unify.new.store c.raise-in-Clash.new.self (rw c.in-Clash.is at c.in_ok-unify.ensures.ok) raised))
     c.raise-in-Clash.ensures.ok
 
 pub raise-requires-in-Clash-clause-machine : goal.raise-requires-in-Clash-clause-machine
 raise-requires-in-Clash-clause-machine c =
-    let u = rw c.in-Clash.is at c.in_ok-unify-in-Unifies.ensures.ok in
+    let u = rw c.in-Clash.is at c.in_ok-unify.ensures.ok in
     grown_machine c.args.self.now c.unify.new.store (same_grows c.args.self.now c.unify.new.store u.1 c.unify.ensures.hooks) c.requires.machine
 
 pub returns-in-Bound-clause-since : goal.returns-in-Bound-clause-since
-returns-in-Bound-clause-since c b s = let u = rw c.in-Bound.is at c.in_ok-unify-in-Unifies.ensures.ok in since_store b c.args.self.now c.unify.new.store (record { grown = u.1; hooks = c.unify.ensures.hooks }) s
+returns-in-Bound-clause-since c b s = let u = rw c.in-Bound.is at c.in_ok-unify.ensures.ok in since_store b c.args.self.now c.unify.new.store (record { grown = u.1; hooks = c.unify.ensures.hooks }) s
 
 pub returns-in-Clash-clause-since : goal.returns-in-Clash-clause-since
 returns-in-Clash-clause-since c b s =
     let m = c.args.self.now in
     let k = c.unify.new.store in
-    let u = rw c.in-Clash.is at c.in_ok-unify-in-Unifies.ensures.ok in
+    let u = rw c.in-Clash.is at c.in_ok-unify.ensures.ok in
     c.raise-in-Clash.ensures.since b (since_store b m k (same_grows m k u.1 c.unify.ensures.hooks) s)
 
-pub returns-in_err-unify-in-Unifies-clause-since : goal.returns-in_err-unify-in-Unifies-clause-since
-returns-in_err-unify-in-Unifies-clause-since c b s =
+pub returns-in_err-unify-clause-since : goal.returns-in_err-unify-clause-since
+returns-in_err-unify-clause-since c b s =
     let m = c.args.self.now in
     let k = c.unify.new.store in
-    still c.from_residual.result b _ (since_store b m k (same_grows m k c.in_err-unify-in-Unifies.ensures.err c.unify.ensures.hooks) s)
+    keeps_then b m _ s.keeps (keeps_store m k (same_grows m k c.in_err-unify.ensures.err c.unify.ensures.hooks))
 
 -- ---- a substitute that gives way
 

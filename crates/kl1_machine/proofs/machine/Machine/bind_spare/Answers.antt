@@ -1,5 +1,10 @@
-use Rattle.kl1_machine.proofs.Words.{ap, ◌∙◌, Some, CellName, Atom, with_binding}
-use Rattle.kl1_machine.proofs.Sincing.{still, since_store, since_spelled}
+use Rattle.std.proofs.Common.{ap, ◌∙◌}
+use Rattle.std.specs.Prelude.{Some}
+use Rattle.kl1_text.specs.declared.cell_name.CellName.{CellName}
+use Rattle.kl1_store.specs.declared.cell.Cell.TheVariants.{Atom}
+use Rattle.kl1_store.specs.Held.{with_binding}
+use Rattle.kl1_machine.proofs.Keeping.{keeps_store, keeps_then}
+use Rattle.kl1_machine.proofs.Sincing.{since_store, since_spelled}
 use Rattle.kl1_machine.proofs.Naming.{spares, bound_grows, free_unbound}
 use Rattle.kl1_machine.proofs.machine.Machine.bind_spare.Goals as goal
 use Rattle.kl1_machine.proofs.Unifying.{same_grows}
@@ -25,4 +30,4 @@ pub returns-in_err-unify_constant-clause-since : goal.returns-in_err-unify_const
 returns-in_err-unify_constant-clause-since c b s =
     let m = c.args.self.now in
     let k = c.unify_constant.new.self in
-    still c.from_residual.result b _ (since_store b m k (same_grows m k c.in_err-unify_constant.ensures.err c.unify_constant.ensures.hooks) s)
+    keeps_then b m _ s.keeps (keeps_store m k (same_grows m k c.in_err-unify_constant.ensures.err c.unify_constant.ensures.hooks))

@@ -1,6 +1,14 @@
-use Rattle.kl1_machine.proofs.Words.{◌-◌, ℕ, List, [], length, sym, ap, ◌∙◌, arith, subst, names_of, with_names, CellName, Cell, Held, Grown, with_variables, goal_variables, AreGoalVariables, goal_row_below, built}
-use Rattle.kl1_match.specs.GoalCells.{BuildsGoal}
-use Rattle.kl1_machine.proofs.Sincing.{still, since_store, since_counts}
+use Rattle.std.proofs.Common.{◌-◌, ℕ, List, [], length, sym, ap, ◌∙◌, arith, subst}
+use Rattle.kl1_model.specs.State.{names_of, with_names}
+use Rattle.kl1_text.specs.declared.cell_name.CellName.{CellName}
+use Rattle.kl1_store.specs.declared.cell.Cell.{Cell}
+use Rattle.kl1_store.specs.Held.{Held}
+use Rattle.kl1_store.specs.Sound.{Grown}
+use Rattle.kl1_match.specs.Variables.{with_variables}
+use Rattle.kl1_match.specs.GoalCells.{goal_variables, AreGoalVariables, BuildsGoal}
+use Rattle.kl1_match.proofs.GoalCells.{goal_row_below}
+use Rattle.kl1_user_effects.specs.Fitting.{built}
+use Rattle.kl1_machine.proofs.Sincing.{since_store, since_counts}
 use Rattle.kl1_machine.proofs.Starting.{IsPut, built_goal}
 use Rattle.kl1_machine.proofs.machine.Machine.build_goal.Goals as goal
 
@@ -59,11 +67,11 @@ returns-clause-since c b s =
 pub returns-in_err-put_goal_variables-clause-since : goal.returns-in_err-put_goal_variables-clause-since
 returns-in_err-put_goal_variables-clause-since c b s =
     let v = c.put_goal_variables.ensures in
-    still c.from_residual.result b _ (since_store b c.args.self.now c.put_goal_variables.new.store (record { grown = v.grown; hooks = v.hooks }) s)
+    (since_store b c.args.self.now c.put_goal_variables.new.store (record { grown = v.grown; hooks = v.hooks }) s).keeps
 
 pub returns-in_err-reserve_goal-clause-since : goal.returns-in_err-reserve_goal-clause-since
 returns-in_err-reserve_goal-clause-since c b s =
     let m = c.args.self.now in
     let v = c.in_ok-put_goal_variables.ensures in
     let G : Held CellName → Type 0 = λ z. Grown m.store.held z in
-    still c.from_residual-in_err-reserve_goal.result b _ (since_store b m c.reserve_goal.new.store (record { grown = subst G (sym c.reserve_goal.ensures.same) v.grown; hooks = c.reserve_goal.ensures.hooks ∙ v.hooks }) s)
+    (since_store b m c.reserve_goal.new.store (record { grown = subst G (sym c.reserve_goal.ensures.same) v.grown; hooks = c.reserve_goal.ensures.hooks ∙ v.hooks }) s).keeps

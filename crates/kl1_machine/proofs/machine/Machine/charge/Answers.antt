@@ -1,3 +1,4 @@
+use Rattle.std.proofs.Common.{sym, ◌∙◌}
 use Rattle.kl1_machine.proofs.Shoens.{charges, charged_since}
 use Rattle.kl1_machine.proofs.machine.Machine.charge.Goals as goal
 

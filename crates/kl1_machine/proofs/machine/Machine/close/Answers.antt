@@ -1,5 +1,11 @@
-use Rattle.kl1_machine.proofs.Words.{refl, sym, on_ok_weaker, found_shoen_in, closed_turns, same_free, closed_free, made}
-use Rattle.kl1_machine.proofs.Keeping.{grown_machine}
+use Rattle.std.proofs.Common.{refl, sym}
+use Rattle.std.proofs.lemmas.Result.{on_ok_weaker}
+use Rattle.kl1_user_effects.proofs.States.{found_shoen_in}
+use Rattle.kl1_user_effects.proofs.Streams.{closed_turns}
+use Rattle.kl1_user_effects.proofs.LateFree.{same_free, closed_free}
+use Rattle.kl1_machine.specs.Machines.{made}
+use Rattle.kl1_machine.proofs.Keeping.{grown_machine, keeps_same, keeps_store}
+use Rattle.kl1_machine.proofs.Sincing.{since_store}
 use Rattle.kl1_machine.proofs.Telling.{unclosed}
 use Rattle.kl1_machine.proofs.machine.Machine.close.Goals as goal
 

@@ -1,4 +1,4 @@
-use Rattle.kl1_machine.proofs.Words.{◌∙◌}
+use Rattle.std.proofs.Common.{◌∙◌}
 use Rattle.kl1_machine.proofs.Late.{late_unclosed, late_closes}
 use Rattle.kl1_machine.proofs.machine.Machine.close_late.Goals as goal
 

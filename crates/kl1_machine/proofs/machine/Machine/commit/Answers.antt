@@ -1,6 +1,17 @@
-use Rattle.kl1_machine.proofs.Words.{◌≡◌, ◌+◌, List, sym, ◌∙◌, arith, subst, Some, on_ok_weaker, CellName, Qualified, AreQualifiedIn, taken_places, priorities_by, on_ok_both, never_absent, found_shoen_in, with_goals}
+use Rattle.std.proofs.Common.{◌≡◌, ◌+◌, List, sym, ◌∙◌, arith, subst}
+use Rattle.std.specs.Prelude.{Some}
+use Rattle.std.proofs.lemmas.Result.{on_ok_weaker}
+use Rattle.kl1_text.specs.declared.cell_name.CellName.{CellName}
+use Rattle.kl1_store.specs.declared.qualified.Qualified.{Qualified}
+use Rattle.kl1_store.specs.InModules.{AreQualifiedIn}
+use Rattle.kl1_goals_moves.specs.Moves.{taken_places}
+use Rattle.kl1_user_effects.specs.Moving.{priorities_by}
+use Rattle.kl1_user_effects.proofs.Frames.{on_ok_both}
+use Rattle.kl1_user_effects.proofs.TreesIn.{never_absent}
+use Rattle.kl1_user_effects.proofs.States.{found_shoen_in}
+use Rattle.kl1_machine.specs.Effects.{with_goals}
 use Rattle.kl1_machine.proofs.Keeping.{grown_machine}
-use Rattle.kl1_machine.proofs.Sincing.{still, since_store, since_counts}
+use Rattle.kl1_machine.proofs.Sincing.{since_store, since_counts}
 use Rattle.kl1_machine.proofs.Bodies.{commits_exhausted, commits_body, with_needs, needs_machine}
 use Rattle.kl1_machine.proofs.machine.Machine.commit.Goals as goal
 
@@ -78,4 +89,4 @@ returns-clause-since c b s =
     c.put_each.ensures.since b (since_counts b (record m { store = k }) _ _ m.counts.reports (since_store b m k (record { grown = e.grown; hooks = e.hooks }) s))
 
 pub returns-in_err-commit-clause-since : goal.returns-in_err-commit-clause-since
-returns-in_err-commit-clause-since c b s = still c.from_residual.result b _ (since_store b c.args.self.now c.commit.new.store (record { grown = c.commit.ensures.grown; hooks = c.commit.ensures.hooks }) s)
+returns-in_err-commit-clause-since c b s = (since_store b c.args.self.now c.commit.new.store (record { grown = c.commit.ensures.grown; hooks = c.commit.ensures.hooks }) s).keeps

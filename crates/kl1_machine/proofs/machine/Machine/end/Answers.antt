@@ -1,4 +1,7 @@
-use Rattle.kl1_machine.proofs.Words.{refl, terminated, CellName, Shoen}
+use Rattle.std.proofs.Common.{refl}
+use Rattle.kl1_user_effects.specs.Walks.{terminated}
+use Rattle.kl1_text.specs.declared.cell_name.CellName.{CellName}
+use Rattle.kl1_shoen_paths.specs.declared.shoen.Shoen.{Shoen}
 use Rattle.kl1_machine.proofs.Shoens.{shifts_one, since_one}
 use Rattle.kl1_machine.proofs.machine.Machine.end.Goals as goal
 

@@ -1,4 +1,5 @@
-use Rattle.kl1_machine.proofs.Words.{arith}
+use Rattle.std.proofs.Common.{arith}
+use Rattle.kl1_machine.proofs.Keeping.{keeps_same, keeps_then}
 use Rattle.kl1_machine.proofs.Ending.{first_walked, next_walked, last_walked}
 use Rattle.kl1_machine.proofs.machine.Machine.end_lives.Goals as goal
 
@@ -7,6 +8,9 @@ loop-at-init c = record {
   walked = first_walked c.args.self.now c.args.number c.clear.new.self.items c.requires.machine c.clear.ensures.items;
   since = λ b s. s;
 }
+
+pub end_one-requires : goal.end_one-requires
+end_one-requires c = record { machine = c.loop-at.invariant.walked.machine; lives = c.living_step-step.ensures.lives }
 
 pub loop-at-preserved : goal.loop-at-preserved
 loop-at-preserved c =

@@ -1,5 +1,6 @@
 -- the shoens on the path so far have been looked at, and what an event has done is kept
-use Rattle.kl1_machine.proofs.Words.{Machine, Since}
+use Rattle.kl1_machine.specs.declared.machine.Machine.{Machine}
+use Rattle.kl1_machine.specs.Since.{Since}
 use Rattle.kl1_machine.proofs.Ending.{IsWalked}
 use Rattle.kl1_machine.proofs.machine.Machine.end_lives.Given as goal
 

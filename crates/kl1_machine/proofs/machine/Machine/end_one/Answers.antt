@@ -1,3 +1,4 @@
+use Rattle.kl1_machine.proofs.Keeping.{keeps_same}
 use Rattle.kl1_machine.proofs.Ending.{not_ended, has_ended}
 use Rattle.kl1_machine.proofs.machine.Machine.end_one.Goals as goal
 

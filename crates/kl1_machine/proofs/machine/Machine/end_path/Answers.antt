@@ -1,5 +1,8 @@
-use Rattle.kl1_machine.proofs.Words.{ℕ, List, sym, subst, ◌∙◌, on_ok_weaker, LivesEnd}
-use Rattle.kl1_machine.proofs.Ending.{comes_after}
+use Rattle.std.proofs.Common.{ℕ, List, sym, subst, ◌∙◌}
+use Rattle.std.proofs.lemmas.Result.{on_ok_weaker}
+use Rattle.kl1_machine.specs.Ending.{LivesEnd}
+use Rattle.kl1_machine.proofs.Keeping.{keeps_then}
+use Rattle.kl1_machine.proofs.Ending.{comes_after, since_then}
 use Rattle.kl1_machine.proofs.machine.Machine.end_path.Goals as goal
 
 pub returns-clause-ok : goal.returns-clause-ok

@@ -1,9 +1,19 @@
-use Rattle.kl1_machine.proofs.Words.{List, ℕ, ◌∙◌, sym, subst, on_ok_weaker, exhausted_report, report_each_late, finished_each_late, LivesEnd}
+use Rattle.std.proofs.Common.{List, ℕ, ◌∙◌, sym, subst}
+use Rattle.std.proofs.lemmas.Result.{on_ok_weaker}
+use Rattle.kl1_model.specs.Report.{exhausted_report}
+use Rattle.kl1_user_effects.specs.Late.{report_each_late, finished_each_late}
+use Rattle.kl1_machine.specs.Ending.{LivesEnd}
 use Rattle.kl1_machine.proofs.Late.{late_settles, late_then, within_then}
 use Rattle.kl1_machine.proofs.machine.Machine.end_path_late.Goals as goal
 
+pub report_each_late-requires-clause-machine : goal.report_each_late-requires-clause-machine
+report_each_late-requires-clause-machine c = c.in_ok-end_lives.ensures.ok.machine
+
 pub report_each_late-requires-clause-within : goal.report_each_late-requires-clause-within
 report_each_late-requires-clause-within c = within_then c.args.variable c.args.self.now c.end_lives.new.self c.requires.within (c.in_ok-end_lives.ensures.since c.args.self.now)
+
+pub finish_each_late-requires-clause-machine : goal.finish_each_late-requires-clause-machine
+finish_each_late-requires-clause-machine c = c.in_ok-report_each_late.ensures.ok.machine
 
 pub finish_each_late-requires-clause-within : goal.finish_each_late-requires-clause-within
 finish_each_late-requires-clause-within c =

@@ -1,5 +1,7 @@
-use Rattle.kl1_machine.proofs.Words.{refl, arith, finished, finished_each}
-use Rattle.kl1_machine.proofs.Ending.{finishes, each_left, none_left}
+use Rattle.std.proofs.Common.{refl, arith}
+use Rattle.kl1_user_effects.specs.Endings.{finished, finished_each}
+use Rattle.kl1_machine.proofs.Keeping.{keeps_same, keeps_then}
+use Rattle.kl1_machine.proofs.Ending.{each_left, none_left}
 use Rattle.kl1_machine.proofs.machine.Machine.finish_each.Goals as goal
 
 pub loop-number-init : goal.loop-number-init
@@ -7,14 +9,12 @@ loop-number-init c = record { turns = λ n t. t; machine = c.requires.machine; s
 
 pub loop-number-preserved : goal.loop-number-preserved
 loop-number-preserved c =
-    let u = c.loop-number.self in
     let i = c.loop-number.invariant in
-    let closed = c.in_ok-close.ensures in
-    let one = finishes u c.remove_monitor.new.self c.report_name.new.self c.close.new.self _ c.in_ok-remove_monitor.ensures.ok c.in_ok-report_name.ensures.ok closed.ok in
+    let one = c.in_ok-finish.ensures in
     record {
-      turns = each_left (λ ns f. finished_each ns) (λ n f. finished n) (λ n ns f s. refl) c.args.numbers.now c.loop-number.number-index c.args.self.now u c.close.new.self c.loop-number-test.true i.turns one;
-      machine = closed.ok.machine;
-      since = λ b s. closed.since b (c.in_ok-report_name.ensures.since b (c.in_ok-remove_monitor.ensures.since b (i.since b s)));
+      turns = each_left (λ ns f. finished_each ns) (λ n f. finished n) (λ n ns f s. refl) c.args.numbers.now c.loop-number.number-index c.args.self.now c.loop-number.self c.finish.new.self c.loop-number-test.true i.turns one.ok;
+      machine = one.ok.machine;
+      since = λ b s. one.since b (i.since b s);
     }
 
 pub returns-clause-ok : goal.returns-clause-ok

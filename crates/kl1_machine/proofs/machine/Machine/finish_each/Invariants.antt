@@ -1,5 +1,10 @@
 -- with the terminations that are left there are all, and what an event has done is kept
-use Rattle.kl1_machine.proofs.Words.{drop, finished_each, Machine, IsMachine, Since, TurnsAs}
+use Rattle.std.proofs.Common.{drop}
+use Rattle.kl1_user_effects.specs.Endings.{finished_each}
+use Rattle.kl1_machine.specs.declared.machine.Machine.{Machine}
+use Rattle.kl1_machine.specs.Machines.{IsMachine}
+use Rattle.kl1_machine.specs.Since.{Since}
+use Rattle.kl1_machine.specs.Effects.{TurnsAs}
 use Rattle.kl1_machine.proofs.machine.Machine.finish_each.Given as goal
 
 abbrev pub invariant-loop-number : goal.invariant-loop-number

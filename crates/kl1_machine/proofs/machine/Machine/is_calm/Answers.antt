@@ -1,4 +1,4 @@
-use Rattle.kl1_machine.proofs.Words.{sym, ◌∙◌}
+use Rattle.std.proofs.Common.{sym, ◌∙◌}
 use Rattle.kl1_machine.proofs.Calm.{calm_lives, calm_unreached}
 use Rattle.kl1_machine.proofs.machine.Machine.is_calm.Goals as goal
 

@@ -1,4 +1,9 @@
-use Rattle.kl1_machine.proofs.Words.{◌≡◌, length, sym, ap, ◌∙◌, arith, subst, on_ok_weaker, CellName, IsIn, Kept, Tree, Machine}
+use Rattle.std.proofs.Common.{◌≡◌, length, sym, ap, ◌∙◌, arith, subst}
+use Rattle.std.proofs.lemmas.Result.{on_ok_weaker}
+use Rattle.kl1_store.specs.Held.{IsIn}
+use Rattle.kl1_store.specs.Hooks.{Kept}
+use Rattle.kl1_shoen.specs.Shoens.{Tree}
+use Rattle.kl1_machine.specs.declared.machine.Machine.{Machine}
 use Rattle.kl1_machine.proofs.Opening.{one_more, no_monitor_yet, put_beside, joined}
 use Rattle.kl1_machine.proofs.PlainStays.{joined_plain}
 use Rattle.kl1_machine.proofs.machine.Machine.join.Goals as goal
@@ -37,5 +42,5 @@ returns-clause-ok c =
 pub returns-clause-plain : goal.returns-clause-plain
 returns-clause-plain c f g shoen cell p =
     on_ok_weaker c.put-2.result
-    (λ put. joined_plain f g c.args.shoen c.args.goal _ c.args.self.now c.open.new.self c.put.new.self c.put-2.new.self (record { number = c.requires.number; taken = c.in_ok-open.ensures.ok; monitor = c.in_ok-put.ensures.ok; goal = put }) (shoen, cell) p)
+    (λ put. joined_plain f g c.args.shoen c.args.goal _ c.args.self.now c.open.new.self c.put.new.self c.put-2.new.self (record { number = c.requires.number; taken = c.in_ok-open.ensures.ok; monitor = c.in_ok-put.ensures.ok; goal = put }) shoen cell p)
     c.put-2.ensures.ok

@@ -1,4 +1,8 @@
-use Rattle.kl1_machine.proofs.Words.{ℕ, List, sym, subst, on_ok_weaker, AreBelow}
+use Rattle.std.proofs.Common.{ℕ, List, sym, subst}
+use Rattle.std.proofs.lemmas.Result.{on_ok_weaker}
+use Rattle.kl1_shoen.specs.Shoens.{AreBelow}
+use Rattle.kl1_machine.proofs.Keeping.{keeps_same, keeps_then}
+use Rattle.kl1_machine.proofs.Ending.{since_then}
 use Rattle.kl1_machine.proofs.Hearing.{aborts_after, aborted}
 use Rattle.kl1_machine.proofs.machine.Machine.obey_abort.Goals as goal
 

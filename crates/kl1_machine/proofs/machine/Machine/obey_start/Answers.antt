@@ -1,4 +1,10 @@
-use Rattle.kl1_machine.proofs.Words.{refl, sym, ◌∙◌, Some, None, on_ok_weaker, resumed_of, goes_on_already, not_so, so_after_all}
+use Rattle.std.proofs.Common.{refl, sym, ◌∙◌}
+use Rattle.std.specs.Prelude.{Some, None}
+use Rattle.std.proofs.lemmas.Result.{on_ok_weaker}
+use Rattle.kl1_model.specs.code.Steps.{resumed_of}
+use Rattle.kl1_user_effects.proofs.Effects.{goes_on_already, not_so, so_after_all}
+use Rattle.kl1_machine.proofs.Keeping.{keeps_same, keeps_then}
+use Rattle.kl1_machine.proofs.Ending.{since_then}
 use Rattle.kl1_machine.proofs.Hearing.{unmoved, resumed}
 use Rattle.kl1_machine.proofs.machine.Machine.obey_start.Goals as goal
 

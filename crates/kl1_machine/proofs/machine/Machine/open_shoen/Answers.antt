@@ -1,4 +1,7 @@
-use Rattle.kl1_machine.proofs.Words.{true, false, arith, ne_eqb, eq-eqb, on_ok_weaker, report, started_report, exhausted_report}
+use Rattle.std.proofs.Common.{true, false, arith}
+use Rattle.std.proofs.lemmas.Bool.{ne_eqb, eq-eqb}
+use Rattle.std.proofs.lemmas.Result.{on_ok_weaker}
+use Rattle.kl1_model.specs.Report.{report, started_report, exhausted_report}
 use Rattle.kl1_machine.proofs.Ending.{as_then}
 use Rattle.kl1_machine.proofs.Opening.{opened}
 use Rattle.kl1_machine.proofs.machine.Machine.open_shoen.Goals as goal
@@ -17,6 +20,3 @@ returns-clause-ok c =
     (λ last. opened h c.args.goal c.args.self.now u w true (eq-eqb h.allowance 0 (omega (arith, c.if-shoen-ne0.false))) c.in_ok-join.ensures.ok
     (as_then (λ f. report h.number started_report) (λ f. report h.number exhausted_report) u c.report_name.new.self w c.in_ok-report_name.ensures.ok last))
     c.report_name-2.ensures.ok
-
-pub returns-then-shoen-ne0-clause-plain : goal.returns-then-shoen-ne0-clause-plain
-returns-then-shoen-ne0-clause-plain c f g shoen cell p = c.in_ok-report_name.ensures.plain f g (c.in_ok-join.ensures.plain f g shoen cell p)

@@ -1,5 +1,8 @@
-use Rattle.kl1_machine.proofs.Words.{sym, ◌∙◌, subst, CellName, Held, Grown}
-use Rattle.kl1_machine.proofs.Sincing.{still, since_store}
+use Rattle.std.proofs.Common.{sym, ◌∙◌, subst}
+use Rattle.kl1_text.specs.declared.cell_name.CellName.{CellName}
+use Rattle.kl1_store.specs.Held.{Held}
+use Rattle.kl1_store.specs.Sound.{Grown}
+use Rattle.kl1_machine.proofs.Sincing.{since_store}
 use Rattle.kl1_machine.proofs.Unifying.{same_grows}
 use Rattle.kl1_machine.proofs.Starting.{fresh_grows, streams_opened}
 use Rattle.kl1_machine.proofs.machine.Machine.open_streams.Goals as goal
@@ -14,11 +17,11 @@ pub returns-clause-since : goal.returns-clause-since
 returns-clause-since c b = let o = returns-clause-ok c in since_store b c.args.self.now c.fresh-2.new.self (record { grown = o.grown; hooks = o.hooks })
 
 pub returns-in_err-fresh-clause-since : goal.returns-in_err-fresh-clause-since
-returns-in_err-fresh-clause-since c b s = still c.from_residual.result b _ (since_store b c.args.self.now c.fresh.new.self (same_grows c.args.self.now c.fresh.new.self c.in_err-fresh.ensures.err c.fresh.ensures.hooks) s)
+returns-in_err-fresh-clause-since c b s = (since_store b c.args.self.now c.fresh.new.self (same_grows c.args.self.now c.fresh.new.self c.in_err-fresh.ensures.err c.fresh.ensures.hooks) s).keeps
 
 pub returns-in_err-fresh-2-clause-since : goal.returns-in_err-fresh-2-clause-since
 returns-in_err-fresh-2-clause-since c b s =
     let m = c.args.self.now in
     let G : Held CellName → Type 0 = λ h. Grown m.store.held h in
     let grown = subst G (sym c.in_err-fresh-2.ensures.err) (fresh_grows m.store.held c.fresh.new.self.held c.in_ok-fresh.ensures.ok.1) in
-    still c.from_residual-in_err-fresh-2.result b _ (since_store b m c.fresh-2.new.self (record { grown = grown; hooks = c.fresh-2.ensures.hooks ∙ c.fresh.ensures.hooks }) s)
+    (since_store b m c.fresh-2.new.self (record { grown = grown; hooks = c.fresh-2.ensures.hooks ∙ c.fresh.ensures.hooks }) s).keeps

@@ -1,5 +1,5 @@
-use Rattle.kl1_machine.proofs.Words.{arith}
-use Rattle.kl1_machine.proofs.Keeping.{puts_one}
+use Rattle.std.proofs.Common.{arith}
+use Rattle.kl1_machine.proofs.Keeping.{puts_one, keeps_put, keeps_same}
 use Rattle.kl1_machine.proofs.Sincing.{since_put}
 use Rattle.kl1_machine.proofs.machine.Machine.put.Goals as goal
 
@@ -18,9 +18,7 @@ put-requires-clause-next c =
     }
 
 pub returns-clause-ok : goal.returns-clause-ok
-returns-clause-ok c =
-    puts_one c.args.self.now c.put.new.self c.args.shoen c.args.priority c.in_ok-number.number c.args.task c.requires.machine c.requires.task c.requires.shoen
-    (record { number = c.in_ok-number.ensures; goals = c.in_ok-put.ensures.ok; last = c.in_ok-put.ensures.last; rest = c.put.ensures.rest })
+returns-clause-ok c = puts_one c.args.self.now c.put.new.self c.args.shoen c.args.priority c.in_ok-number.number c.args.task c.requires.machine c.requires.task c.requires.shoen c.in_ok-number.ensures c.in_ok-put.ensures.ok c.in_ok-put.ensures.last c.put.ensures.rest
 
 pub returns-clause-since : goal.returns-clause-since
 returns-clause-since c b = since_put b c.args.self.now _ c.args.shoen c.args.priority c.args.task (returns-clause-ok c)

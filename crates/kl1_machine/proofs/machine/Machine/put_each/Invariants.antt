@@ -1,5 +1,12 @@
 -- with goals for the cells that are left there are all, and it is a machine that keeps what was
-use Rattle.kl1_machine.proofs.Words.{◌≡◌, length, Some, AreQualifiedIn, priorities_by, Machine, IsMachine, Since, with_goals}
+use Rattle.std.proofs.Common.{◌≡◌, length}
+use Rattle.std.specs.Prelude.{Some}
+use Rattle.kl1_store.specs.InModules.{AreQualifiedIn}
+use Rattle.kl1_user_effects.specs.Moving.{priorities_by}
+use Rattle.kl1_machine.specs.declared.machine.Machine.{Machine}
+use Rattle.kl1_machine.specs.Machines.{IsMachine}
+use Rattle.kl1_machine.specs.Since.{Since}
+use Rattle.kl1_machine.specs.Effects.{with_goals}
 use Rattle.kl1_machine.proofs.machine.Machine.put_each.Given as goal
 
 abbrev pub invariant-loop-left : goal.invariant-loop-left

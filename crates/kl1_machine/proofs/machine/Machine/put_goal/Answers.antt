@@ -1,10 +1,13 @@
-use Rattle.kl1_machine.proofs.Words.{arith}
-use Rattle.kl1_machine.proofs.Sincing.{still, since_store}
+use Rattle.std.proofs.Common.{arith}
+use Rattle.kl1_machine.proofs.Sincing.{since_store}
 use Rattle.kl1_machine.proofs.Answering.{bound_grows, put_brings}
 use Rattle.kl1_machine.proofs.machine.Machine.put_goal.Goals as goal
 
 pub unify_cells-requires-clause-left_in : goal.unify_cells-requires-clause-left_in
 unify_cells-requires-clause-left_in c = omega (arith, c.requires.can.unbound.within, c.in_ok-cell.ensures.ok.variables)
+
+pub unify_cells-requires-clause-right_in : goal.unify_cells-requires-clause-right_in
+unify_cells-requires-clause-right_in c = c.in_ok-cell.ensures.ok.inside
 
 pub returns-clause-ok : goal.returns-clause-ok
 returns-clause-ok c =
@@ -23,4 +26,4 @@ returns-clause-since c b s =
 pub returns-in_err-_unified-clause-since : goal.returns-in_err-_unified-clause-since
 returns-in_err-_unified-clause-since c b s =
     let u = c.unify_cells.ensures in
-    still c.from_residual-in_err-_unified.result b _ (since_store b c.build_goal.new.self c.unify_cells.new.self (bound_grows c.build_goal.new.self c.unify_cells.new.self u.bound u.hooks) (c.in_ok-cell.ensures.since b s))
+    (since_store b c.build_goal.new.self c.unify_cells.new.self (bound_grows c.build_goal.new.self c.unify_cells.new.self u.bound u.hooks) (c.in_ok-cell.ensures.since b s)).keeps

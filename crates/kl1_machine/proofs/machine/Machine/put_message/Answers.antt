@@ -1,6 +1,9 @@
-use Rattle.kl1_machine.proofs.Words.{ap, Machine, next_in}
-use Rattle.kl1_machine.proofs.Keeping.{grown_machine}
-use Rattle.kl1_machine.proofs.Sending.{nothing_sent, sent_as}
+use Rattle.std.proofs.Common.{◌+◌, ap}
+use Rattle.kl1_machine.specs.declared.machine.Machine.{Machine}
+use Rattle.kl1_user_effects.proofs.Works.{next_in}
+use Rattle.kl1_machine.proofs.Keeping.{keeps_store, keeps_then, grown_machine}
+use Rattle.kl1_machine.proofs.Sincing.{since_store, since_counts}
+use Rattle.kl1_machine.proofs.Sending.{nothing_sent, sent_as, keeps_counting}
 use Rattle.kl1_machine.proofs.machine.Machine.put_message.Goals as goal
 
 pub returns-in_default-clause-ok : goal.returns-in_default-clause-ok

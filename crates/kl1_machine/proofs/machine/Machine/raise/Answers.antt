@@ -1,5 +1,7 @@
-use Rattle.kl1_machine.proofs.Words.{sym, ◌∙◌, on_ok_weaker}
-use Rattle.kl1_machine.proofs.Keeping.{grown_machine}
+use Rattle.std.proofs.Common.{sym, ◌∙◌}
+use Rattle.std.proofs.lemmas.Result.{on_ok_weaker}
+use Rattle.kl1_machine.proofs.Keeping.{keeps_store, keeps_then, grown_machine}
+use Rattle.kl1_machine.proofs.Sincing.{since_store}
 use Rattle.kl1_machine.proofs.Raising.{raised_alone, raised_whole}
 use Rattle.kl1_machine.proofs.machine.Machine.raise.Goals as goal
 

@@ -1,4 +1,5 @@
-use Rattle.kl1_machine.proofs.Keeping.{grown_machine}
+use Rattle.kl1_machine.proofs.Keeping.{keeps_store, keeps_then, grown_machine}
+use Rattle.kl1_machine.proofs.Sincing.{since_store}
 use Rattle.kl1_machine.proofs.Raising.{exception_reported}
 use Rattle.kl1_machine.proofs.machine.Machine.raise_whole.Goals as goal
 

@@ -1,4 +1,10 @@
-use Rattle.kl1_machine.proofs.Words.{ℕ, Bool, ◌∙◌, arith, subst, on_ok_weaker, Variable, Grown-trans, Substitutes, asked, next_still, next_there, next_grown, Tells, Puts}
+use Rattle.std.proofs.Common.{ℕ, Bool, ◌∙◌, arith, subst}
+use Rattle.std.proofs.lemmas.Result.{on_ok_weaker}
+use Rattle.kl1_store.specs.declared.cell.Cell.TheVariants.{Variable}
+use Rattle.kl1_store.proofs.Grows.{Grown-trans}
+use Rattle.kl1_goals.specs.declared.task.Task.TheVariants.{Substitutes}
+use Rattle.kl1_user_effects.proofs.Substituting.{asked, next_still, next_there, next_grown}
+use Rattle.kl1_machine.specs.Effects.{Tells, Puts}
 use Rattle.kl1_machine.proofs.Keeping.{grown_machine}
 use Rattle.kl1_machine.proofs.Sincing.{since_same, since_store, since_back}
 use Rattle.kl1_machine.proofs.Raising.{Asks, asks_task, raised_asked, raised_unasked}
@@ -76,10 +82,3 @@ returns-clause-ok c =
     let a = asks (goal.at.returns-clause-ok c).In_ok-message in
     let s = c.in_ok-tell.ensures.since m (since_store m m k a.grows (since_same m)) in
     raised_unasked m k c.args.goal c.args.kind c.args.term message u c.back.new.self a (subst T c.if-branch.false c.in_ok-tell.ensures.ok) (c.back.ensures.held m.store c.mark-mark.ensures.point s.keeps.grown) (c.back.ensures.hooks m.store c.mark-mark.ensures.point s.keeps.grown)
-
-pub returns-clause-since : goal.returns-clause-since
-returns-clause-since c b s =
-    let m = c.args.self.now in
-    let a = asks (goal.at.returns-clause-since c).In_ok-message in
-    let t = c.in_ok-tell.ensures.since m (since_store m m c.exception_with.new.store a.grows (since_same m)) in
-    since_back b m c.tell.new.self c.back.new.self (c.back.ensures.held m.store c.mark-mark.ensures.point t.keeps.grown) (c.back.ensures.hooks m.store c.mark-mark.ensures.point t.keeps.grown) s (c.in_ok-tell.ensures.since b (since_store b m c.exception_with.new.store a.grows s))

@@ -1,4 +1,4 @@
-use Rattle.kl1_machine.proofs.Words.{is_other}
+use Rattle.kl1_goals.specs.Lists.{is_other}
 use Rattle.kl1_machine.proofs.Sincing.{fewer_becomes, fewer_since}
 use Rattle.kl1_machine.proofs.machine.Machine.remove.Goals as goal
 

@@ -1,4 +1,5 @@
-use Rattle.kl1_machine.proofs.Words.{not, is_monitor_of}
+use Rattle.std.proofs.Common.{not}
+use Rattle.kl1_goals.specs.Lists.{is_monitor_of}
 use Rattle.kl1_machine.proofs.Sincing.{fewer_becomes, fewer_since}
 use Rattle.kl1_machine.proofs.machine.Machine.remove_monitor.Goals as goal
 

@@ -1,4 +1,5 @@
-use Rattle.kl1_machine.proofs.Words.{arith}
+use Rattle.std.proofs.Common.{arith}
+use Rattle.kl1_machine.proofs.Keeping.{keeps_same, keeps_then}
 use Rattle.kl1_machine.proofs.Hearing.{first_rid, next_rid, last_rid}
 use Rattle.kl1_machine.proofs.machine.Machine.remove_of_each.Goals as goal
 

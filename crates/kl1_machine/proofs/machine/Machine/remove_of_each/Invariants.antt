@@ -1,5 +1,6 @@
 -- the goals of the shoens so far are gone, and what an event has done is kept
-use Rattle.kl1_machine.proofs.Words.{Machine, Since}
+use Rattle.kl1_machine.specs.declared.machine.Machine.{Machine}
+use Rattle.kl1_machine.specs.Since.{Since}
 use Rattle.kl1_machine.proofs.Hearing.{IsRid}
 use Rattle.kl1_machine.proofs.machine.Machine.remove_of_each.Given as goal
 

@@ -1,4 +1,8 @@
-use Rattle.kl1_machine.proofs.Words.{refl, arith, atom, text_of, report, report_each}
+use Rattle.std.proofs.Common.{refl, arith}
+use Rattle.kl1_model.specs.Term.{atom}
+use Rattle.kl1_model.specs.Text.{text_of}
+use Rattle.kl1_model.specs.Report.{report, report_each}
+use Rattle.kl1_machine.proofs.Keeping.{keeps_same, keeps_then}
 use Rattle.kl1_machine.proofs.Ending.{each_left, none_left}
 use Rattle.kl1_machine.proofs.machine.Machine.report_each.Goals as goal
 

@@ -1,5 +1,12 @@
 -- with the reports of the shoens that are left there are all, and what an event has done is kept
-use Rattle.kl1_machine.proofs.Words.{drop, atom, text_of, report_each, Machine, IsMachine, Since, TurnsAs}
+use Rattle.std.proofs.Common.{drop}
+use Rattle.kl1_model.specs.Term.{atom}
+use Rattle.kl1_model.specs.Text.{text_of}
+use Rattle.kl1_model.specs.Report.{report_each}
+use Rattle.kl1_machine.specs.declared.machine.Machine.{Machine}
+use Rattle.kl1_machine.specs.Machines.{IsMachine}
+use Rattle.kl1_machine.specs.Since.{Since}
+use Rattle.kl1_machine.specs.Effects.{TurnsAs}
 use Rattle.kl1_machine.proofs.machine.Machine.report_each.Given as goal
 
 abbrev pub invariant-loop-number : goal.invariant-loop-number

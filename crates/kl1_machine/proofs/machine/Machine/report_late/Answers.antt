@@ -1,6 +1,10 @@
-use Rattle.kl1_machine.proofs.Words.{atom, text_of}
+use Rattle.kl1_model.specs.Term.{atom}
+use Rattle.kl1_model.specs.Text.{text_of}
 use Rattle.kl1_machine.proofs.Late.{late_told, within_then}
 use Rattle.kl1_machine.proofs.machine.Machine.report_late.Goals as goal
+
+pub report_name-requires : goal.report_name-requires
+report_name-requires c = record { machine = c.in_ok-break_late.ensures.ok.machine }
 
 pub returns-clause-ok : goal.returns-clause-ok
 returns-clause-ok c =

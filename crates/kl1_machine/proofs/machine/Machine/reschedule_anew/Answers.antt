@@ -1,4 +1,4 @@
-use Rattle.kl1_machine.proofs.Words.{nobody_lets}
+use Rattle.kl1_ready.proofs.Ready.{nobody_lets}
 use Rattle.kl1_machine.proofs.machine.Machine.reschedule_anew.Goals as goal
 
 pub reschedule-requires-clause-machine : goal.reschedule-requires-clause-machine

@@ -1,7 +1,11 @@
-use Rattle.kl1_machine.proofs.Words.{refl, ap, ◌∙◌, sent_on, meaning, Machine, origin_in}
+use Rattle.std.proofs.Common.{refl, ap, ◌∙◌}
+use Rattle.kl1_model.specs.Sending.{sent_on}
+use Rattle.kl1_user_effects.specs.Account.{meaning}
+use Rattle.kl1_machine.specs.declared.machine.Machine.{Machine}
 use Rattle.kl1_machine.proofs.Keeping.{keeps_same}
 use Rattle.kl1_machine.proofs.Resting.{turns_rescheduled}
 use Rattle.kl1_machine.proofs.Sincing.{since_same, kept_after}
+use Rattle.kl1_user_effects.proofs.Messages.{origin_in}
 use Rattle.kl1_machine.proofs.Sending.{sends_as}
 use Rattle.kl1_machine.proofs.machine.Machine.send.Goals as goal
 
@@ -33,7 +37,7 @@ pub returns-in-Err-clause-keeps : goal.returns-in-Err-clause-keeps
 returns-in-Err-clause-keeps g c = keeps_same c.args.self.now
 
 pub returns-in_err-put_message-clause-keeps : goal.returns-in_err-put_message-clause-keeps
-returns-in_err-put_message-clause-keeps g c = c.in_err-put_message.ensures.since c.args.self.now (since_same c.args.self.now)
+returns-in_err-put_message-clause-keeps g c = c.put_message.ensures.since c.args.self.now (since_same c.args.self.now)
 
 pub returns-clause-keeps : goal.returns-clause-keeps
 returns-clause-keeps g c = kept_after c.args.self.now c.put_message.new.self c.reschedule_anew.new.self (c.in_ok-put_message.ensures.since c.args.self.now) c.in_ok-reschedule_anew.ensures.keeps

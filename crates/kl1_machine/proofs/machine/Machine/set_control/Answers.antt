@@ -1,4 +1,8 @@
-use Rattle.kl1_machine.proofs.Words.{on_ok_weaker, CellName, Shoen, changed, shoens_changed, changed_count}
+use Rattle.std.proofs.lemmas.Result.{on_ok_weaker}
+use Rattle.kl1_text.specs.declared.cell_name.CellName.{CellName}
+use Rattle.kl1_shoen_paths.specs.declared.shoen.Shoen.{Shoen}
+use Rattle.kl1_shoen.specs.Shoens.{changed}
+use Rattle.kl1_user_effects.proofs.States.{shoens_changed, changed_count}
 use Rattle.kl1_machine.proofs.Shoens.{becomes_told, since_told, told_either}
 use Rattle.kl1_machine.proofs.machine.Machine.set_control.Goals as goal
 

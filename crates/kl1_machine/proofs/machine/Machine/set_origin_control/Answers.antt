@@ -1,4 +1,10 @@
-use Rattle.kl1_machine.proofs.Words.{refl, option_map, with_control, CellName, Shoen, changed, shoens_changed, changed_count}
+use Rattle.std.proofs.Common.{refl}
+use Rattle.std.specs.Prelude.{option_map}
+use Rattle.kl1_shoen.specs.Changes.{with_control}
+use Rattle.kl1_text.specs.declared.cell_name.CellName.{CellName}
+use Rattle.kl1_shoen_paths.specs.declared.shoen.Shoen.{Shoen}
+use Rattle.kl1_shoen.specs.Shoens.{changed}
+use Rattle.kl1_user_effects.proofs.States.{shoens_changed, changed_count}
 use Rattle.kl1_machine.proofs.Shoens.{origin_kept, becomes_left, since_quiet}
 use Rattle.kl1_machine.proofs.machine.Machine.set_origin_control.Goals as goal
 

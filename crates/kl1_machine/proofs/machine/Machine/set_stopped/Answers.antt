@@ -1,4 +1,6 @@
-use Rattle.kl1_machine.proofs.Words.{refl, CellName, Shoen}
+use Rattle.std.proofs.Common.{refl}
+use Rattle.kl1_text.specs.declared.cell_name.CellName.{CellName}
+use Rattle.kl1_shoen_paths.specs.declared.shoen.Shoen.{Shoen}
 use Rattle.kl1_machine.proofs.Shoens.{shifts_one, since_one}
 use Rattle.kl1_machine.proofs.machine.Machine.set_stopped.Goals as goal
 

@@ -1,6 +1,15 @@
-use Rattle.kl1_machine.proofs.Words.{arith}
+use Rattle.std.proofs.Common.{arith}
 use Rattle.kl1_machine.proofs.Starting.{HasStreams, shoens_prepared, started}
 use Rattle.kl1_machine.proofs.machine.Machine.start.Goals as goal
+
+pub open_streams-requires-clause-machine : goal.open_streams-requires-clause-machine
+open_streams-requires-clause-machine c = c.in_ok-goal.ensures.ok.machine
+
+pub open_streams-requires-clause-goal : goal.open_streams-requires-clause-goal
+open_streams-requires-clause-goal c = c.in_ok-goal.ensures.ok.inside
+
+pub open_shoen-requires-clause-machine : goal.open_shoen-requires-clause-machine
+open_shoen-requires-clause-machine c = c.in_ok-origin.ensures.ok.machine
 
 pub open_shoen-requires-clause-number : goal.open_shoen-requires-clause-number
 open_shoen-requires-clause-number c = omega (arith, c.in_ok-number.ensures, c.len.ensures.value)

@@ -1,4 +1,14 @@
-use Rattle.kl1_machine.proofs.Words.{◌≡◌, ℕ, suc, ◌+◌, true, sym, ◌∙◌, arith, subst, CellName, Held, Grown, ToldAs, Dropped, Broken, Sent, built, last_made, torn, tailed, found_shoen_in, shoen_grown, Tells, Since}
+use Rattle.std.proofs.Common.{◌≡◌, ℕ, suc, ◌+◌, true, refl, sym, ◌∙◌, arith, subst}
+use Rattle.kl1_text.specs.declared.cell_name.CellName.{CellName}
+use Rattle.kl1_store.specs.Held.{Held}
+use Rattle.kl1_store.specs.Sound.{Grown}
+use Rattle.kl1_stream.specs.Reports.{ToldAs}
+use Rattle.kl1_stream.specs.declared.told.Told.TheVariants.{Dropped, Broken, Sent}
+use Rattle.kl1_user_effects.specs.Fitting.{built}
+use Rattle.kl1_user_effects.proofs.Works.{last_made, torn, tailed}
+use Rattle.kl1_user_effects.proofs.States.{found_shoen_in, shoen_grown}
+use Rattle.kl1_machine.specs.Effects.{Tells}
+use Rattle.kl1_machine.specs.Since.{Since}
 use Rattle.kl1_machine.proofs.PlainStays.{reported_plain, torn_plain, tailed_plain}
 use Rattle.kl1_machine.proofs.Telling.{Hears, since_heard, tells, tells_by, tells_none}
 use Rattle.kl1_machine.proofs.machine.Machine.tell.Goals as goal
@@ -79,6 +89,12 @@ returns-in_ok-set_tail-in-Sent-clause-since c b s =
     subst R one (since_heard b m l c.args.number c.args.message c.in-Some.shoen (Sent c.in-Sent.next) c.set_tail.new.self c.in_ok-set_tail-in-Sent.ensures.ok a (record { numbered = e.numbered; lower = e.lower; worked = e.worked }) s)
 
 -- ---- cells that stand in goals and shoens
+
+pub returns-in_default-clause-plain : goal.returns-in_default-clause-plain
+returns-in_default-clause-plain c f g p = p
+
+pub returns-in-Dropped-clause-plain : goal.returns-in-Dropped-clause-plain
+returns-in-Dropped-clause-plain c f g p = record { goals = p.goals; shoens = p.shoens }
 
 pub returns-in_ok-break_stream-in-Broken-clause-plain : goal.returns-in_ok-break_stream-in-Broken-clause-plain
 returns-in_ok-break_stream-in-Broken-clause-plain c f g =

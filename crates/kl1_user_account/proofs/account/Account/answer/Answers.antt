@@ -1,7 +1,14 @@
-use Rattle.kl1_user_account.proofs.Words.{◌≡◌, [], refl, sym, ap, ◌∙◌, Term, Transition, sent, with_entry, answered, State, Reading, state_of, kept_in, IsAnswerable, Coded}
-use Rattle.kl1_user_account.specs.declared.answerable.Answering.TheVariants.{Refused}
+use Rattle.std.proofs.Common.{◌≡◌, [], refl, sym, ap, ◌∙◌}
+use Rattle.kl1_model.specs.Term.{Term}
+use Rattle.kl1_model.specs.Event.{Transition, sent, with_entry}
+use Rattle.kl1_model.specs.Answering.{answered}
+use Rattle.kl1_model.specs.State.{State}
+use Rattle.kl1_user_effects.specs.Fitting.{Reading}
+use Rattle.kl1_user_effects.specs.Account.{state_of}
+use Rattle.kl1_user_account.specs.Accounts.{kept_in}
+use Rattle.kl1_user_account.specs.Answering.{IsAnswerable}
+use Rattle.kl1_user_account.specs.declared.answerable.Answering.TheVariants.{Refused, Coded}
 use Rattle.kl1_user_account.proofs.Started.{answers_by, may_answer_it}
-use Rattle.kl1_user_account.proofs.account.Account.answer.Goals.{In-Coded}
 use Rattle.kl1_user_account.proofs.account.Account.answer.Goals as goal
 
 pub returns-in-Refused-clause-step : goal.returns-in-Refused-clause-step

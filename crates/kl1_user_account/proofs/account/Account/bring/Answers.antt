@@ -1,11 +1,21 @@
-use Rattle.kl1_user_account.proofs.Words.{◌≡◌, ◌≤◌, List, length, sym, ap, ap₂, ◌∙◌, subst, MOST_NAMES, with_entry, CellName, Known, with_texts, Account, texts_of, AreSpared, NameShelf, AreSmall, Machine, Trail, change_of, CanBring}
+use Rattle.std.proofs.Common.{◌≡◌, ◌≤◌, List, length, sym, ap, ap₂, ◌∙◌, subst}
+use Rattle.kl1_model.specs.declared.limits.TheConstants.{MOST_NAMES}
+use Rattle.kl1_model.specs.Event.{with_entry}
+use Rattle.kl1_text.specs.declared.cell_name.CellName.{CellName}
+use Rattle.kl1_atoms.specs.declared.known.Known.{Known}
+use Rattle.kl1_clause.specs.NameList.{with_texts}
+use Rattle.kl1_user_effects.specs.Account.{Account, texts_of}
+use Rattle.kl1_user_effects.specs.Exchanging.{AreSpared}
+use Rattle.kl1_user_effects.specs.Naming.{NameShelf, AreSmall}
+use Rattle.kl1_machine.specs.declared.machine.Machine.{Machine}
+use Rattle.kl1_machine.specs.Machines.{Trail}
+use Rattle.kl1_machine.specs.Bringing.{change_of, CanBring}
 use Rattle.kl1_user_account.proofs.Machines.{Aside, aside_of, began, began_rested, Ends}
 use Rattle.kl1_user_account.proofs.Bringing.{IsBrought, brought_ends}
-use Rattle.kl1_user_account.proofs.account.Account.bring.Goals.{In_ok-or_back, After-note_entry}
 use Rattle.kl1_user_account.proofs.account.Account.bring.Goals as goal
 
-pub bring-done-requires-clause-can : goal.bring-done-requires-clause-can
-bring-done-requires-clause-can g c =
+pub bring-requires-clause-can : goal.bring-requires-clause-can
+bring-requires-clause-can g c =
     let P : Machine → Type 0 = λ m. CanBring m.store.held m.counts.variables m.counts.nodes c.as_slice-spares.result.now c.args.brought.now in
     let A : Account → Type 0 = λ a. CanBring a.held a.variables a.nodes c.as_slice-spares.result.now c.args.brought.now in
     subst P (sym c.begin.ensures.same) (subst A (sym c.self.view_is) (c.requires.may.can c.as_slice-spares.result.now (ap length c.as_slice-spares.ensures.value ∙ c.in_ok-rows.ensures.rows.count)))
@@ -22,22 +32,22 @@ known_same : (g : _) (c : goal.In_ok-or_back g) → c.or_back.new.self.names.nam
 known_same g c = ap (λ (k : NameShelf). k.names) (names_same g c) ∙ c.rows_for.ensures.names ∙ ap (λ (a : Account). a.names) c.self.view_is
 
 pub publish_names-requires-clause-knows : goal.publish_names-requires-clause-knows
-publish_names-requires-clause-knows g c = c.requires.knows ∙ sym (known_same g (goal.at.publish_names-requires-clause-knows g c).In_ok-or_back)
+publish_names-requires-clause-knows g c = c.requires.knows ∙ sym (known_same g c)
 
 pub publish_names-requires-clause-few : goal.publish_names-requires-clause-few
 publish_names-requires-clause-few g c =
     let F : List Known → Type 0 = λ ks. length (with_texts (texts_of ks) c.args.texts.now) ≤ MOST_NAMES in
-    subst F (sym (known_same g (goal.at.publish_names-requires-clause-few g c).In_ok-or_back)) c.requires.may.few
+    subst F (sym (known_same g c)) c.requires.may.few
 
 pub publish_names-requires-clause-small : goal.publish_names-requires-clause-small
 publish_names-requires-clause-small g c =
     let S : List Known → Type 0 = λ ks. AreSmall ks in
-    subst S (ap (λ (a : Account). a.names) c.self.view_is ∙ sym (known_same g (goal.at.publish_names-requires-clause-small g c).In_ok-or_back)) c.self.invariant.0.small
+    subst S (ap (λ (a : Account). a.names) c.self.view_is ∙ sym (known_same g c)) c.self.invariant.0.small
 
 pub publish_names-requires-clause-room : goal.publish_names-requires-clause-room
 publish_names-requires-clause-room g c =
     let R : NameShelf → Type 0 = λ k. length c.args.texts.now ≤ k.room in
-    subst R (sym (names_same g (goal.at.publish_names-requires-clause-room g c).In_ok-or_back)) c.in_ok-rows.ensures.room
+    subst R (sym (names_same g c)) c.in_ok-rows.ensures.room
 
 pub publish_names-requires-clause-spares : goal.publish_names-requires-clause-spares
 publish_names-requires-clause-spares g c = ap length c.as_slice-spares.ensures.value ∙ c.in_ok-rows.ensures.rows.count
@@ -64,7 +74,7 @@ ends g c =
     (ap₂ (λ i k. let z : Aside = record (aside_of u) { entries = i; run = k } in z) c.note_entry.ensures.entries c.note_entry.ensures.run)
 
 pub invariant_of-self-2 : goal.invariant_of-self-2
-invariant_of-self-2 g c = (ends g (goal.at.invariant_of-self-2 g c).After-note_entry).holds
+invariant_of-self-2 g c = (ends g c).holds
 
 pub returns-clause-brings : goal.returns-clause-brings
-returns-clause-brings g c = (ends g (goal.at.returns-clause-brings g c).After-note_entry).states
+returns-clause-brings g c = (ends g c).states

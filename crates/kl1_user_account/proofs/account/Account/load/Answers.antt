@@ -1,8 +1,24 @@
-use Rattle.kl1_user_account.proofs.Words.{◌≡◌, ℕ, suc, false, List, [], ◌∷◌, ◌++◌, refl, sym, ap, ◌∙◌, subst, ◌↔◌, Module, load, loaded, Transition, step, CellName, Known, AreNames, with_texts, Numbered, ArePlaced, own_names, number_of, is_numbered, Program, with_last, placed_still, placed_more, Account, texts_of, state_of, AreNumbersOf, AllSettled, kept_in, Refused, Drafted}
+use Rattle.std.proofs.Common.{◌≡◌, ℕ, suc, false, List, [], ◌∷◌, ◌++◌, refl, sym, ap, ◌∙◌, subst}
+use Rattle.std.specs.Prelude.{◌↔◌}
+use Rattle.kl1_model.specs.Module.{Module}
+use Rattle.kl1_model.specs.Event.{load, loaded, Transition}
+use Rattle.kl1_model.specs.Step.{step}
+use Rattle.kl1_text.specs.declared.cell_name.CellName.{CellName}
+use Rattle.kl1_atoms.specs.declared.known.Known.{Known}
+use Rattle.kl1_atoms.specs.Names.{AreNames}
+use Rattle.kl1_clause.specs.NameList.{with_texts}
+use Rattle.kl1_codes.specs.Numbered.{Numbered, ArePlaced, own_names, number_of}
+use Rattle.kl1_codes.specs.Finding.{is_numbered}
+use Rattle.kl1_codes.specs.Shelves.{Program, with_last}
+use Rattle.kl1_codes.proofs.Placing.{placed_still, placed_more}
+use Rattle.kl1_user_effects.specs.Account.{Account, texts_of, state_of}
+use Rattle.kl1_user_effects.specs.Naming.{AreNumbersOf}
+use Rattle.kl1_machine.specs.Rescheduling.{AllSettled}
+use Rattle.kl1_user_account.specs.Accounts.{kept_in}
+use Rattle.kl1_user_account.specs.declared.loading.Loading.TheVariants.{Refused, Drafted}
 use Rattle.kl1_user_account.proofs.Machines.{Aside, aside_of, account_of, began, Ends}
 use Rattle.kl1_user_account.proofs.Loads.{loads_by, stands_at}
 use Rattle.kl1_user_account.proofs.Loaded.{IsLoaded, with_loaded, loaded_new, loaded_ends}
-use Rattle.kl1_user_account.proofs.account.Account.load.Goals.{After-reserve, After-as_slice, After-note_entry}
 use Rattle.kl1_user_account.proofs.account.Account.load.Goals as goal
 
 -- ---- where the modules of the account stand
@@ -89,7 +105,7 @@ came g c =
 pub push_module-requires-clause-new : goal.push_module-requires-clause-new
 push_module-requires-clause-new g c =
     let P : List Numbered → Type 0 = λ ms. is_numbered ms (number_of (record c.in-Drafted.draft { row = c.as_slice.result.now })) ≡ false in
-    subst P (sym c.reserve.ensures.loaded) (came g (goal.at.push_module-requires-clause-new g c).After-as_slice).0
+    subst P (sym c.reserve.ensures.loaded) (came g c).0
 
 -- what an account has besides its machine, after the load
 beside : (g : _) (c : goal.After-note_entry g) → record (aside_of c.self.inside) { modules = c.push_module.new.modules.loaded; entries = c.note_entry.new.entries; run = c.note_entry.new.run } ≡ with_loaded (aside_of c.self.inside) c.in-Drafted.draft c.as_slice.result.now
@@ -102,11 +118,11 @@ beside g c =
     ∙ ap (A (x.modules ++ d ∷ []) (suc x.entries)) c.note_entry.ensures.run
 
 pub invariant_of-self-2 : goal.invariant_of-self-2
-invariant_of-self-2 g c = ((came g (goal.at.invariant_of-self-2 g c).After-as_slice).1 _ (beside g (goal.at.invariant_of-self-2 g c).After-note_entry)).holds
+invariant_of-self-2 g c = ((came g (goal.at.invariant_of-self-2 g c).After-as_slice).1 _ (beside g c)).holds
 
 pub returns-clause-step : goal.returns-clause-step
 returns-clause-step g c = λ f fits.
     let a : Account = account_of (record (aside_of c.self.inside) { modules = c.push_module.new.modules.loaded; entries = c.note_entry.new.entries; run = c.note_entry.new.run }) (record c.or_back.new.self { names = c.publish.new.known }) in
     let R : List ℕ → Transition = λ t. record { state = state_of f a; reply = loaded t } in
-    ((came g (goal.at.returns-clause-step g c).After-as_slice).1 _ (beside g (goal.at.returns-clause-step g c).After-note_entry)).states f fits
+    ((came g (goal.at.returns-clause-step g c).After-as_slice).1 _ (beside g c)).states f fits
     ∙ ap R (sym (c.module_name-name.ensures ∙ ap (λ (k : Module). k.name) c.code-2.ensures))

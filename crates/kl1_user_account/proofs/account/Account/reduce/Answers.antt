@@ -1,4 +1,6 @@
-use Rattle.kl1_user_account.proofs.Words.{◌≡◌, refl, ap₂, ◌∙◌, reduce, reduced, step}
+use Rattle.std.proofs.Common.{◌≡◌, refl, ap₂, ◌∙◌}
+use Rattle.kl1_model.specs.Event.{reduce, reduced}
+use Rattle.kl1_model.specs.Step.{step}
 use Rattle.kl1_user_account.proofs.Machines.{Aside, aside_of, began, Ends}
 use Rattle.kl1_user_account.proofs.Reductions.{Reduction, refused_step, with_one, Done, reduced_ends}
 use Rattle.kl1_user_account.proofs.account.Account.reduce.Goals as goal

@@ -1,4 +1,9 @@
-use Rattle.kl1_user_account.proofs.Words.{◌≡◌, refl, ap₂, ◌∙◌, control, sent, step, Reads, Reading, built, state_of}
+use Rattle.std.proofs.Common.{◌≡◌, refl, ap₂, ◌∙◌}
+use Rattle.kl1_model.specs.Event.{control, sent}
+use Rattle.kl1_model.specs.Step.{step}
+use Rattle.kl1_text.specs.Reading.{Reads}
+use Rattle.kl1_user_effects.specs.Fitting.{Reading, built}
+use Rattle.kl1_user_effects.specs.Account.{state_of}
 use Rattle.kl1_user_account.proofs.Machines.{Aside, aside_of, account_of, Holds, began}
 use Rattle.kl1_user_account.proofs.Messages.{sent_ends, refused_message}
 use Rattle.kl1_user_account.proofs.account.Account.send.Goals as goal

@@ -1,7 +1,13 @@
-use Rattle.kl1_user_account.proofs.Words.{◌≡◌, ℕ, suc, refl, sym, ap, ◌∙◌, arith, Term, Transition, opened, with_entry, start_goal, State, state_of, kept_in, IsStartable}
+use Rattle.std.proofs.Common.{◌≡◌, ℕ, suc, refl, sym, ap, ◌∙◌, arith}
+use Rattle.kl1_model.specs.Term.{Term}
+use Rattle.kl1_model.specs.Event.{Transition, opened, with_entry}
+use Rattle.kl1_model.specs.Opening.{start_goal}
+use Rattle.kl1_model.specs.State.{State}
+use Rattle.kl1_user_effects.specs.Account.{state_of}
+use Rattle.kl1_user_account.specs.Accounts.{kept_in}
+use Rattle.kl1_user_account.specs.Starting.{IsStartable}
 use Rattle.kl1_user_account.specs.declared.startable.Starting.TheVariants.{Refused, Coded}
 use Rattle.kl1_user_account.proofs.Started.{starts_by, may_start_it}
-use Rattle.kl1_user_account.proofs.account.Account.start.Goals.{In-Coded}
 use Rattle.kl1_user_account.proofs.account.Account.start.Goals as goal
 
 pub returns-in-Refused-clause-step : goal.returns-in-Refused-clause-step

@@ -1,4 +1,5 @@
-use Rattle.kl1_user_effects.proofs.Words.{sym, ◌∙◌, searched}
+use Rattle.std.proofs.Common.{sym, ◌∙◌}
+use Rattle.std.proofs.lemmas.List.Sorted.{searched}
 use Rattle.kl1_user_effects.proofs.Swapping.{not_found}
 use Rattle.kl1_user_effects.proofs.renaming.Exchange.is_in_row.Goals as goal
 

@@ -1,4 +1,5 @@
-use Rattle.kl1_user_effects.proofs.Words.{ap, ◌∙◌, add-one, swapped_one}
+use Rattle.std.proofs.Common.{ap, ◌∙◌, add-one}
+use Rattle.kl1_user_effects.specs.Exchanging.{swapped_one}
 use Rattle.kl1_user_effects.proofs.Swapping.{swapped_more}
 use Rattle.kl1_user_effects.proofs.renaming.Exchange.swapped.Goals as goal
 

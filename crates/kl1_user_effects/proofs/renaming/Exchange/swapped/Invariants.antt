@@ -1,4 +1,5 @@
-use Rattle.kl1_user_effects.proofs.Words.{◌≡◌, take, swapped_all}
+use Rattle.std.proofs.Common.{◌≡◌, take}
+use Rattle.kl1_user_effects.specs.Exchanging.{swapped_all}
 use Rattle.kl1_user_effects.proofs.renaming.Exchange.swapped.Given as goal
 
 -- the name after the exchanges so far

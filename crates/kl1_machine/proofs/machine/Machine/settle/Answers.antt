@@ -1,0 +1,12 @@
+use Rattle.std.proofs.Common.{ℕ, List, sym, subst}
+use Rattle.std.proofs.lemmas.Result.{on_ok_weaker}
+use Rattle.kl1_machine.specs.Ending.{LivesEnd}
+use Rattle.kl1_machine.proofs.Keeping.{keeps_then}
+use Rattle.kl1_machine.proofs.Ending.{settles, since_then}
+use Rattle.kl1_machine.proofs.machine.Machine.settle.Goals as goal
+
+pub returns-clause-ok : goal.returns-clause-ok
+returns-clause-ok c =
+    let ending = c.as_slice.result.now in
+    let L : List ℕ → Type 0 = λ ns. LivesEnd c.args.number ns c.args.self.now c.end_lives.new.self in
+    on_ok_weaker c.finish_each.result (settles c.args.self.now c.end_lives.new.self c.finish_each.new.self c.args.number ending c.requires.machine (subst L (sym c.as_slice.ensures.value) c.in_ok-end_lives.ensures.ok)) c.finish_each.ensures.ok
