@@ -1,17 +1,18 @@
 -- Walks along the places of a shoen.
-use Rattle.std.proofs.Common.{◌≡◌, ℕ, zero, suc, ◌+◌, ◌<◌, ◌≤◌, ◌==◌, ◌&&◌, ◌⊎◌, not, Bool, true, false, cond, List, [], ◌∷◌, length, get_or, set, take, map, refl, sym, ◌∙◌, ap, subst, arith, inl, inr}
+use Rattle.std.proofs.Common.{◌≡◌, ℕ, zero, suc, ◌+◌, ◌<◌, ◌≤◌, ◌==◌, ◌&&◌, ◌⊎◌, not, Bool, true, false, cond, List, [], ◌∷◌, Option, length, get_or, set, take, map, refl, sym, ◌∙◌, ap, subst, arith, inl, inr}
 use Rattle.std.specs.List.{filter}
 use Rattle.std.proofs.lemmas.Bool.{false≢true, cases_lt, cases_eq, ne_eqb, eq-eqb}
-use Rattle.std.proofs.lemmas.List.{get_or-map, get_or_past, length-map}
+use Rattle.std.proofs.lemmas.List.{get_or-map, get_or_past, set-get_or, length-map}
 use Rattle.kl1_goals.specs.declared.goal.Goal.{Goal}
 use Rattle.kl1_goals.specs.declared.slot.Slot.{Slot}
 use Rattle.kl1_goals.specs.declared.tally.Tally.{Tally}
-use Rattle.kl1_goals.specs.Lists.{is_monitor, is_in, is_goal_of, is_monitor_of, enabled_in}
+use Rattle.kl1_goals.specs.Lists.{is_in, is_goal_of, enabled_in}
 use Rattle.kl1_goals.specs.Tables.{Ascend}
-use Rattle.kl1_goals.specs.Slots.{goals_in, numbers_of, number_in, level_in, rank_in, let_in, emptied, changed_at, AreLow, AreBelow, AreSlots}
-use Rattle.kl1_goals.specs.Tallies.{tally_at, unlinked, left, HasChanged, IsTally}
+use Rattle.kl1_goals.specs.Slots.{goals_in, level_in, rank_in, let_in, emptied, changed_at, AreLow, AreSlots}
+use Rattle.kl1_goals.specs.Tallies.{tally_at, unlinked, left}
 use Rattle.kl1_goals.specs.Chains.{Shape, shoen_in, before_in, holds_in, is_due, shape_in, unlinked_in, shoen_at, before_at, last_at, Holds, IsLink, IsEmptyLink, AreLinked, AreKnown, AreChained, HoldsLess, HaveSameCounts}
-use Rattle.kl1_goals.proofs.Linking.{known_at, link_less, linked_less, chained_less, link_past, link_nearer, chained_take, no_link, same_all, same_other, changed_one, linked, last_here, last_other}
+use Rattle.kl1_goals.proofs.Changing.{standing_by}
+use Rattle.kl1_goals.proofs.Linking.{known_at, link_less, less_length, linked_less, chained_less, less_less, link_past, link_nearer, chained_take, no_link}
 
 -- what a list of a function of the places has at a place that was read
 pub read_at : {N X : Type 0} (f : Slot N → X) (ss : List (Slot N)) (k : ℕ) (s : Slot N) (d : X) → k < length ss → s ≡ get_or ss k s → get_or (map f ss) k d ≡ f s
@@ -246,39 +247,70 @@ none_held n (s ∷ ss) f = left_on n s.is_held s (goals_in ss) refl (f 0 (omega 
 pub emptied_first : {N : Type 0} (n : ℕ) (ss : List (Slot N)) (l : ℕ) → IsLink ss n (length ss) l → EmptiedFrom n ss ss l
 emptied_first n ss l h = record { rest = h; less = record { shoens = refl; holds = λ m k e. e }; links = refl; goals = refl }
 
+pub emptied_next : {N : Type 0} (n : ℕ) (old now then' : List (Slot N)) (link k b : ℕ) → AreLinked old → EmptiedFrom n old now link → link ≡ k + 1 → then' ≡ changed_at emptied k now → b ≡ before_at then' k → EmptiedFrom n old then' b
+emptied_next n old now then' link k b linked h one is before =
+    let new = changed_at emptied k now in
+    let size : k < length now = omega (arith, one, h.rest.back) in
+    let less = changed_less emptied k now (λ s. refl) (λ m s e. absurd (false≢true e)) in
+    let all = less_less old now new h.less less in
+    let links = changed_same before_in emptied (λ s. refl) k now ∙ h.links in
+    let many = changed_length emptied k now in
+    let own = h.rest.own k (omega (arith, one)) in
+    let shoen : shoen_at new k ≡ n = ap (λ m. get_or m k 0) less.shoens ∙ own in
+    let L : ℕ → Type 0 = λ i. IsLink now n (length now) i in
+    let rest : IsLink new n (length new) (suc k) = rw many (link_less now new n (length now) (suc k) less (subst L (omega (arith, one)) h.rest)) in
+    let empty : Holds new n k → ⊥ = λ e. false≢true (sym (changed_here (holds_in n) emptied false false (λ s. refl) k now size) ∙ e) in
+    let link : IsLink new n k (before_at new k) = rw shoen at (linked_less old new all links linked k (omega (arith, size, many))) in
+    let to : b ≡ before_at new k = before ∙ ap (λ l. before_at l k) is in
+    rw (is, to) (record {
+      rest = link_past new n (length new) k (before_at new k) rest empty link;
+      less = all;
+      links = links;
+      goals = goals_emptied n k now size own ∙ h.goals;
+    })
+
 pub emptied_last : {N : Type 0} (n : ℕ) (old now : List (Slot N)) (link : ℕ) → EmptiedFrom n old now link → link ≡ 0 → goals_in now ≡ filter (λ g. not (is_in n g)) (goals_in old)
 emptied_last n old now link h e = none_held n now (λ j w. h.rest.none j (omega (arith, e)) w) ∙ h.goals
+
+pub emptied_same : {N : Type 0} (ss : List (Slot N)) (k : ℕ) (s : Slot N) → k < length ss → s ≡ get_or ss k s → s.is_held ≡ false → ss ≡ changed_at emptied k ss
+emptied_same {N = N} ss k s w e h =
+    let gone : (b : Bool) → b ≡ false → record { goal = s.goal; is_held = b; before = s.before } ≡ emptied s = λ b f. rw f refl in
+    sym (set-get_or ss k s) ∙ ap (set ss k) (sym e ∙ gone s.is_held h) ∙ changed_set emptied ss k s w (sym e)
 
 -- the last place is left
 left_unlinked_if : (c : Bool) (t : Tally) (b : ℕ) → unlinked (cond c (record t { last = b }) t) ≡ unlinked t
 left_unlinked_if false t b = refl
 left_unlinked_if true t b = refl
 
-pub counts_left : (ts us : List Tally) (s l b : ℕ) → HasChanged s (left l b) ts us → HaveSameCounts ts us
-counts_left ts us s l b is = record { counts = same_all unlinked s (left l b) ts us is (λ t. left_unlinked_if (t.last == l) t b); length = is.length }
+left_if : (c d : Bool) (t : Tally) (b : ℕ) → unlinked (cond c (cond d (record t { last = b }) t) t) ≡ unlinked t
+left_if false d t b = refl
+left_if true d t b = left_unlinked_if d t b
 
-pub chained_left : {N : Type 0} (ss : List (Slot N)) (ts us : List Tally) (m s b : ℕ) → AreChained ss ts → length ss ≡ m + 1 → s ≡ shoen_at ss m → b ≡ before_at ss m → HasChanged s (left (m + 1) b) ts us → AreChained (take m ss) us
-chained_left ss ts us m s b h size own before is =
-    let here : last_at us s ≡ (left (m + 1) b (tally_at ts s)).last = ap (λ (t : Tally). t.last) (changed_one s (left (m + 1) b) ts us is) in
+pub counts_left : (ts us : List Tally) (s l b : ℕ) → ((n : ℕ) → tally_at us n ≡ cond (n == s) (left l b (tally_at ts n)) (tally_at ts n)) → length us ≡ length ts → HaveSameCounts ts us
+counts_left ts us s l b e c = record { counts = λ n. ap unlinked (e n) ∙ left_if (n == s) ((tally_at ts n).last == l) (tally_at ts n) b; length = c }
+
+pub chained_left : {N : Type 0} (ss : List (Slot N)) (ts us : List Tally) (m s b : ℕ) → AreChained ss ts → length ss ≡ m + 1 → length us ≡ length ts → s ≡ shoen_at ss m → b ≡ before_at ss m →
+    ((n : ℕ) → tally_at us n ≡ cond (n == s) (left (m + 1) b (tally_at ts n)) (tally_at ts n)) → AreChained (take m ss) us
+chained_left ss ts us m s b h size count own before is =
+    let here : last_at us s ≡ (left (m + 1) b (tally_at ts s)).last = ap (λ (t : Tally). t.last) (is s) ∙ rw (eq-eqb s s refl) refl in
     let g = h.lasts s in
     let link : IsLink ss s m (last_at us s) = elim (cases_eq (last_at ts s) (m + 1)) [
       | inl e ↦ rw (here, eq-eqb (last_at ts s) (m + 1) e, before, own) (h.links m (omega (arith, size)))
       | inr e ↦ rw (here, ne_eqb (last_at ts s) (m + 1) e) (link_nearer ss s m (length ss) (last_at ts s) g (omega (arith, g.back, size, e)) (omega (arith, size)))
     ] in
-    chained_take ss ts us m h size is.length (rw (← own) link) (λ n ne. ap (λ (t : Tally). t.last) (same_other s (left (m + 1) b) ts us is n (λ f. ne (f ∙ own))))
+    chained_take ss ts us m h size count (rw (← own) link) (λ n ne. ap (λ (t : Tally). t.last) (is n) ∙ rw (ne_eqb n s (λ f. ne (f ∙ own))) refl)
 
 -- links to last places that are forgotten
 abbrev pub forgets : {N : Type 0} (ss : List (Slot N)) (ts us : List Tally) (place : ℕ) → Type 0
 forgets ss ts us place = (n : ℕ) → (last_at us n ≡ 0) ⊎ ((last_at us n ≡ last_at ts n) × ((j : ℕ) → j < place → shoen_at ss j ≡ n → ⊥))
 
--- the next shoen is linked to none
-pub forget_next : {N : Type 0} (ss : List (Slot N)) (ts us vs : List Tally) (place s : ℕ) → forgets ss ts us place → s ≡ shoen_at ss place → HasChanged s (linked 0) us vs → forgets ss ts vs (place + 1)
-forget_next ss ts us vs place s h own is = λ n. elim (cases_eq n s) [
-  | inl e ↦ inl (rw e (last_here us vs s 0 is))
+pub forget_next : {N : Type 0} (ss : List (Slot N)) (ts us vs : List Tally) (place s : ℕ) → forgets ss ts us place → s ≡ shoen_at ss place → last_at vs s ≡ 0 → ((n : ℕ) → (n ≡ s → ⊥) → last_at vs n ≡ last_at us n) → forgets ss ts vs (place + 1)
+forget_next ss ts us vs place s h own here other = λ n. elim (cases_eq n s) [
+  | inl e ↦ inl (rw e here)
   | inr e ↦ elim (h n) [
-    | inl z ↦ inl (last_other us vs s 0 is n e ∙ z)
+    | inl z ↦ inl (other n e ∙ z)
     | inr p ↦ inr (
-      last_other us vs s 0 is n e ∙ p.0,
+      other n e ∙ p.0,
       λ j w f. elim (cases_eq j place) [
         | inl c ↦ e (sym f ∙ ap (shoen_at ss) c ∙ sym own)
         | inr c ↦ p.1 j (omega (arith, w, c)) f
@@ -294,7 +326,7 @@ forget_end ss ts us place h f w n = elim (f n) [
 ]
 
 -- places, by what is seen of them
-fields : {A X Y : Type 0} (p : A → Y) (h : Y → X) (ss : List A) → map (λ s. h (p s)) ss ≡ map h (map p ss)
+fields : {N X Y : Type 0} (p : Slot N → Y) (h : Y → X) (ss : List (Slot N)) → map (λ s. h (p s)) ss ≡ map h (map p ss)
 fields p h [] = refl
 fields p h (s ∷ ss) = ap (λ l. h (p s) ∷ l) (fields p h ss)
 
@@ -311,51 +343,20 @@ goals_unlinked (s ∷ ss) = ap (λ l. cond s.is_held (s.goal ∷ l) l) (goals_un
 pub same_goals : {N : Type 0} (ss ts : List (Slot N)) → map unlinked_in ts ≡ map unlinked_in ss → goals_in ts ≡ goals_in ss
 same_goals ss ts e = sym (goals_unlinked ts) ∙ ap goals_in e ∙ goals_unlinked ss
 
--- what a goal that is there is to links, to the order of places and to counts
-abbrev pub shape_of : {N : Type 0} → Goal N → Shape
-shape_of g = record { number = g.number; shoen = g.shoen; priority = g.priority; is_monitor = is_monitor g; is_held = true }
+length_goals_on : {N : Type 0} (b : Bool) (g : Goal N) (gs : List (Goal N)) (h : Shape) (hs : List Shape) → length gs ≡ length hs → length (cond b (g ∷ gs) gs) ≡ length (cond b (h ∷ hs) hs)
+length_goals_on false g gs h hs e = e
+length_goals_on true g gs h hs e = ap suc e
 
-shapes_on : {N : Type 0} (b : Bool) (s : Slot N) (gs : List (Goal N)) (hs : List Shape) → s.is_held ≡ b → map shape_of gs ≡ hs → map shape_of (cond b (s.goal ∷ gs) gs) ≡ cond b (shape_in s ∷ hs) hs
-shapes_on false s gs hs e h = h
-shapes_on true s gs hs e h = rw (e, h) refl
-
-shapes_in : {N : Type 0} (ss : List (Slot N)) → map shape_of (goals_in ss) ≡ filter (λ (h : Shape). h.is_held) (map shape_in ss)
-shapes_in [] = refl
-shapes_in (s ∷ ss) = shapes_on s.is_held s (goals_in ss) (filter (λ (h : Shape). h.is_held) (map shape_in ss)) refl (shapes_in ss)
-
-goals_shaped : {N : Type 0} (ss ts : List (Slot N)) → map shape_in ts ≡ map shape_in ss → map shape_of (goals_in ts) ≡ map shape_of (goals_in ss)
-goals_shaped ss ts e = shapes_in ts ∙ ap (filter (λ (h : Shape). h.is_held)) e ∙ sym (shapes_in ss)
-
-filtered_on : {X Y : Type 0} (f : X → Y) (b : Bool) (x : X) (xs : List X) (ys : List Y) → ys ≡ map f xs → cond b (f x ∷ ys) ys ≡ map f (cond b (x ∷ xs) xs)
-filtered_on f false x xs ys e = e
-filtered_on f true x xs ys e = ap (λ l. f x ∷ l) e
-
-filtered : {X Y : Type 0} (p : Y → Bool) (f : X → Y) (xs : List X) → filter p (map f xs) ≡ map f (filter (λ x. p (f x)) xs)
-filtered p f [] = refl
-filtered p f (x ∷ xs) = filtered_on f (p (f x)) x (filter (λ y. p (f y)) xs) (filter p (map f xs)) (filtered p f xs)
-
--- goals that pass a test of what they are
-passed_shaped : {N : Type 0} (p : Shape → Bool) (ss ts : List (Slot N)) → map shape_in ts ≡ map shape_in ss → map shape_of (filter (λ g. p (shape_of g)) (goals_in ts)) ≡ map shape_of (filter (λ g. p (shape_of g)) (goals_in ss))
-passed_shaped p ss ts e = sym (filtered p shape_of (goals_in ts)) ∙ ap (filter p) (goals_shaped ss ts e) ∙ filtered p shape_of (goals_in ss)
-
-pub count_shaped : {N : Type 0} (p : Shape → Bool) (ss ts : List (Slot N)) → map shape_in ts ≡ map shape_in ss → length (filter (λ g. p (shape_of g)) (goals_in ts)) ≡ length (filter (λ g. p (shape_of g)) (goals_in ss))
-count_shaped p ss ts e = sym (length-map (filter (λ g. p (shape_of g)) (goals_in ts)) shape_of) ∙ ap length (passed_shaped p ss ts e) ∙ length-map (filter (λ g. p (shape_of g)) (goals_in ss)) shape_of
-
-pub tally_shaped : {N : Type 0} (n : ℕ) (ss ts : List (Slot N)) (t : Tally) → map shape_in ts ≡ map shape_in ss → IsTally n (goals_in ss) t → IsTally n (goals_in ts) t
-tally_shaped {N = N} n ss ts t e h =
-    let monitors : List (Slot N) → List (Goal N) = λ l. filter (is_monitor_of n) (goals_in l) in
-    let number : Shape → ℕ = λ h. h.number in
-    record {
-      goals = h.goals ∙ sym (count_shaped (λ (h : Shape). h.shoen == n && not h.is_monitor) ss ts e);
-      monitor = fields shape_of number (monitors ts) ∙ ap (map number) (passed_shaped (λ (h : Shape). h.shoen == n && h.is_monitor) ss ts e) ∙ sym (fields shape_of number (monitors ss)) ∙ h.monitor;
-    }
+length_goals : {N : Type 0} (ss : List (Slot N)) → length (goals_in ss) ≡ length (filter (λ (h : Shape). h.is_held) (map shape_in ss))
+length_goals [] = refl
+length_goals (s ∷ ss) = length_goals_on s.is_held s.goal (goals_in ss) (shape_in s) (filter (λ (h : Shape). h.is_held) (map shape_in ss)) (length_goals ss)
 
 -- places in order, with other ranks
 pub slots_shaped : {N : Type 0} (ss ts : List (Slot N)) (empty : ℕ) (ranks more : List ℕ) → AreSlots ss empty ranks → map shape_in ts ≡ map shape_in ss → more ≡ map rank_in ts → AreSlots ts empty more
 slots_shaped ss ts empty ranks more h e r =
     let A : List ℕ → Type 0 = λ ns. Ascend 0 ns in
     let L : List ℕ → Type 0 = λ ps. AreLow ps in
-    let goals = sym (length-map (goals_in ts) shape_of) ∙ ap length (goals_shaped ss ts e) ∙ length-map (goals_in ss) shape_of in
+    let goals = length_goals ts ∙ ap (λ l. length (filter (λ (h : Shape). h.is_held) l)) e ∙ sym (length_goals ss) in
     record {
       ascend = subst A (sym (same_fields shape_in (λ (h : Shape). h.number) ss ts e)) h.ascend;
       low = subst L (sym (same_fields shape_in (λ (h : Shape). h.priority) ss ts e)) h.low;
@@ -369,6 +370,10 @@ less_shaped ss ts e = record {
   holds = λ n k t. sym (ap (λ l. get_or l k false) (same_fields shape_in (λ (h : Shape). h.is_held && h.shoen == n) ss ts e)) ∙ t;
 }
 
+-- a place whose goal stands by a clause
+abbrev pub standing_in_place : {N : Type 0} → Option ℕ → Slot N → Slot N
+standing_in_place clause s = record { goal = standing_by clause s.goal; is_held = s.is_held; before = s.before }
+
 -- a place with another link
 abbrev pub relinked : {N : Type 0} → ℕ → Slot N → Slot N
 relinked l s = record { goal = s.goal; is_held = s.is_held; before = l }
@@ -377,17 +382,6 @@ pub low_shaped : {N : Type 0} (ss ts : List (Slot N)) → map shape_in ts ≡ ma
 low_shaped ss ts e a =
     let L : List ℕ → Type 0 = λ ps. AreLow ps in
     subst L (sym (same_fields shape_in (λ (h : Shape). h.priority) ss ts e)) a
-
-pub below_shaped : {N : Type 0} (n : ℕ) (ss ts : List (Slot N)) → map shape_in ts ≡ map shape_in ss → AreBelow n (numbers_of ss) → AreBelow n (numbers_of ts)
-below_shaped n ss ts e b =
-    let B : List ℕ → Type 0 = λ ns. AreBelow n ns in
-    subst B (sym (same_fields shape_in (λ (h : Shape). h.number) ss ts e)) b
-
--- places of which one is changed, but for its number
-pub below_changed : {N : Type 0} (n k : ℕ) (f : Slot N → Slot N) (ss ts : List (Slot N)) → ts ≡ changed_at f k ss → ((s : Slot N) → number_in (f s) ≡ number_in s) → AreBelow n (numbers_of ss) → AreBelow n (numbers_of ts)
-below_changed n k f ss ts is same b =
-    let B : List ℕ → Type 0 = λ ns. AreBelow n ns in
-    subst B (sym (ap (map number_in) is ∙ changed_same number_in f same k ss)) b
 
 pub relinked_low : {N : Type 0} (old now : List (Slot N)) (k l : ℕ) (x : Slot N) → map shape_in now ≡ map shape_in old → AreLow (map level_in old) → k < length now → x ≡ get_or now k x → AreLow (map level_in (set now k (relinked l x)))
 relinked_low old now k l x e a w r = rw (changed_set (relinked l) now k x w (sym r), changed_same level_in (relinked l) (λ s. refl) k now) (low_shaped old now e a)
@@ -400,6 +394,12 @@ settled_at n b now then' k l x w r e = e ∙ ap (changed_at (let_in n b) k) (cha
 
 pub linked_here : {N : Type 0} (n : ℕ) (b : Bool) (old now : List (Slot N)) (link k l : ℕ) → LetFrom n b old now link → link ≡ k + 1 → before_at now k ≡ l → IsLink now n k l
 linked_here n b old now link k l h one e = rw (← e, ← h.own k (omega (arith, one))) (h.links k (omega (arith, one, h.within)))
+
+pub emptied_back : {N : Type 0} (n : ℕ) (old now then' : List (Slot N)) (link k b : ℕ) → AreLinked old → EmptiedFrom n old now link → link ≡ k + 1 → then' ≡ changed_at emptied k now → b ≡ before_at then' k → b ≤ k
+emptied_back n old now then' link k b linked h one is before =
+    let links = changed_same before_in emptied (λ s. refl) k now ∙ h.links in
+    let same : b ≡ before_at old k = before ∙ ap (λ l. before_at l k) is ∙ ap (λ l. get_or l k 0) links in
+    omega (arith, same, (linked k (omega (arith, one, h.rest.back, less_length old now h.less))).back)
 
 pub read_known : {N : Type 0} (old now : List (Slot N)) (most k : ℕ) (x : Slot N) → AreKnown most (map shoen_in old) → map unlinked_in now ≡ map unlinked_in old → k < length now → x ≡ get_or now k x → (0 < x.goal.shoen) × (x.goal.shoen ≤ most)
 read_known old now most k x a e w r =
@@ -414,5 +414,5 @@ chained_emptied ss ts k us h e =
     let less = changed_less emptied k ss (λ s. refl) (λ n s f. absurd (false≢true f)) in
     rw e (chained_less ss new us less (linked_less ss new less (changed_same before_in emptied (λ s. refl) k ss) h.links) h)
 
-pub linked_shaped : {N : Type 0} (ss ts : List (Slot N)) → AreLinked ss → map shape_in ts ≡ map shape_in ss → map before_in ts ≡ map before_in ss → AreLinked ts
-linked_shaped ss ts h e b = linked_less ss ts (less_shaped ss ts e) b h
+pub chained_shaped : {N : Type 0} (ss ts : List (Slot N)) (us : List Tally) → AreChained ss us → map shape_in ts ≡ map shape_in ss → map before_in ts ≡ map before_in ss → AreChained ts us
+chained_shaped ss ts us h e b = let less = less_shaped ss ts e in chained_less ss ts us less (linked_less ss ts less b h.links) h

@@ -1,17 +1,17 @@
 -- The goals of places, one of which changes.
-use Rattle.std.proofs.Common.{◌≡◌, ℕ, zero, suc, ◌+◌, ◌-◌, ◌<◌, ◌≤◌, ◌==◌, ◌&&◌, Bool, not, true, false, cond, List, [], ◌∷◌, ◌++◌, Option, Some, None, length, get_or, set, take, drop, map, refl, sym, ◌∙◌, ap, ap₂, subst, arith, add-one, eq-eqb, nat_lt}
+use Rattle.std.proofs.Common.{◌≡◌, ℕ, zero, suc, ◌+◌, ◌-◌, ◌<◌, ◌≤◌, ◌==◌, ◌&&◌, Bool, not, true, false, cond, List, [], ◌∷◌, ◌++◌, Option, Some, None, length, get_or, set, take, drop, map, refl, sym, ◌∙◌, ap, subst, arith, add-one, eq-eqb, nat_lt}
 use Rattle.std.proofs.lemmas.Bool.{ne_eqb, lt-ltb, le-ltb, false≢true}
 use Rattle.std.specs.List.{filter, find}
 use Rattle.std.proofs.lemmas.List.{get_or-map, map-set, set-get_or, get_or_default, length-map, map_push, length-set, length_push, length-take-le, take-map}
 use Rattle.kl1_model.specs.declared.limits.TheConstants.{MONITOR_PRIORITY}
 use Rattle.kl1_goals.specs.declared.goal.Goal.{Goal}
 use Rattle.kl1_goals.specs.declared.slot.Slot.{Slot}
-use Rattle.kl1_goals.specs.Lists.{is_other, has_number, is_after, number_of}
-use Rattle.kl1_goals.specs.Tables.{Ascend}
-use Rattle.kl1_goals.specs.Slots.{goals_in, first_of, numbers_of, number_in, level_in, rank_in, AreLow, AreBelow, IsCut, IsAbsent, IsHeldAt, IsWithout, AreSlots, IsEmptyEnd, held_in, priority_in, emptied, changed_at}
+use Rattle.kl1_goals.specs.Lists.{is_other, has_number, is_after, stood_by, number_of}
+use Rattle.kl1_goals.specs.Tables.{Ascend, AreBefore}
+use Rattle.kl1_goals.specs.Slots.{goals_in, first_of, numbers_of, number_in, level_in, rank_in, AreLow, AreBelow, IsCut, IsAbsent, IsHeldAt, IsWithout, AreSlots, IsEmptyEnd, held_in, priority_in, emptied}
 use Rattle.kl1_goals.specs.Readies.{stands}
 use Rattle.kl1_queue.specs.Ranks.{IsPriority}
-use Rattle.kl1_goals.proofs.Orders.{ascend_from, ascend_push, low_push, below_more, below_push, below_take}
+use Rattle.kl1_goals.proofs.Orders.{ascend_from, ascend_push, low_push}
 
 -- a number that isn't another
 pub other_number : (m n : ℕ) → (m ≡ n → ⊥) → (m == n) ≡ false
@@ -30,8 +30,8 @@ pub field_read : {N : Type 0} (f : Slot N → ℕ) (ss : List (Slot N)) (k : ℕ
 field_read f ss k s w e = field_at f ss k s w (sym e)
 
 -- a change that a function of the places doesn't see
-pub field_kept : {N X : Type 0} (f : Slot N → X) (ss : List (Slot N)) (k : ℕ) (s t : Slot N) → k < length ss → get_or ss k s ≡ s → f t ≡ f s → map f (set ss k t) ≡ map f ss
-field_kept f ss k s t w e same = map-set f ss k t ∙ ap (λ v. set (map f ss) k v) (same ∙ sym (get_or-map f ss k s (f s) w ∙ ap f e)) ∙ set-get_or (map f ss) k (f s)
+pub field_kept : {N : Type 0} (f : Slot N → ℕ) (ss : List (Slot N)) (k : ℕ) (s t : Slot N) → k < length ss → get_or ss k s ≡ s → f t ≡ f s → map f (set ss k t) ≡ map f ss
+field_kept f ss k s t w e same = map-set f ss k t ∙ ap (λ v. set (map f ss) k v) (same ∙ sym (field_at f ss k s w e)) ∙ set-get_or (map f ss) k 0
 
 -- goals of greater numbers are others
 others_on : {N : Type 0} (n : ℕ) (b : Bool) (g : Goal N) (gs : List (Goal N)) → (g.number == n) ≡ false → filter (is_other n) gs ≡ gs → filter (is_other n) (cond b (g ∷ gs) gs) ≡ cond b (g ∷ gs) gs
@@ -73,32 +73,32 @@ without_at from (t ∷ ss) (suc k) s a w e h =
     let differs = other_number t.goal.number s.goal.number (λ f. omega (arith, above, field_at number_in ss k s within e)) in
     without_on s.goal t.goal t.is_held (goals_in ss) (goals_in (set ss k (emptied s))) differs (without_at (suc t.goal.number) ss k s a.1 within e h)
 
--- a goal of which something changes in place
-stays_on : {N : Type 0} (f : Goal N → Goal N) (b : Bool) (g : Goal N) (gs hs : List (Goal N)) → f g ≡ g → hs ≡ map f gs → cond b (g ∷ hs) hs ≡ map f (cond b (g ∷ gs) gs)
-stays_on f false g gs hs e h = h
-stays_on f true g gs hs e h = rw (e, h) refl
+-- goals of greater numbers stay as they are
+stay_on : {N : Type 0} (n : ℕ) (clause : Option ℕ) (b : Bool) (g : Goal N) (gs hs : List (Goal N)) → (g.number == n) ≡ false → map (stood_by n clause) gs ≡ hs → map (stood_by n clause) (cond b (g ∷ gs) gs) ≡ cond b (g ∷ hs) hs
+stay_on n clause false g gs hs e h = h
+stay_on n clause true g gs hs e h = rw (e, h) refl
 
-all_stay : {N : Type 0} (f : Goal N → Goal N) (n from : ℕ) (ss : List (Slot N)) → ((g : Goal N) → (g.number == n) ≡ false → f g ≡ g) → n < from → Ascend from (numbers_of ss) → goals_in ss ≡ map f (goals_in ss)
-all_stay f n from [] other p a = refl
-all_stay f n from (s ∷ ss) other p a =
-    stays_on f s.is_held s.goal (goals_in ss) (goals_in ss) (other s.goal (other_number s.goal.number n (λ e. omega (arith, a.0, e)))) (all_stay f n (suc s.goal.number) ss other (omega (arith, a.0)) a.1)
+pub all_stay : {N : Type 0} (n from : ℕ) (clause : Option ℕ) (ss : List (Slot N)) → n < from → Ascend from (numbers_of ss) → map (stood_by n clause) (goals_in ss) ≡ goals_in ss
+all_stay n from clause [] p a = refl
+all_stay n from clause (s ∷ ss) p a = stay_on n clause s.is_held s.goal (goals_in ss) (goals_in ss) (other_number s.goal.number n (λ e. omega (arith, a.0, e))) (all_stay n (suc s.goal.number) clause ss (omega (arith, a.0)) a.1)
 
-changes_on : {N : Type 0} (f : Goal N → Goal N) (b d : Bool) (g k : Goal N) (gs : List (Goal N)) → b ≡ true → d ≡ true → k ≡ f g → gs ≡ map f gs → cond d (k ∷ gs) gs ≡ map f (cond b (g ∷ gs) gs)
-changes_on {N = N} f b d g k gs held still e rest = rw (held, still) (ap₂ (λ (x : Goal N) (l : List (Goal N)). x ∷ l) e rest)
+-- a goal that stands by a clause
+abbrev pub standing_by : {N : Type 0} → Option ℕ → Goal N → Goal N
+standing_by clause g = record { number = g.number; task = g.task; shoen = g.shoen; priority = g.priority; standing = clause; is_enabled = g.is_enabled }
 
--- what is changed at a place is what is changed of the goal with its number
-pub goals_changed : {N : Type 0} (f : Goal N → Goal N) (h : Slot N → Slot N) (n from : ℕ) (ss : List (Slot N)) (k : ℕ) (s : Slot N) → Ascend from (numbers_of ss) → IsHeldAt ss n k s → (h s).is_held ≡ true → (h s).goal ≡ f s.goal → ((g : Goal N) → (g.number == n) ≡ false → f g ≡ g) →
-    goals_in (changed_at h k ss) ≡ map f (goals_in ss)
-goals_changed f h n from [] k s a held still here other = let w = held.within in absurd (omega (arith, w))
-goals_changed f h n from (t ∷ ss) zero s a held still here other =
-    let same : t ≡ s = held.at in
-    rw same (changes_on f s.is_held (h s).is_held s.goal (h s).goal (goals_in ss) held.held still here (all_stay f n (suc t.goal.number) ss other (omega (arith, ap number_in same, held.number)) a.1))
-goals_changed f h n from (t ∷ ss) (suc k) s a held still here other =
-    let w = held.within in
-    let within : k < length ss = omega (arith, w) in
-    let above = ascend_from (suc t.goal.number) (numbers_of ss) k a.1 (omega (arith, within, length-map ss number_in)) in
-    let differs = other_number t.goal.number n (λ e. omega (arith, above, field_at number_in ss k s within held.at, e, held.number)) in
-    stays_on f t.is_held t.goal (goals_in ss) (goals_in (changed_at h k ss)) (other t.goal differs) (goals_changed f h n (suc t.goal.number) ss k s a.1 (record { within = within; at = held.at; number = held.number; held = held.held }) still here other)
+stood_first : {N : Type 0} (clause : Option ℕ) (g : Goal N) (gs : List (Goal N)) → map (stood_by g.number clause) gs ≡ gs → standing_by clause g ∷ gs ≡ map (stood_by g.number clause) (g ∷ gs)
+stood_first clause g gs h = rw (eq-eqb g.number g.number refl, h) refl
+
+pub stood_at : {N : Type 0} (from : ℕ) (clause : Option ℕ) (ss : List (Slot N)) (k : ℕ) (s : Slot N) → Ascend from (numbers_of ss) → k < length ss → get_or ss k s ≡ s → s.is_held ≡ true →
+    goals_in (set ss k (record { goal = standing_by clause s.goal; is_held = s.is_held; before = s.before })) ≡ map (stood_by s.goal.number clause) (goals_in ss)
+stood_at from clause [] k s a w e h = absurd (omega arith)
+stood_at from clause (t ∷ ss) zero s a w e h =
+    rw (e, h) (stood_first clause s.goal (goals_in ss) (all_stay s.goal.number (suc t.goal.number) clause ss (omega (arith, ap number_in e)) a.1))
+stood_at from clause (t ∷ ss) (suc k) s a w e h =
+    let within : k < length ss = omega arith in
+    let above = ascend_from (suc t.goal.number) (numbers_of ss) k a.1 (omega (arith, length-map ss number_in)) in
+    let differs = other_number t.goal.number s.goal.number (λ f. omega (arith, above, field_at number_in ss k s within e)) in
+    sym (stay_on s.goal.number clause t.is_held t.goal (goals_in ss) (goals_in (set ss k (record { goal = standing_by clause s.goal; is_held = s.is_held; before = s.before }))) differs (sym (stood_at (suc t.goal.number) clause ss k s a.1 within e h)))
 
 -- a goal after all others
 append_on : {N : Type 0} (b : Bool) (g : Goal N) (gs hs ks : List (Goal N)) → gs ≡ hs ++ ks → cond b (g ∷ gs) gs ≡ cond b (g ∷ hs) hs ++ ks
@@ -203,24 +203,10 @@ pub length_kept : {N : Type 0} (ss : List (Slot N)) → length (filter held_in s
 length_kept [] = refl
 length_kept (s ∷ ss) = length_on s (filter held_in ss) (goals_in ss) s.is_held (length_kept ss)
 
-below_on : {N : Type 0} (n : ℕ) (s : Slot N) (ss : List (Slot N)) (b : Bool) → s.goal.number < n → AreBelow n (numbers_of ss) → AreBelow n (numbers_of (cond b (s ∷ ss) ss))
-below_on n s ss false p a = a
-below_on n s ss true p a = (p, a)
-
--- places below a number, without the empty ones
-pub below_kept : {N : Type 0} (n : ℕ) (ss : List (Slot N)) → AreBelow n (numbers_of ss) → AreBelow n (numbers_of (filter held_in ss))
-below_kept n [] a = tt
-below_kept n (s ∷ ss) a = below_on n s (filter held_in ss) s.is_held a.0 (below_kept n ss a.1)
-
--- and the first of them
-pub below_taken : {N : Type 0} (n k : ℕ) (ss ts : List (Slot N)) → ts ≡ take k ss → AreBelow n (numbers_of ss) → AreBelow n (numbers_of ts)
-below_taken n k ss ts t b = let B : List ℕ → Type 0 = λ ns. AreBelow n ns in rw t (subst B (take-map number_in k ss) (below_take n k (numbers_of ss) b))
-
--- and with a goal after them
-pub below_added : {N : Type 0} (last : ℕ) (ss : List (Slot N)) (g : Goal N) (before : ℕ) → AreBelow (suc last) (numbers_of ss) → last < g.number → AreBelow (suc g.number) (numbers_of (ss ++ linked_to before g ∷ []))
-below_added {N = N} last ss g before b lt =
-    let s : Slot N = linked_to before g in
-    rw (map_push number_in ss s) (below_push (suc g.number) g.number (numbers_of ss) (below_more (suc last) (suc g.number) (numbers_of ss) (omega (arith, lt)) b) (omega arith))
+-- all goals below a number
+pub below_goals : {N : Type 0} (n : ℕ) (gs : List (Goal N)) → AreBefore n gs → AreBelow n (map number_of gs)
+below_goals n [] a = tt
+below_goals n (g ∷ gs) a = (a.0, below_goals n gs a.1)
 
 -- places with a goal more
 pub slots_push : {N : Type 0} (ss : List (Slot N)) (empty : ℕ) (ranks more : List ℕ) (g : Goal N) (before : ℕ) → AreSlots ss empty ranks → AreBelow g.number (numbers_of ss) → g.priority ≤ MONITOR_PRIORITY →
@@ -232,6 +218,19 @@ slots_push {N = N} ss empty ranks more g before h b p e =
       low = rw (map_push level_in ss s) (low_push (map level_in ss) g.priority h.low p);
       ranked = e ∙ ap (λ l. l ++ rank_in s ∷ []) h.ranked ∙ sym (map_push rank_in ss s);
       counted = rw (goals_push ss g before) (omega (arith, length_push (goals_in ss) g, length_push ss s, h.counted));
+    }
+
+-- places of which one was changed
+pub slots_changed : {N : Type 0} (ss : List (Slot N)) (k empty emptied : ℕ) (ranks more : List ℕ) (s t : Slot N) → AreSlots ss empty ranks → k < length ss → get_or ss k s ≡ s →
+    number_in t ≡ number_in s → level_in t ≡ level_in s → more ≡ set ranks k (rank_in t) → emptied + length (goals_in (set ss k t)) ≡ length ss → AreSlots (set ss k t) emptied more
+slots_changed ss k empty emptied ranks more s t h w e number level r counted =
+    let A : List ℕ → Type 0 = λ ns. Ascend 0 ns in
+    let L : List ℕ → Type 0 = λ ps. AreLow ps in
+    record {
+      ascend = subst A (sym (field_kept number_in ss k s t w e number)) h.ascend;
+      low = subst L (sym (field_kept level_in ss k s t w e level)) h.low;
+      ranked = r ∙ ap (λ l. set l k (rank_in t)) h.ranked ∙ sym (map-set rank_in ss k t);
+      counted = counted ∙ sym (length-set ss k t);
     }
 
 -- places without the last, which is empty
@@ -270,17 +269,18 @@ low_take (suc k) (p ∷ ps) a = (a.0, low_take k ps a.1)
 pub goals_trimmed : {N : Type 0} (ss ts : List (Slot N)) (count : ℕ) → count ≡ length ss → ts ≡ take (count - 1) ss → IsEmptyEnd ss → goals_in ts ≡ goals_in ss
 goals_trimmed ss ts count f t e = ap goals_in t ∙ ap (λ n. goals_in (take (n - 1) ss)) f ∙ e.goals
 
-pub slots_trimmed : {N : Type 0} (ss : List (Slot N)) (count empty fewer : ℕ) (ranks more : List ℕ) → AreSlots ss empty ranks → count ≡ length ss → IsEmptyEnd ss → fewer + 1 ≡ empty → more ≡ take (length ranks - 1) ranks → AreSlots (take (count - 1) ss) fewer more
-slots_trimmed {N = N} ss count empty fewer ranks more h f e one r =
+pub slots_trimmed : {N : Type 0} (ss ts : List (Slot N)) (count empty fewer : ℕ) (ranks more : List ℕ) → AreSlots ss empty ranks → count ≡ length ss → ts ≡ take (count - 1) ss → IsEmptyEnd ss → fewer + 1 ≡ empty →
+    more ≡ take (length ranks - 1) ranks → AreSlots ts fewer more
+slots_trimmed {N = N} ss ts count empty fewer ranks more h f t e one r =
     let k = count - 1 in
     let A : List ℕ → Type 0 = λ ns. Ascend 0 ns in
     let L : List ℕ → Type 0 = λ ps. AreLow ps in
     let ranked : length ranks ≡ count = ap length h.ranked ∙ length-map ss rank_in ∙ sym f in
     record {
-      ascend = subst A (take-map number_in k ss) (ascend_take 0 k (numbers_of ss) h.ascend);
-      low = subst L (take-map level_in k ss) (low_take k (map level_in ss) h.low);
-      ranked = r ∙ ap (λ n. take (n - 1) ranks) ranked ∙ ap (take k) h.ranked ∙ take-map rank_in k ss;
-      counted = omega (arith, ap length (goals_trimmed ss (take k ss) count f refl e), e.some, f, one, h.counted, length-take-le k ss (omega (arith, f)));
+      ascend = rw t (subst A (take-map number_in k ss) (ascend_take 0 k (numbers_of ss) h.ascend));
+      low = rw t (subst L (take-map level_in k ss) (low_take k (map level_in ss) h.low));
+      ranked = r ∙ ap (λ n. take (n - 1) ranks) ranked ∙ ap (take k) h.ranked ∙ take-map rank_in k ss ∙ ap (map rank_in) (sym t);
+      counted = omega (arith, ap length (goals_trimmed ss ts count f t e), ap length t, e.some, f, one, h.counted, length-take-le k ss (omega (arith, f)));
     }
 
 fewer_on : {N : Type 0} (b : Bool) (g : Goal N) (gs : List (Goal N)) (count : ℕ) → length gs ≤ count → length (cond b (g ∷ gs) gs) ≤ suc count
@@ -308,15 +308,18 @@ pub slots_buried : {N : Type 0} (ss : List (Slot N)) (k empty : ℕ) (ranks : Li
     AreSlots (set ss k (emptied s)) (empty + 1) (set ranks k 0)
 slots_buried {N = N} ss k empty ranks s h w e held =
     let t : Slot N = emptied s in
-    let A : List ℕ → Type 0 = λ ns. Ascend 0 ns in
-    let L : List ℕ → Type 0 = λ ps. AreLow ps in
     let fewer = length_without s.goal (goals_in ss) (goals_in (set ss k t)) (without_at 0 ss k s h.ascend w e held) in
-    record {
-      ascend = subst A (sym (field_kept number_in ss k s t w e refl)) h.ascend;
-      low = subst L (sym (field_kept level_in ss k s t w e refl)) h.low;
-      ranked = ap (λ l. set l k 0) h.ranked ∙ sym (map-set rank_in ss k t);
-      counted = omega (arith, fewer, h.counted, length-set ss k t);
-    }
+    slots_changed ss k empty (empty + 1) ranks (set ranks k 0) s t h w e refl refl refl (omega (arith, fewer, h.counted))
+
+length_stood : {N : Type 0} (n : ℕ) (clause : Option ℕ) (gs : List (Goal N)) → length (map (stood_by n clause) gs) ≡ length gs
+length_stood n clause gs = length-map gs (stood_by n clause)
+
+pub slots_stood : {N : Type 0} (ss : List (Slot N)) (k empty : ℕ) (clause : Option ℕ) (ranks more : List ℕ) (s : Slot N) → AreSlots ss empty ranks → k < length ss → get_or ss k s ≡ s → s.is_held ≡ true →
+    more ≡ set ranks k (rank_in (record { goal = standing_by clause s.goal; is_held = s.is_held; before = s.before })) → AreSlots (set ss k (record { goal = standing_by clause s.goal; is_held = s.is_held; before = s.before })) empty more
+slots_stood {N = N} ss k empty clause ranks more s h w e held r =
+    let t : Slot N = record { goal = standing_by clause s.goal; is_held = s.is_held; before = s.before } in
+    let stood = ap length (stood_at 0 clause ss k s h.ascend w e held) ∙ length_stood s.goal.number clause (goals_in ss) in
+    slots_changed ss k empty empty ranks more s t h w e refl refl r (omega (arith, stood, h.counted))
 
 -- places without the empty ones
 pub slots_compacted : {N : Type 0} (ss ts : List (Slot N)) (empty : ℕ) (ranks more : List ℕ) → AreSlots ss empty ranks → ts ≡ filter held_in ss → more ≡ map rank_in ts → AreSlots ts 0 more
@@ -348,13 +351,14 @@ find_held ss n k x s a h e =
 pub number_here : {N : Type 0} (ss : List (Slot N)) (n k : ℕ) (x s : Slot N) → IsHeldAt ss n k s → x ≡ get_or ss k x → x.goal.number ≡ n
 number_here {N = N} ss n k x s h e = ap (λ (v : Slot N). v.goal.number) (same_read ss k x s h.within e h.at) ∙ h.number
 
-pub held_here : {N : Type 0} (ss : List (Slot N)) (n k : ℕ) (x s : Slot N) → IsHeldAt ss n k s → x ≡ get_or ss k x → IsHeldAt ss n k x
+pub held_here : {N : Type 0} (ss : List (Slot N)) (n k : ℕ) (x s : Slot N) → IsHeldAt ss n k s → x ≡ get_or ss k x → IsHeldAt ss x.goal.number k x
 held_here {N = N} ss n k x s h e = record {
   within = h.within;
   at = sym e;
-  number = number_here ss n k x s h e;
+  number = refl;
   held = ap (λ (v : Slot N). v.is_held) (same_read ss k x s h.within e h.at) ∙ h.held;
 }
 
+-- a goal that was found is held under its own number
 pub held_itself : {N : Type 0} (ss : List (Slot N)) (n k : ℕ) (s : Slot N) → IsHeldAt ss n k s → IsHeldAt ss s.goal.number k s
 held_itself ss n k s h = record { within = h.within; at = h.at; number = refl; held = h.held }

@@ -1,16 +1,16 @@
 -- Links, as places come, change and go.
-use Rattle.std.proofs.Common.{◌≡◌, ℕ, zero, suc, ◌+◌, ◌-◌, ◌^◌, ◌<◌, ◌≤◌, ◌==◌, ◌&&◌, Bool, true, false, cond, List, [], ◌∷◌, ◌++◌, Some, None, length, get_or, take, set, map, refl, sym, ◌∙◌, ap, subst, arith, inl, inr, eq-eqb}
+use Rattle.std.proofs.Common.{◌≡◌, ℕ, zero, suc, ◌+◌, ◌-◌, ◌^◌, ◌<◌, ◌≤◌, ◌==◌, ◌&&◌, Bool, true, false, cond, List, [], ◌∷◌, ◌++◌, Some, None, length, get_or, take, map, refl, sym, ◌∙◌, ap, subst, arith, inl, inr, eq-eqb}
 use Rattle.std.specs.List.{filter}
 use Rattle.std.specs.Option.{option_to_list}
 use Rattle.std.proofs.lemmas.Bool.{false≢true, ne_eqb, cases_lt, cases_eq, eqb-true}
-use Rattle.std.proofs.lemmas.List.{get_or_append_left, get_or-take, get_or_past, get_or-set_other, length-map, length-set, length_push, length-take-le, map_push, take-map, ext_get_or}
-use Rattle.std.proofs.lemmas.Grind.{get_or-set_at}
+use Rattle.std.proofs.lemmas.List.{get_or_append_left, get_or-take, get_or_past, length-map, length_push, length-take-le, map_push, take-map}
 use Rattle.std.proofs.Math.Seq.{get_or-append_seam}
 use Rattle.kl1_goals.specs.declared.goal.Goal.{Goal}
 use Rattle.kl1_goals.specs.declared.slot.Slot.{Slot}
 use Rattle.kl1_goals.specs.declared.tally.Tally.{Tally}
+use Rattle.kl1_goals.specs.Lists.{is_monitor}
 use Rattle.kl1_goals.specs.Slots.{held_in}
-use Rattle.kl1_goals.specs.Tallies.{nothing, tally_at, unlinked, HasChanged, IsTally}
+use Rattle.kl1_goals.specs.Tallies.{nothing, tally_at, unlinked, raised, lowered, IsTally}
 use Rattle.kl1_goals.specs.Chains.{shoen_in, before_in, holds_in, shoen_at, before_at, last_at, Holds, IsLink, AreLinked, AreKnown, AreChained, HoldsLess, HaveSameCounts}
 
 -- what a list of a function of the places has, after a place more and without the last ones
@@ -68,6 +68,9 @@ chained_less ss ts us w b h = record {
   lasts = λ n. rw (less_length ss ts w) (link_less ss ts n (length ss) (last_at us n) w (h.lasts n));
 }
 
+pub less_less : {N : Type 0} (ss ts us : List (Slot N)) → HoldsLess ss ts → HoldsLess ts us → HoldsLess ss us
+less_less ss ts us v w = record { shoens = w.shoens ∙ v.shoens; holds = λ n k h. v.holds n k (w.holds n k h) }
+
 known_more : (most more : ℕ) (ns : List ℕ) → AreKnown most ns → most ≤ more → AreKnown more ns
 known_more most more [] a w = tt
 known_more most more (n ∷ ns) a w = (a.0, (omega (arith, a.1.0, w), known_more most more ns a.1.1 w))
@@ -76,65 +79,15 @@ known_more most more (n ∷ ns) a w = (a.0, (omega (arith, a.1.0, w), known_more
 pub chained_more : {N : Type 0} (ss : List (Slot N)) (ts us : List Tally) → AreChained ss ts → length ts ≤ length us → ((n : ℕ) → last_at us n ≡ last_at ts n) → AreChained ss us
 chained_more ss ts us h e l = record { few = h.few; known = known_more (length ts) (length us) (map shoen_in ss) h.known e; links = h.links; lasts = λ n. rw (l n) (h.lasts n) }
 
--- ---- what is kept of shoens, of which one changes
-same_if : {X : Type 0} (h : Tally → X) (f : Tally → Tally) (b : Bool) (t : Tally) → h (f t) ≡ h t → h (cond b (f t) t) ≡ h t
-same_if h f false t e = refl
-same_if h f true t e = e
-
--- what a change of one doesn't touch
-pub same_all : {X : Type 0} (h : Tally → X) (n : ℕ) (f : Tally → Tally) (ts us : List Tally) → HasChanged n f ts us → ((t : Tally) → h (f t) ≡ h t) → (m : ℕ) → h (tally_at us m) ≡ h (tally_at ts m)
-same_all h n f ts us is same m = ap h (is.at m) ∙ same_if h f (m == n) (tally_at ts m) (same (tally_at ts m))
-
-pub same_other : (n : ℕ) (f : Tally → Tally) (ts us : List Tally) → HasChanged n f ts us → (m : ℕ) → (m ≡ n → ⊥) → tally_at us m ≡ tally_at ts m
-same_other n f ts us is m ne = is.at m ∙ rw (ne_eqb m n ne) refl
-
-pub changed_one : (n : ℕ) (f : Tally → Tally) (ts us : List Tally) → HasChanged n f ts us → tally_at us n ≡ f (tally_at ts n)
-changed_one n f ts us is = is.at n ∙ rw (eq-eqb n n refl) refl
-
-changed_if : (f h : Tally → Tally) (b : Bool) (t : Tally) → cond b (h (cond b (f t) t)) (cond b (f t) t) ≡ cond b (h (f t)) t
-changed_if f h false t = refl
-changed_if f h true t = refl
-
-pub changed_both : (n : ℕ) (f h : Tally → Tally) (ts us vs : List Tally) → HasChanged n f ts us → HasChanged n h us vs → HasChanged n (λ t. h (f t)) ts vs
-changed_both n f h ts us vs is then' = record {
-  at = λ m. then'.at m ∙ ap (λ t. cond (m == n) (h t) t) (is.at m) ∙ changed_if f h (m == n) (tally_at ts m);
-  length = then'.length ∙ is.length;
-}
-
-pub tallies_set : (f : Tally → Tally) (ts us : List Tally) (n : ℕ) → 0 < n → n ≤ length ts → HasChanged n f ts us → us ≡ set ts (n - 1) (tally_at us n)
-tallies_set f ts us n low high is = ext_get_or nothing us (set ts (n - 1) (tally_at us n)) (is.length ∙ sym (length-set ts (n - 1) (tally_at us n))) at
-  where
-    here : (k : ℕ) → k ≡ n - 1 → get_or us k nothing ≡ get_or (set ts (n - 1) (tally_at us n)) k nothing
-    here k e = let one : suc k ≡ n = omega (arith, e, low) in ap (λ m. tally_at us m) one ∙ sym (get_or-set_at ts (n - 1) k (tally_at us n) nothing e (omega (arith, low, high)))
-
-    other : (k : ℕ) → (k ≡ n - 1 → ⊥) → get_or us k nothing ≡ get_or (set ts (n - 1) (tally_at us n)) k nothing
-    other k ne = same_other n f ts us is (suc k) (λ e. ne (omega (arith, e))) ∙ sym (get_or-set_other ts (n - 1) k (tally_at us n) nothing ne)
-
-    at : (k : ℕ) → k < length us → get_or us k nothing ≡ get_or (set ts (n - 1) (tally_at us n)) k nothing
-    at k lt = elim (cases_eq k (n - 1)) [ inl e ↦ here k e | inr e ↦ other k e ]
-
--- with another link to a last place
-abbrev pub linked : ℕ → Tally → Tally
-linked l t = record t { last = l }
-
-pub counts_exchanged : (ts us : List Tally) (s l : ℕ) → HasChanged s (linked l) ts us → HaveSameCounts ts us
-counts_exchanged ts us s l is = record { counts = same_all unlinked s (linked l) ts us is (λ t. refl); length = is.length }
-
-pub last_here : (ts us : List Tally) (s l : ℕ) → HasChanged s (linked l) ts us → last_at us s ≡ l
-last_here ts us s l is = ap (λ (t : Tally). t.last) (changed_one s (linked l) ts us is)
-
-pub last_other : (ts us : List Tally) (s l : ℕ) → HasChanged s (linked l) ts us → (n : ℕ) → (n ≡ s → ⊥) → last_at us n ≡ last_at ts n
-last_other ts us s l is n ne = ap (λ (t : Tally). t.last) (same_other s (linked l) ts us is n ne)
-
 -- another link to the last place of one shoen
-pub chained_one : {N : Type 0} (ss : List (Slot N)) (ts us : List Tally) (s l : ℕ) → AreChained ss ts → IsLink ss s (length ss) l → HasChanged s (linked l) ts us → AreChained ss us
-chained_one ss ts us s l h link is = record {
+pub chained_one : {N : Type 0} (ss : List (Slot N)) (ts us : List Tally) (s l : ℕ) → AreChained ss ts → length us ≡ length ts → IsLink ss s (length ss) l → last_at us s ≡ l → ((n : ℕ) → (n ≡ s → ⊥) → last_at us n ≡ last_at ts n) → AreChained ss us
+chained_one ss ts us s l h e link here other = record {
   few = h.few;
-  known = rw is.length h.known;
+  known = rw e h.known;
   links = h.links;
   lasts = λ n. elim (cases_eq n s) [
-    | inl f ↦ rw (f, last_here ts us s l is) link
-    | inr f ↦ rw (last_other ts us s l is n f) (h.lasts n)
+    | inl f ↦ rw (f, here) link
+    | inr f ↦ rw (other n f) (h.lasts n)
   ];
 }
 
@@ -187,11 +140,11 @@ link_new ss t = record {
   none = λ j a b c. absurd (omega (arith, a, b, length_push ss t));
 }
 
-pub chained_push : {N : Type 0} (ss : List (Slot N)) (t : Slot N) (ts us : List Tally) (l : ℕ) → AreChained ss ts → l ≡ length ss + 1 → l < 2 ^ 32 → 0 < t.goal.shoen → t.goal.shoen ≤ length ts → t.before ≡ last_at ts t.goal.shoen →
-    HasChanged t.goal.shoen (linked l) ts us → AreChained (ss ++ t ∷ []) us
-chained_push ss t ts us l h link few low high before is = record {
-  few = omega (arith, link, few, length_push ss t);
-  known = rw (map_push shoen_in ss t, is.length) (known_push (length ts) t.goal.shoen (map shoen_in ss) h.known low high);
+pub chained_push : {N : Type 0} (ss : List (Slot N)) (t : Slot N) (ts us : List Tally) → AreChained ss ts → length ss + 1 < 2 ^ 32 → 0 < t.goal.shoen → t.goal.shoen ≤ length ts → t.before ≡ last_at ts t.goal.shoen →
+    length us ≡ length ts → last_at us t.goal.shoen ≡ length ss + 1 → ((n : ℕ) → (n ≡ t.goal.shoen → ⊥) → last_at us n ≡ last_at ts n) → AreChained (ss ++ t ∷ []) us
+chained_push ss t ts us h few low high before count here other = record {
+  few = omega (arith, few, length_push ss t);
+  known = rw (map_push shoen_in ss t, count) (known_push (length ts) t.goal.shoen (map shoen_in ss) h.known low high);
   links = λ k w. elim (cases_lt k (length ss)) [
     | inl a ↦ rw (push_old shoen_in ss t 0 k a, push_old before_in ss t 0 k a) (link_push ss t (shoen_at ss k) k (before_at ss k) (omega (arith, a)) (h.links k a))
     | inr a ↦ let e : k ≡ length ss = omega (arith, a, w, length_push ss t) in
@@ -199,8 +152,8 @@ chained_push ss t ts us l h link few low high before is = record {
         rw (push_new shoen_in ss t 0 k e) (subst B (sym (push_new before_in ss t 0 k e ∙ before)) (rw e (link_push ss t t.goal.shoen (length ss) (last_at ts t.goal.shoen) (omega arith) (h.lasts t.goal.shoen))))
   ];
   lasts = λ n. elim (cases_eq n t.goal.shoen) [
-    | inl e ↦ rw (e, last_here ts us t.goal.shoen l is, link) (link_new ss t)
-    | inr e ↦ rw (last_other ts us t.goal.shoen l is n e) (link_on ss t n (last_at ts n) e (h.lasts n))
+    | inl e ↦ rw (e, here) (link_new ss t)
+    | inr e ↦ rw (other n e) (link_on ss t n (last_at ts n) e (h.lasts n))
   ];
 }
 
@@ -247,12 +200,25 @@ chained_none {N = N} ts e =
 pub counts_counts : (ts us vs : List Tally) → HaveSameCounts ts us → HaveSameCounts us vs → HaveSameCounts ts vs
 counts_counts ts us vs h g = record { counts = λ n. g.counts n ∙ h.counts n; length = g.length ∙ h.length }
 
+unlinked_if : (b : Bool) (t : Tally) (l : ℕ) → unlinked (cond b (record t { last = l }) t) ≡ unlinked t
+unlinked_if false t l = refl
+unlinked_if true t l = refl
+
+pub counts_exchanged : (ts us : List Tally) (s l : ℕ) → ((n : ℕ) → tally_at us n ≡ cond (n == s) (record (tally_at ts n) { last = l }) (tally_at ts n)) → length us ≡ length ts → HaveSameCounts ts us
+counts_exchanged ts us s l e c = record { counts = λ n. ap unlinked (e n) ∙ unlinked_if (n == s) (tally_at ts n) l; length = c }
+
+pub last_here : (ts us : List Tally) (s l : ℕ) → ((n : ℕ) → tally_at us n ≡ cond (n == s) (record (tally_at ts n) { last = l }) (tally_at ts n)) → last_at us s ≡ l
+last_here ts us s l e = ap (λ (t : Tally). t.last) (e s) ∙ rw (eq-eqb s s refl) refl
+
+pub last_other : (ts us : List Tally) (s l : ℕ) → ((n : ℕ) → tally_at us n ≡ cond (n == s) (record (tally_at ts n) { last = l }) (tally_at ts n)) → (n : ℕ) → (n ≡ s → ⊥) → last_at us n ≡ last_at ts n
+last_other ts us s l e n ne = ap (λ (t : Tally). t.last) (e n) ∙ rw (ne_eqb n s ne) refl
+
 -- a place more, after the first `k`
 pub chained_next : {N : Type 0} (ss : List (Slot N)) (t : Slot N) (ts us : List Tally) (k : ℕ) → AreChained (take k ss) ts → k ≤ length ss → k + 1 < 2 ^ 32 → 0 < t.goal.shoen → t.goal.shoen ≤ length ts → t.before ≡ last_at ts t.goal.shoen →
-    HasChanged t.goal.shoen (linked (k + 1)) ts us → AreChained (take k ss ++ t ∷ []) us
-chained_next ss t ts us k h w few low high before is =
+    ((n : ℕ) → tally_at us n ≡ cond (n == t.goal.shoen) (record (tally_at ts n) { last = k + 1 }) (tally_at ts n)) → length us ≡ length ts → AreChained (take k ss ++ t ∷ []) us
+chained_next ss t ts us k h w few low high before is count =
     let many : length (take k ss) ≡ k = length-take-le k ss w in
-    chained_push (take k ss) t ts us (k + 1) h (omega (arith, many)) few low high before is
+    chained_push (take k ss) t ts us h (omega (arith, many, few)) low high before count (last_here ts us t.goal.shoen (k + 1) is ∙ ap (λ n. n + 1) (sym many)) (last_other ts us t.goal.shoen (k + 1) is)
 
 -- a shoen that is linked to a place is known
 pub last_known : (ts : List Tally) (n : ℕ) → (last_at ts n ≡ 0 → ⊥) → (0 < n) × (n ≤ length ts)
@@ -272,13 +238,23 @@ tally_counts n gs t u h e = record {
 }
 
 -- links stay as goals are counted
-pub raised_last : {N : Type 0} (m : Bool) (g : Goal N) (t : Tally) → (cond m (record t { monitor = Some g.number }) (record t { goals = t.goals + 1 })).last ≡ t.last
-raised_last false g t = refl
-raised_last true g t = refl
+raised_last_if : {N : Type 0} (b m : Bool) (g : Goal N) (t : Tally) → (cond b (cond m (record t { monitor = Some g.number }) (record t { goals = t.goals + 1 })) t).last ≡ t.last
+raised_last_if false m g t = refl
+raised_last_if true false g t = refl
+raised_last_if true true g t = refl
 
-pub lowered_last : (m : Bool) (t : Tally) → (cond m (record t { monitor = None }) (record t { goals = t.goals - 1 })).last ≡ t.last
-lowered_last false t = refl
-lowered_last true t = refl
+lowered_last_if : (b m : Bool) (t : Tally) → (cond b (cond m (record t { monitor = None }) (record t { goals = t.goals - 1 })) t).last ≡ t.last
+lowered_last_if false m t = refl
+lowered_last_if true false t = refl
+lowered_last_if true true t = refl
 
-pub chained_counted : {N : Type 0} (ss : List (Slot N)) (n : ℕ) (f : Tally → Tally) (ts us : List Tally) → AreChained ss ts → HasChanged n f ts us → ((t : Tally) → (f t).last ≡ t.last) → AreChained ss us
-chained_counted ss n f ts us h is same = chained_more ss ts us h (let e = is.length in omega (arith, e)) (same_all (λ (t : Tally). t.last) n f ts us is same)
+pub chained_raised : {N : Type 0} (ss : List (Slot N)) (ts us : List Tally) (g : Goal N) → AreChained ss ts → length us ≡ length ts → ((n : ℕ) → tally_at us n ≡ cond (n == g.shoen) (raised g (tally_at ts n)) (tally_at ts n)) → AreChained ss us
+chained_raised ss ts us g h e is = chained_more ss ts us h (omega (arith, e)) (λ n. ap (λ (t : Tally). t.last) (is n) ∙ raised_last_if (n == g.shoen) (is_monitor g) g (tally_at ts n))
+
+pub chained_lowered : {N : Type 0} (ss : List (Slot N)) (ts us : List Tally) (g : Goal N) → AreChained ss ts → length us ≡ length ts → ((n : ℕ) → tally_at us n ≡ cond (n == g.shoen) (lowered g (tally_at ts n)) (tally_at ts n)) → AreChained ss us
+chained_lowered ss ts us g h e is = chained_more ss ts us h (omega (arith, e)) (λ n. ap (λ (t : Tally). t.last) (is n) ∙ lowered_last_if (n == g.shoen) (is_monitor g) (tally_at ts n))
+
+-- a shoen whose goals went is linked to no place
+pub chained_forgotten : {N : Type 0} (ss : List (Slot N)) (ts us : List Tally) (s : ℕ) → AreChained ss ts → IsLink ss s (length ss) 0 → length us ≡ length ts → ((n : ℕ) → tally_at us n ≡ cond (n == s) nothing (tally_at ts n)) → AreChained ss us
+chained_forgotten ss ts us s h link e is =
+    chained_one ss ts us s 0 h e link (ap (λ (t : Tally). t.last) (is s) ∙ rw (eq-eqb s s refl) refl) (λ n ne. ap (λ (t : Tally). t.last) (is n) ∙ rw (ne_eqb n s ne) refl)

@@ -1,5 +1,5 @@
 -- Numbers in order.
-use Rattle.std.proofs.Common.{◌≡◌, ℕ, zero, suc, ◌+◌, ◌<◌, ◌≤◌, List, [], ◌∷◌, ◌++◌, length, take, get_or, arith, inl, inr}
+use Rattle.std.proofs.Common.{◌≡◌, ℕ, zero, suc, ◌+◌, ◌<◌, ◌≤◌, List, [], ◌∷◌, ◌++◌, length, get_or, arith, inl, inr}
 use Rattle.std.proofs.lemmas.Bool.{cases_lt, cases_eq}
 use Rattle.kl1_model.specs.declared.limits.TheConstants.{MONITOR_PRIORITY}
 use Rattle.kl1_goals.specs.Tables.{Ascend}
@@ -29,20 +29,6 @@ pub ascend_push : (from : ℕ) (ns : List ℕ) (n : ℕ) → Ascend from ns → 
 ascend_push from [] n a b p = (p, tt)
 ascend_push from (m ∷ ms) n a b p = (a.0, ascend_push (suc m) ms n a.1 b.1 (omega (arith, b.0)))
 
--- numbers below one are below a greater one
-pub below_more : (n m : ℕ) (ns : List ℕ) → n ≤ m → AreBelow n ns → AreBelow m ns
-below_more n m [] le b = tt
-below_more n m (k ∷ ks) le b = let lt = b.0 in (omega (arith, lt, le), below_more n m ks le b.1)
-
-pub below_push : (n m : ℕ) (ns : List ℕ) → AreBelow n ns → m < n → AreBelow n (ns ++ m ∷ [])
-below_push n m [] b lt = (lt, tt)
-below_push n m (k ∷ ks) b lt = (b.0, below_push n m ks b.1 lt)
-
-pub below_take : (n k : ℕ) (ns : List ℕ) → AreBelow n ns → AreBelow n (take k ns)
-below_take n zero ns b = tt
-below_take n (suc k) [] b = tt
-below_take n (suc k) (m ∷ ms) b = (b.0, below_take n k ms b.1)
-
 -- if the last is below a number, all are
 pub below_by_last : (from : ℕ) (ns : List ℕ) (n : ℕ) → Ascend from ns → ((j : ℕ) → j < length ns → get_or ns j 0 < n) → AreBelow n ns
 below_by_last from [] n a b = tt
@@ -59,6 +45,10 @@ pub low_at : (ps : List ℕ) (k : ℕ) → AreLow ps → k < length ps → get_o
 low_at [] k a w = absurd (omega arith)
 low_at (p ∷ ps) zero a w = a.0
 low_at (p ∷ ps) (suc k) a w = low_at ps k a.1 (omega arith)
+
+-- a cut before any number has no place for it
+pub cut_absent : (ns : List ℕ) (n : ℕ) → IsCut ns n 0 → IsAbsent ns n
+cut_absent ns n c j w e = omega (arith, c.high j (omega arith) w, e)
 
 -- a number above all has no place
 pub below_absent : (ns : List ℕ) (n : ℕ) → AreBelow n ns → IsAbsent ns n

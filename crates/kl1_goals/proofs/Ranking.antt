@@ -7,7 +7,7 @@ use Rattle.kl1_goals.specs.declared.goal.Goal.{Goal}
 use Rattle.kl1_goals.specs.declared.slot.Slot.{Slot}
 use Rattle.kl1_goals.specs.Readies.{Ready, goes_first, stands, ready_by, ready_of, better, first_from}
 use Rattle.kl1_goals.specs.Tables.{Ascend}
-use Rattle.kl1_goals.specs.Slots.{goals_in, numbers_of, rank_in, IsHeldAt}
+use Rattle.kl1_goals.specs.Slots.{goals_in, numbers_of, rank_in}
 use Rattle.kl1_goals.proofs.Changing.{field_read}
 
 -- the clause by which a goal can step
@@ -167,23 +167,16 @@ first_here : {N : Type 0} (best : Option Ready) (b : Bool) (g : Goal N) (gs : Li
 first_here best true g gs c e f h = ap (λ r. first_from (better best r) gs) (ready_is g ∙ ap (option_map (ready_by g)) f) ∙ ap (λ r. first_from r gs) (overtakes best (ready_by g c) h)
 first_here best false g gs c e f h = absurd (false≢true e)
 
--- no place has a greater rank than this priority's, and none before place `k` has as great a one
-pub record Leads {N : Type 0} (ss : List (Slot N)) (k priority : ℕ) : Type 0 where
-  pub greatest : (j : ℕ) → get_or (map rank_in ss) j 0 ≤ priority + 1
-  pub least : (j : ℕ) → j < k → get_or (map rank_in ss) j 0 < priority + 1
-
 -- the first of the places is the first of the goals
-pub first_at : {N : Type 0} (best : Option Ready) (from : ℕ) (ss : List (Slot N)) (k : ℕ) (s : Slot N) (c : ℕ) → Ascend from (numbers_of ss) → IsHeldAt ss s.goal.number k s → standing_in s.goal ≡ Some c →
-    IsLess best s.goal.priority → Leads ss k s.goal.priority → first_from best (goals_in ss) ≡ Some (ready_by s.goal c)
-first_at best from [] k s c a h stood less leads = let w = h.within in absurd (omega (arith, w))
-first_at {N = N} best from (t ∷ ss) zero s c a h stood less leads =
-    let e : t ≡ s = h.at in
-    rw e (first_here best s.is_held s.goal (goals_in ss) c h.held stood less ∙ first_stays (ready_by s.goal c) (suc t.goal.number) ss (omega (arith, ap (λ (v : Slot N). v.goal.number) e)) a.1 (λ j. leads.greatest (suc j)))
-first_at best from (t ∷ ss) (suc k) s c a h stood less leads =
-    let w = h.within in
-    let lower = less_on best t.is_held t.goal s.goal.priority less (λ g d f. omega (arith, leads.least 0 (omega arith), rank_held t d g f)) in
+pub first_at : {N : Type 0} (best : Option Ready) (from : ℕ) (ss : List (Slot N)) (k : ℕ) (s : Slot N) (c : ℕ) → Ascend from (numbers_of ss) → k < length ss → get_or ss k s ≡ s → s.is_held ≡ true → standing_in s.goal ≡ Some c →
+    IsLess best s.goal.priority → ((j : ℕ) → get_or (map rank_in ss) j 0 ≤ s.goal.priority + 1) → ((j : ℕ) → j < k → get_or (map rank_in ss) j 0 < s.goal.priority + 1) → first_from best (goals_in ss) ≡ Some (ready_by s.goal c)
+first_at best from [] k s c a w e held stood less all before = absurd (omega arith)
+first_at {N = N} best from (t ∷ ss) zero s c a w e held stood less all before =
+    rw e (first_here best s.is_held s.goal (goals_in ss) c held stood less ∙ first_stays (ready_by s.goal c) (suc t.goal.number) ss (omega (arith, ap (λ (v : Slot N). v.goal.number) e)) a.1 (λ j. all (suc j)))
+first_at best from (t ∷ ss) (suc k) s c a w e held stood less all before =
+    let lower = less_on best t.is_held t.goal s.goal.priority less (λ h d f. omega (arith, before 0 (omega arith), rank_held t d h f)) in
     first_on best t.is_held t.goal (goals_in ss)
-    ∙ first_at (cond t.is_held (better best (ready_of t.goal)) best) (suc t.goal.number) ss k s c a.1 (record { within = omega (arith, w); at = h.at; number = refl; held = h.held }) stood lower (record { greatest = λ j. leads.greatest (suc j); least = λ j p. leads.least (suc j) (omega arith) })
+    ∙ first_at (cond t.is_held (better best (ready_of t.goal)) best) (suc t.goal.number) ss k s c a.1 (omega arith) e held stood lower (λ j. all (suc j)) (λ j p. before (suc j) (omega arith))
 
 pub picked : {N : Type 0} (ss : List (Slot N)) (ranks : List ℕ) (k : ℕ) (s : Slot N) (c : ℕ) → Ascend 0 (numbers_of ss) → ranks ≡ map rank_in ss → IsFirst ranks k → k < length ss → s ≡ get_or ss k s → s.goal.standing ≡ Some c →
     first_from None (goals_in ss) ≡ Some (ready_by s.goal c)
@@ -194,4 +187,4 @@ picked ss ranks k s c a r f w e stood =
     let ready = ready_held s (omega (arith, at, h.ready)) in
     let clause = stands_by s.goal c ready.1 stood in
     let rank = rank_held s c ready.0 clause in
-    first_at None 0 ss k s c a (record { within = w; at = sym e; number = refl; held = ready.0 }) clause tt (record { greatest = λ j. omega (arith, h.greatest j, at, rank); least = λ j p. omega (arith, h.least j p, at, rank) })
+    first_at None 0 ss k s c a w (sym e) ready.0 clause tt (λ j. omega (arith, h.greatest j, at, rank)) (λ j p. omega (arith, h.least j p, at, rank))

@@ -7,7 +7,7 @@ use Rattle.std.proofs.lemmas.List.{append-nil, length-map, length_push, nil_from
 use Rattle.std.proofs.lemmas.List.Elements.{filter-append}
 use Rattle.kl1_goals.specs.declared.goal.Goal.{Goal}
 use Rattle.kl1_goals.specs.declared.tally.Tally.{Tally}
-use Rattle.kl1_goals.specs.Lists.{is_monitor, has_number, is_other, is_goal_of, is_monitor_of, number_of}
+use Rattle.kl1_goals.specs.Lists.{is_monitor, has_number, is_other, is_goal_of, is_monitor_of, number_of, stood_by}
 use Rattle.kl1_goals.specs.Tables.{Ascend}
 use Rattle.kl1_goals.specs.Slots.{IsWithout}
 use Rattle.kl1_goals.specs.Tallies.{nothing, tally_at, raised, lowered, IsTally}
@@ -83,6 +83,25 @@ without_on n g old new t true false e f w h = record {
 
 pub lowered_tally : {N : Type 0} (n : ℕ) (g : Goal N) (old new : List (Goal N)) (t : Tally) → IsWithout g old new → IsTally n old t → IsTally n new (cond (n == g.shoen) (lowered g t) t)
 lowered_tally n g old new t w h = without_on n g old new t (n == g.shoen) (is_monitor g) (same_back n g.shoen (n == g.shoen) refl) refl w h
+
+-- goals with other clauses
+stood_on : {N : Type 0} (f : Goal N → Goal N) (b : Bool) (g : Goal N) (gs : List (Goal N)) → cond b (f g ∷ map f gs) (map f gs) ≡ map f (cond b (g ∷ gs) gs)
+stood_on f false g gs = refl
+stood_on f true g gs = refl
+
+pub filter_stood : {N : Type 0} (p : Goal N → Bool) (f : Goal N → Goal N) → ((g : Goal N) → p (f g) ≡ p g) → (gs : List (Goal N)) → filter p (map f gs) ≡ map f (filter p gs)
+filter_stood p f same [] = refl
+filter_stood p f same (g ∷ gs) = rw (same g, filter_stood p f same gs) (stood_on f (p g) g (filter p gs))
+
+numbers_stood : {N : Type 0} (m : ℕ) (clause : Option ℕ) (gs : List (Goal N)) → map number_of (map (stood_by m clause) gs) ≡ map number_of gs
+numbers_stood m clause [] = refl
+numbers_stood m clause (g ∷ gs) = ap (λ l. g.number ∷ l) (numbers_stood m clause gs)
+
+pub stood_tally : {N : Type 0} (n m : ℕ) (clause : Option ℕ) (gs : List (Goal N)) (t : Tally) → IsTally n gs t → IsTally n (map (stood_by m clause) gs) t
+stood_tally n m clause gs t h = record {
+  goals = h.goals ∙ sym (ap length (filter_stood (is_goal_of n) (stood_by m clause) (λ g. refl) gs) ∙ length-map (filter (is_goal_of n) gs) (stood_by m clause));
+  monitor = ap (map number_of) (filter_stood (is_monitor_of n) (stood_by m clause) (λ g. refl) gs) ∙ numbers_stood m clause (filter (is_monitor_of n) gs) ∙ h.monitor;
+}
 
 -- a shoen more
 past_end : (x : Tally) (ts : List Tally) (n : ℕ) → get_or (ts ++ x ∷ []) n x ≡ get_or ts n x

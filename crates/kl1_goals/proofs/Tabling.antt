@@ -1,5 +1,5 @@
 -- A whole table.
-use Rattle.std.proofs.Common.{◌≡◌, ℕ, zero, suc, ◌<◌, ◌≤◌, ◌==◌, Bool, not, true, false, cond, nat_lt, List, [], ◌∷◌, ◌++◌, Option, Some, None, IfSome, length, get_or, map, refl, sym, ◌∙◌, ap, arith, inl, inr, eq-eqb}
+use Rattle.std.proofs.Common.{◌≡◌, ℕ, zero, suc, ◌<◌, ◌≤◌, ◌==◌, Bool, not, true, false, cond, nat_lt, List, [], ◌∷◌, ◌++◌, Option, Some, None, IfSome, Result, Ok, Err, OnOk, length, map, refl, sym, ◌∙◌, ap, arith, inl, inr}
 use Rattle.std.specs.List.{filter, find, list_any}
 use Rattle.std.proofs.lemmas.Bool.{ltb-true, lt-ltb, le-ltb, cases_lt}
 use Rattle.std.proofs.lemmas.List.{length_push}
@@ -7,12 +7,11 @@ use Rattle.kl1_model.specs.declared.limits.TheConstants.{MONITOR_PRIORITY}
 use Rattle.kl1_goals.specs.declared.goal.Goal.{Goal}
 use Rattle.kl1_goals.specs.declared.slot.Slot.{Slot}
 use Rattle.kl1_goals.specs.declared.tally.Tally.{Tally}
-use Rattle.kl1_goals.specs.Lists.{has_number, is_other, is_after, number_of, stood_by, looked_at}
+use Rattle.kl1_goals.specs.Lists.{has_number, is_other, is_after, is_goal_of, number_of, stood_by}
 use Rattle.kl1_goals.specs.Tables.{Ascend, IsKnown}
-use Rattle.kl1_goals.specs.Slots.{goals_in, level_in, looked_in, AreLow, IsHeldAt}
+use Rattle.kl1_goals.specs.Slots.{goals_in, level_in, AreLow}
 use Rattle.kl1_goals.specs.Tallies.{nothing, tally_at, IsTally}
-use Rattle.kl1_goals.specs.Keeping.{Parts, IsTable, parts}
-use Rattle.kl1_goals.proofs.Changing.{find_held}
+use Rattle.kl1_goals.specs.Keeping.{IsTable}
 use Rattle.kl1_goals.proofs.Linking.{chained_none, chained_more}
 use Rattle.kl1_goals.proofs.Shoens.{opened_tally, shoen_known, any_counted, any_beside}
 
@@ -20,7 +19,7 @@ nothing_at : (n : ℕ) → tally_at [] n ≡ nothing
 nothing_at zero = refl
 nothing_at (suc n) = refl
 
-pub empty_table : {N : Type 0} → IsTable {N = N} (parts [] 0 [] [] 0 0)
+pub empty_table : {N : Type 0} → IsTable {N = N} [] 0 [] [] 0
 empty_table {N = N} =
     let empty : (n : ℕ) → IsTally {N = N} n [] nothing = λ n. record { goals = refl; monitor = refl } in
     record {
@@ -28,19 +27,15 @@ empty_table {N = N} =
       tallied = λ n. rw (nothing_at n) (empty n);
       chained = chained_none [] (λ n. ap (λ (t : Tally). t.last) (nothing_at n));
       alive = refl;
-      below = tt;
     }
 
-pub opened_table : {N : Type 0} (p : Parts N) → IsTable p → IsTable (record p { tallies = p.tallies ++ nothing ∷ [] })
-opened_table p h =
-    let ts = p.tallies in
-    record {
-      slots = h.slots;
-      tallied = λ n. rw (opened_tally ts n) (h.tallied n);
-      chained = chained_more p.slots ts (ts ++ nothing ∷ []) h.chained (omega (arith, length_push ts nothing)) (λ n. ap (λ (t : Tally). t.last) (opened_tally ts n));
-      alive = h.alive;
-      below = h.below;
-    }
+pub opened_table : {N : Type 0} (ss : List (Slot N)) (empty : ℕ) (ranks : List ℕ) (ts : List Tally) (alive : ℕ) → IsTable ss empty ranks ts alive → IsTable ss empty ranks (ts ++ nothing ∷ []) alive
+opened_table ss empty ranks ts alive h = record {
+  slots = h.slots;
+  tallied = λ n. rw (opened_tally ts n) (h.tallied n);
+  chained = chained_more ss ts (ts ++ nothing ∷ []) h.chained (omega (arith, length_push ts nothing)) (λ n. ap (λ (t : Tally). t.last) (opened_tally ts n));
+  alive = h.alive;
+}
 
 -- a goal that was found passes the test
 some_on : {N : Type 0} (p : Goal N → Bool) (b : Bool) (h g : Goal N) (o : Option (Goal N)) → p h ≡ b → cond b (Some h) o ≡ Some g → (o ≡ Some g → p g ≡ true) → p g ≡ true
@@ -77,18 +72,14 @@ found_low q [] g a f = absurd (cc)
 found_low q (s ∷ ss) g a f = low_slot_on q s.is_held s.goal g (goals_in ss) a.0 f (found_low q ss g a.1)
 
 -- what is known of a goal that was found
-pub known_found : {N : Type 0} (q : Goal N → Bool) (p : Parts N) (g : Goal N) → IsTable p → find q (goals_in p.slots) ≡ Some g → IsKnown g (length p.tallies)
-known_found q p g h f =
-    let k = shoen_known g (goals_in p.slots) p.tallies (λ r e. found_counts q r (goals_in p.slots) g f e) h.tallied in
-    record { low = k.0; high = k.1; priority = found_low q p.slots g h.slots.low f }
+pub known_found : {N : Type 0} (q : Goal N → Bool) (ss : List (Slot N)) (empty : ℕ) (ranks : List ℕ) (ts : List Tally) (alive : ℕ) (g : Goal N) → IsTable ss empty ranks ts alive → find q (goals_in ss) ≡ Some g → IsKnown g (length ts)
+known_found q ss empty ranks ts alive g h f =
+    let k = shoen_known g (goals_in ss) ts (λ p e. found_counts q p (goals_in ss) g f e) h.tallied in
+    record { low = k.0; high = k.1; priority = found_low q ss g h.slots.low f }
 
-pub known_if : {N : Type 0} (q : Goal N → Bool) (p : Parts N) (o : Option (Goal N)) → IsTable p → o ≡ find q (goals_in p.slots) → IfSome o (λ g. IsKnown g (length p.tallies))
-known_if q p None h e = tt
-known_if q p (Some g) h e = known_found q p g h (sym e)
-
--- the goal at a place is known
-pub known_place : {N : Type 0} (p : Parts N) (n k : ℕ) (x s : Slot N) → IsTable p → IsHeldAt p.slots n k s → x ≡ get_or p.slots k x → IsKnown x.goal (length p.tallies)
-known_place p n k x s h held e = known_found (has_number n) p x.goal h (find_held p.slots n k x s h.slots.ascend held e)
+pub known_if : {N : Type 0} (q : Goal N → Bool) (ss : List (Slot N)) (empty : ℕ) (ranks : List ℕ) (ts : List Tally) (alive : ℕ) (o : Option (Goal N)) → IsTable ss empty ranks ts alive → o ≡ find q (goals_in ss) → IfSome o (λ g. IsKnown g (length ts))
+known_if q ss empty ranks ts alive None h e = tt
+known_if q ss empty ranks ts alive (Some g) h e = known_found q ss empty ranks ts alive g h (sym e)
 
 pub after_if : {N : Type 0} (n : ℕ) (gs : List (Goal N)) (o : Option (Goal N)) → o ≡ find (is_after n) gs → IfSome o (λ g. n < g.number)
 after_if n gs None e = tt
@@ -103,22 +94,13 @@ pub missing_others : {N : Type 0} (n : ℕ) (gs : List (Goal N)) → find (has_n
 missing_others n [] e = refl
 missing_others n (g ∷ gs) e = let m = missing_head (g.number == n) g (find (has_number n) gs) e in rw m.0 (ap (λ l. g ∷ l) (missing_others n gs m.1))
 
-pub missing_stay : {N : Type 0} (f : Goal N → Goal N) (n : ℕ) (gs : List (Goal N)) → ((g : Goal N) → (g.number == n) ≡ false → f g ≡ g) → find (has_number n) gs ≡ None → gs ≡ map f gs
-missing_stay f n [] other e = refl
-missing_stay f n (g ∷ gs) other e = let m = missing_head (g.number == n) g (find (has_number n) gs) e in rw (other g m.0) (ap (λ l. g ∷ l) (missing_stay f n gs other m.1))
+pub missing_stood : {N : Type 0} (n : ℕ) (clause : Option ℕ) (gs : List (Goal N)) → find (has_number n) gs ≡ None → map (stood_by n clause) gs ≡ gs
+missing_stood n clause [] e = refl
+missing_stood n clause (g ∷ gs) e = let m = missing_head (g.number == n) g (find (has_number n) gs) e in rw m.0 (ap (λ l. g ∷ l) (missing_stood n clause gs m.1))
 
--- what is changed of the goal with a number alone
-pub stood_other : {N : Type 0} (n : ℕ) (clause : Option ℕ) (g : Goal N) → (g.number == n) ≡ false → stood_by n clause g ≡ g
-stood_other n clause g e = rw e refl
-
-pub stood_here : {N : Type 0} (n : ℕ) (clause : Option ℕ) (s : Slot N) → s.goal.number ≡ n → (looked_in clause s.goal.is_enabled s).goal ≡ stood_by n clause s.goal
-stood_here n clause s e = rw (eq-eqb s.goal.number n e) refl
-
-pub looked_here : {N : Type 0} (n : ℕ) (clause : Option ℕ) (b : Bool) (s : Slot N) → s.goal.number ≡ n → (looked_in clause b s).goal ≡ looked_at n clause b s.goal
-looked_here n clause b s e = rw (eq-eqb s.goal.number n e) refl
-
-pub looked_other : {N : Type 0} (n : ℕ) (clause : Option ℕ) (b : Bool) (g : Goal N) → (g.number == n) ≡ false → looked_at n clause b g ≡ g
-looked_other n clause b g e = rw e refl
+-- how many goals a shoen has, by what is kept of it
+pub goals_counted : {N : Type 0} (n : ℕ) (ss : List (Slot N)) (empty : ℕ) (ranks : List ℕ) (ts : List Tally) (alive : ℕ) (t : Tally) (gs : List (Goal N)) → IsTable ss empty ranks ts alive → t ≡ tally_at ts n → goals_in ss ≡ gs → t.goals ≡ length (filter (is_goal_of n) gs)
+goals_counted n ss empty ranks ts alive t gs h e s = ap (λ (u : Tally). u.goals) e ∙ (h.tallied n).goals ∙ ap (λ l. length (filter (is_goal_of n) l)) s
 
 -- if not just one goal passes, it doesn't matter whether one that is left out does
 most_left : (b : Bool) (count : ℕ) → (count ≡ 1 → ⊥) → nat_lt 1 count ≡ nat_lt (cond b 1 0) count
@@ -144,3 +126,8 @@ any_missing p n count gs f e one = ap (nat_lt 0) (sym one ∙ e) ∙ sym (any_co
 pub any_one : {N : Type 0} (p : Goal N → Bool) (n count : ℕ) (gs : List (Goal N)) (g : Goal N) → Ascend 0 (map number_of gs) → find (has_number n) gs ≡ Some g → count ≡ length (filter p gs) → count ≡ 1 →
     not (p g) ≡ list_any p (filter (is_other n) gs)
 any_one p n count gs g a f e one = one_fallen (p g) ∙ any_beside p (p g) n 1 gs g a f (sym one ∙ e) refl
+
+-- a fact holds if a call succeeds
+pub on_always : {T E P : Type 0} (r : Result T E) → P → OnOk r P
+on_always (Ok x) p = p
+on_always (Err e) p = tt

@@ -2,7 +2,7 @@
 use Rattle.std.specs.Prelude.{◌≡◌, ℕ, suc, ◌^◌, ◌<◌, ◌≤◌, ◌==◌, ◌&&◌, not, Bool, true, false, if◌then◌else◌, List, [], ◌∷◌, map, length, get_or}
 use Rattle.kl1_goals.specs.declared.slot.Slot.{Slot}
 use Rattle.kl1_goals.specs.declared.tally.Tally.{Tally}
-use Rattle.kl1_goals.specs.Lists.{is_monitor, is_goal_of}
+use Rattle.kl1_goals.specs.Lists.{is_goal_of}
 use Rattle.kl1_goals.specs.Tallies.{tally_at, unlinked}
 
 -- the shoen of a place, of an empty one too
@@ -69,16 +69,15 @@ pub record HoldsLess {N : Type 0} (old new : List (Slot N)) : Type 0 where
   pub shoens : map shoen_in new ≡ map shoen_in old
   pub holds : (n k : ℕ) → Holds new n k → Holds old n k
 
--- what a place is to links, to the order of places and to counts
+-- what a place is to links and to the order of places
 pub record Shape : Type 0 where
   pub number : ℕ
   pub shoen : ℕ
   pub priority : ℕ
-  pub is_monitor : Bool
   pub is_held : Bool
 
 abbrev pub shape_in : {N : Type 0} → Slot N → Shape
-shape_in s = record { number = s.goal.number; shoen = s.goal.shoen; priority = s.goal.priority; is_monitor = is_monitor s.goal; is_held = s.is_held }
+shape_in s = record { number = s.goal.number; shoen = s.goal.shoen; priority = s.goal.priority; is_held = s.is_held }
 
 -- a place without its link
 abbrev pub unlinked_in : {N : Type 0} → Slot N → Slot N

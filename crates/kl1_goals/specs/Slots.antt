@@ -55,6 +55,10 @@ let_in n b s = record s { goal = enabled_in n b s.goal }
 abbrev pub emptied : {N : Type 0} → Slot N → Slot N
 emptied s = record s { is_held = false }
 
+-- a place whose goal could step by this clause from now on
+abbrev pub standing_in : {N : Type 0} → Option ℕ → Slot N → Slot N
+standing_in clause s = record s { goal = record s.goal { standing = clause } }
+
 -- a place whose goal could step by this clause and may step, or may not, from now on
 abbrev pub looked_in : {N : Type 0} → Option ℕ → Bool → Slot N → Slot N
 looked_in clause b s = record s { goal = record s.goal { standing = clause; is_enabled = b } }

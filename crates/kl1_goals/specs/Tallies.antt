@@ -30,11 +30,6 @@ lowered g t = if is_monitor g then record t { monitor = None } else record t { g
 abbrev pub left : ℕ → ℕ → Tally → Tally
 left link before t = if t.last == link then record t { last = before } else t
 
--- what is kept of shoens, of which one has changed
-pub record HasChanged (n : ℕ) (f : Tally → Tally) (old new : List Tally) : Type 0 where
-  pub at : (m : ℕ) → tally_at new m ≡ (if m == n then f (tally_at old m) else tally_at old m)
-  pub length : length new ≡ length old
-
 -- what is kept of a shoen is so of these goals
 pub record IsTally {N : Type 0} (n : ℕ) (gs : List (Goal N)) (t : Tally) : Type 0 where
   pub goals : t.goals ≡ length (filter (is_goal_of n) gs)

@@ -1,10 +1,9 @@
 // What a table of goals was when an event began.
 
-ghost use Rattle.std.specs.Prelude.{◌≡◌, ◌<◌, ◌≤◌, List, set, length, OnOk};
+ghost use Rattle.std.specs.Prelude.{◌≡◌, ◌-◌, ◌<◌, ◌≤◌, set, length, OnOk};
 ghost use Rattle.kl1_goals.specs.declared.slot.Slot.{Slot};
 ghost use Rattle.kl1_goals.specs.declared.tally.Tally.{Tally};
-ghost use Rattle.kl1_goals.specs.Tallies.{HasChanged};
-ghost use Rattle.kl1_goals.specs.Keeping.{places_then, kept_then};
+ghost use Rattle.kl1_goals.specs.Rows.{places_then, kept_then};
 
 use crate::slot::Slot;
 use crate::tally::Tally;
@@ -13,7 +12,7 @@ use kl1_text::NameValue;
 use std::alloc::AllocError;
 
 /// What has stood since an event began at places where something else stands, and what was kept of shoens; and how many places, empty
-/// places, shoens and goals other than monitors there were, and the greatest number of a goal that was put.
+/// places, shoens and goals other than monitors there were.
 #[derive(Drop)]
 pub(crate) struct Begun<N: NameValue> {
     pub slots: Vec<Was<Slot<N>>>,
@@ -22,7 +21,6 @@ pub(crate) struct Begun<N: NameValue> {
     pub tallies: Vec<Was<Tally>>,
     pub shoens: usize,
     pub alive: u64,
-    pub last: u64,
 }
 
 /// Notes what stands at a place before something else is put there.
@@ -36,10 +34,6 @@ pub(crate) fn note_slot<N: NameValue>(
     ensures same { places_then begun.new slots.now.items ≡ places_then begun.old slots.now.items }
     ensures rest { begun.new ≡ record begun.old { slots = begun.new.slots } }
 {
-    // A place that came since the event began goes, with what stands there, when the table goes back.
-    if begun.places <= place {
-        return Ok(());
-    }
     let value = slots[place];
     begun.slots.push(Was { place, value })?;
     Ok(())
@@ -53,7 +47,7 @@ pub(crate) fn note_tally<N: NameValue>(
 ) -> Result<(), AllocError>
     requires low { 0 < shoen }
     requires high { shoen ≤ length tallies.now.items }
-    ensures ok { OnOk result ((f : Tally → Tally) (ts : List Tally) → HasChanged shoen f tallies.now.items ts → kept_then begun.new ts ≡ kept_then begun.old tallies.now.items) }
+    ensures ok { OnOk result ((t : Tally) → kept_then begun.new (set tallies.now.items (shoen - 1) t) ≡ kept_then begun.old tallies.now.items) }
     ensures same { kept_then begun.new tallies.now.items ≡ kept_then begun.old tallies.now.items }
     ensures rest { begun.new ≡ record begun.old { tallies = begun.new.tallies } }
 {

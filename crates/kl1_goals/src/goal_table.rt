@@ -1,84 +1,66 @@
-// The table of goals, which can be put back to what it was when an event began.
+// The table of goals.
 
-ghost use Rattle.std.specs.Prelude.{◌≡◌, ◌+◌, ◌<◌, not, [], ◌∷◌, ◌++◌, None, map, option_copied, option_map, IfSome, IfOk, OnOk, MatchOption};
+ghost use Rattle.std.specs.Prelude.{◌≡◌, ◌+◌, ◌<◌, ◌≤◌, ℕ, not, List, [], ◌∷◌, ◌++◌, None, map, option_map, IfSome, OnOk};
 ghost use Rattle.std.specs.List.{filter, find, list_any, count_by};
-ghost use Rattle.kl1_goals.specs.Lists.{has_number, is_other, is_after, is_monitor, is_monitor_of, is_goal_of, is_in, stood_by, looked_at, enabled_in};
+ghost use Rattle.kl1_goals.specs.Lists.{has_number, is_other, is_after, is_monitor, is_monitor_of, is_goal_of, is_in, stood_by, enabled_in};
 ghost use Rattle.kl1_goals.specs.Readies.{first_from, chosen, stands};
-ghost use Rattle.kl1_goals.specs.Tables.{IsNext, IsKnown, IsOfShoen, AreInOrder, AreSingle};
+ghost use Rattle.kl1_goals.specs.Tables.{Tabled, IsNext, IsKnown, AreInOrder, AreSingle};
 
-use crate::begun::{Begun, note_slot, note_tally};
+use crate::chains::{empty_all, held_link, let_all_step};
 use crate::goal::Goal;
-use crate::noting::{cut_ranks, let_each_step, put_slots_back, relink};
-use crate::places::{append, bury, count_upto, first_held, held_place, look_at, tidy};
+use crate::places::{append, bury, count_upto, first_held, held_place, make_end, stand, tidy};
 use crate::room::make_room;
 use crate::slot::Slot;
-use crate::tally::{Tally, exchange_last, lower, lower_alive, raise, raise_alive, tally_of};
+use crate::tally::{
+    Tally, exchange_last, forget, lower, lower_alive, raise, raise_alive, tally_of,
+};
 use kl1_queue::ReadyQueue;
-use kl1_shoen_paths::put_all_back;
 use kl1_text::NameValue;
 use std::alloc::{AllocError, Global};
 use std::marker::Model;
 
 /// How many places there can be.
-const MOST: usize = 0xffff_fffe;
+const MOST: usize = 0xffff_ffff;
 
 /// The goals of an account in order of number, each with the clause by which it could step and whether it may, and its shoens,
-/// counted from 1; as they are, and as they were when the event began.
+/// counted from 1.
 ///
-/// A goal that is removed leaves its place empty; empty places are dropped when an event begins. `last` is the greatest number of
-/// a goal that was put. `seen` is the place in which a goal was found last to change it: a hint of where it may be.
+/// A goal that is removed leaves its place empty; empty places are dropped if no goal is after them, and if they come to
+/// more than three quarters. `seen` is the place in which a goal was found last to change it: a hint of where it may be.
+#[derive(Drop)]
 pub struct GoalTable<N: NameValue> {
-    slots: Vec<Slot<N>>,
-    empty: usize,
-    queue: ReadyQueue,
-    tallies: Vec<Tally>,
-    alive: u64,
-    last: u64,
-    seen: usize,
-    begun: Begun<N>,
-}
-
-/// Not derived, so that crates above don't prove the drop of each part again.
-impl<N: NameValue> Drop for GoalTable<N> {
-    fn drop(self) {
-        let GoalTable {
-            slots,
-            empty: _,
-            queue,
-            tallies,
-            alive: _,
-            last: _,
-            seen: _,
-            begun,
-        } = self;
-        let _ = (slots, queue, tallies, begun);
-    }
+    pub(crate) slots: Vec<Slot<N>>,
+    pub(crate) empty: usize,
+    pub(crate) queue: ReadyQueue,
+    pub(crate) tallies: Vec<Tally>,
+    pub(crate) alive: u64,
+    pub(crate) seen: usize,
 }
 
 impl<N: NameValue> Model for GoalTable<N> {
-    ghost use Rattle.std.specs.Prelude.{length};
-    ghost use Rattle.kl1_goals.specs.Slots.{goals_in};
+    ghost use Rattle.std.specs.Prelude.{◌-◌, ◌^◌, min, length, vec_len, vec_capacity};
     ghost use Rattle.kl1_goals.specs.Tables.{Tabled};
-    ghost use Rattle.kl1_goals.specs.Keeping.{AreTables, parts, places_then};
 
     ghost Value = { Tabled N };
+
+    ghost use Rattle.kl1_goals.specs.Slots.{goals_in};
+    ghost use Rattle.kl1_goals.specs.Keeping.{IsTable};
 
     ghost view = { λ t. record {
       goals = goals_in t.slots.items;
       shoens = length t.tallies.items;
-      last = t.last;
-      begun = goals_in (places_then t.begun t.slots.items);
-      begun_shoens = t.begun.shoens;
-      begun_last = t.begun.last;
+      room = min (min (vec_capacity t.slots - vec_len t.slots) t.queue.room) (2 ^ 32 - 1 - vec_len t.slots);
+      shoen_room = vec_capacity t.tallies - vec_len t.tallies;
     } };
 
-    ghost invariant = { λ t. AreTables (parts t.slots.items t.empty t.queue.ranks t.tallies.items t.alive t.last) t.begun };
+    ghost invariant = { λ t. IsTable t.slots.items t.empty t.queue.ranks t.tallies.items t.alive };
 }
 
 impl<N: NameValue> GoalTable<N> {
-    /// No goals and no shoens.
+    /// A table without goals and shoens.
     pub fn new(alloc: Global) -> Self
-        ensures { result ≡ record { goals = []; shoens = 0; last = 0; begun = []; begun_shoens = 0; begun_last = 0 } }
+        ensures goals { result.goals ≡ [] }
+        ensures shoens { result.shoens ≡ 0 }
     {
         GoalTable {
             slots: Vec::new(alloc),
@@ -86,211 +68,41 @@ impl<N: NameValue> GoalTable<N> {
             queue: ReadyQueue::new(alloc),
             tallies: Vec::new(alloc),
             alive: 0,
-            last: 0,
             seen: 0,
-            begun: Begun {
-                slots: Vec::new(alloc),
-                places: 0,
-                empty: 0,
-                tallies: Vec::new(alloc),
-                shoens: 0,
-                alive: 0,
-                last: 0,
-            },
         }
     }
 
-    /// Marks the goals as they are: `back` comes back to this.
-    pub fn begin(&mut self)
-        ensures { self.new ≡ record self.old { begun = self.old.goals; begun_shoens = self.old.shoens; begun_last = self.old.last } }
+    /// Makes room for `goals` goals and `shoens` shoens more: to put and to open these can't be refused then.
+    #[inline(always)]
+    pub fn reserve(&mut self, goals: usize, shoens: usize) -> Result<(), AllocError>
+        ensures room { OnOk result (goals ≤ self.new.room) }
+        ensures shoen_room { OnOk result (shoens ≤ self.new.shoen_room) }
+        ensures goals { self.new.goals ≡ self.old.goals }
+        ensures shoens { self.new.shoens ≡ self.old.shoens }
+        ensures more { self.old.room ≤ self.new.room }
+        ensures more_shoens { self.old.shoen_room ≤ self.new.shoen_room }
     {
-        tidy(
-            &mut self.slots,
-            &mut self.empty,
-            &mut self.queue,
-            &mut self.tallies,
-        );
-        self.begun.slots.clear();
-        self.begun.places = self.slots.len();
-        self.begun.empty = self.empty;
-        self.begun.tallies.clear();
-        self.begun.shoens = self.tallies.len();
-        self.begun.alive = self.alive;
-        self.begun.last = self.last;
-    }
-
-    /// Takes back all that was done since the event began, without memory.
-    pub fn back(&mut self)
-        ensures { self.new ≡ record self.old { goals = self.old.begun; shoens = self.old.begun_shoens; last = self.old.begun_last } }
-    {
-        self.slots.truncate(self.begun.places);
-        cut_ranks(&mut self.queue, self.begun.places);
-        put_slots_back(&mut self.slots, &mut self.queue, &mut self.begun.slots);
-        self.tallies.truncate(self.begun.shoens);
-        put_all_back(&mut self.tallies, &mut self.begun.tallies);
-        self.empty = self.begun.empty;
-        self.alive = self.begun.alive;
-        self.last = self.begun.last;
-    }
-
-    /// How many goals there are other than monitors.
-    pub fn alive(&self) -> u64
-        ensures { result ≡ count_by (λ g. not (is_monitor g)) self.now.goals }
-    {
-        self.alive
+        if goals > MOST - self.slots.len() {
+            return Err(AllocError);
+        }
+        make_room(&mut self.slots, goals)?;
+        self.queue.reserve(goals)?;
+        make_room(&mut self.tallies, shoens)
     }
 
     /// One shoen more is known, without goals: its number is the next.
-    pub fn open(&mut self) -> Result<(), AllocError>
-        ensures ok { OnOk result (self.new.shoens ≡ self.old.shoens + 1) }
-        ensures rest { self.new ≡ record self.old { shoens = self.new.shoens } }
+    pub fn open(&mut self)
+        requires { 0 < self.old.shoen_room }
+        ensures goals { self.new.goals ≡ self.old.goals }
+        ensures shoens { self.new.shoens ≡ self.old.shoens + 1 }
+        ensures room { self.new.room ≡ self.old.room }
+        ensures shoen_room { self.new.shoen_room + 1 ≡ self.old.shoen_room }
     {
-        self.tallies.push(Tally {
+        self.tallies.push_reserved(Tally {
             goals: 0,
             monitor: None,
             last: 0,
-        })?;
-        Ok(())
-    }
-
-    /// From now on goal `number` has this clause by which it could step, or none.
-    pub fn set_standing(&mut self, number: u64, standing: Option<u64>) -> Result<(), AllocError>
-        ensures ok { OnOk result (self.new.goals ≡ map (stood_by number standing) self.old.goals) }
-        ensures rest { self.new ≡ record self.old { goals = self.new.goals } }
-    {
-        let Some(place) = held_place(&self.slots, self.seen, number) else {
-            return Ok(());
-        };
-        self.seen = place;
-        let is_enabled = self.slots[place].goal.is_enabled;
-        look_at(
-            &mut self.begun,
-            &mut self.slots,
-            self.empty,
-            &mut self.queue,
-            place,
-            standing,
-            is_enabled,
-        )
-    }
-
-    /// From now on goal `number` has this clause by which it could step, or none, and may step, or may not.
-    pub fn look(
-        &mut self,
-        number: u64,
-        standing: Option<u64>,
-        is_enabled: bool,
-    ) -> Result<(), AllocError>
-        ensures ok { OnOk result (self.new.goals ≡ map (looked_at number standing is_enabled) self.old.goals) }
-        ensures rest { self.new ≡ record self.old { goals = self.new.goals } }
-    {
-        let Some(place) = held_place(&self.slots, self.seen, number) else {
-            return Ok(());
-        };
-        self.seen = place;
-        look_at(
-            &mut self.begun,
-            &mut self.slots,
-            self.empty,
-            &mut self.queue,
-            place,
-            standing,
-            is_enabled,
-        )
-    }
-
-    /// Puts a goal after all others, with a number above all that were put before, those of removed goals too.
-    pub fn put(&mut self, goal: Goal<N>) -> Result<(), AllocError>
-        requires later { self.old.last < goal.number }
-        requires next { IsNext goal self.old.goals self.old.shoens }
-        ensures ok { OnOk result (self.new.goals ≡ self.old.goals ++ goal ∷ []) }
-        ensures last { OnOk result (self.new.last ≡ goal.number) }
-        ensures rest { self.new ≡ record self.old { goals = self.new.goals; last = self.new.last } }
-    {
-        if self.slots.len() >= MOST {
-            return Err(AllocError);
-        }
-        make_room(&mut self.slots, 1)?;
-        self.queue.reserve(1)?;
-        note_tally(&mut self.begun, &self.tallies, goal.shoen)?;
-        let last = self.slots.len() as u32 + 1;
-        let before = exchange_last(&mut self.tallies, goal.shoen, last);
-        append(&mut self.slots, self.empty, &mut self.queue, &goal, before);
-        raise(&mut self.tallies, &goal);
-        self.alive = raise_alive(self.alive, &goal);
-        self.last = goal.number;
-        Ok(())
-    }
-
-    /// Removes the goal with number `number`, if there is one.
-    pub fn remove(&mut self, number: u64) -> Result<(), AllocError>
-        ensures ok { OnOk result (self.new.goals ≡ filter (is_other number) self.old.goals) }
-        ensures rest { self.new ≡ record self.old { goals = self.new.goals } }
-    {
-        let Some(place) = held_place(&self.slots, self.seen, number) else {
-            return Ok(());
-        };
-        note_slot(&mut self.begun, &self.slots, place)?;
-        let goal = self.slots[place].goal;
-        note_tally(&mut self.begun, &self.tallies, goal.shoen)?;
-        self.seen = place;
-        bury(&mut self.slots, &mut self.empty, &mut self.queue, place);
-        lower(&mut self.tallies, &goal);
-        self.alive = lower_alive(self.alive, &goal);
-        Ok(())
-    }
-
-    /// Removes the monitor of a shoen, if it has one.
-    pub fn remove_monitor(&mut self, shoen: u64) -> Result<(), AllocError>
-        ensures ok { OnOk result (self.new.goals ≡ filter (λ g. not (is_monitor_of shoen g)) self.old.goals) }
-        ensures rest { self.new ≡ record self.old { goals = self.new.goals } }
-    {
-        let tally = tally_of(&self.tallies, shoen);
-        match tally.monitor {
-            None => Ok(()),
-            Some(number) => self.remove(number),
-        }
-    }
-
-    /// From now on the goals of a shoen other than its monitor may step, or may not.
-    pub fn enable(&mut self, shoen: u64, is_enabled: bool) -> Result<(), AllocError>
-        ensures ok { OnOk result (self.new.goals ≡ map (enabled_in shoen is_enabled) self.old.goals) }
-        ensures rest { self.new ≡ record self.old { goals = self.new.goals } }
-    {
-        let link = relink(&mut self.begun, &self.slots, &mut self.tallies, shoen)?;
-        let_each_step(
-            &mut self.begun,
-            &mut self.slots,
-            &mut self.queue,
-            link,
-            shoen,
-            is_enabled,
-        )
-    }
-
-    /// The number of the last goal of a shoen, its monitor included, if it has any.
-    fn last_of(&mut self, shoen: u64) -> Result<Option<u64>, AllocError>
-        ensures same { self.new ≡ self.old }
-        ensures last { IfOk result (λ last. MatchOption last (self.old.goals ≡ filter (λ g. not (is_in shoen g)) self.old.goals) (λ number. IsOfShoen shoen number self.old.goals)) }
-    {
-        let link = relink(&mut self.begun, &self.slots, &mut self.tallies, shoen)?;
-        if link == 0 {
-            return Ok(None);
-        }
-        let place = link as usize - 1;
-        self.seen = place;
-        Ok(Some(self.slots[place].goal.number))
-    }
-
-    /// Removes the goals of a shoen, its monitor too.
-    pub fn remove_all(&mut self, shoen: u64) -> Result<(), AllocError>
-        ensures ok { OnOk result (self.new.goals ≡ filter (λ g. not (is_in shoen g)) self.old.goals) }
-        ensures rest { self.new ≡ record self.old { goals = self.new.goals } }
-    {
-        while let Some(number) = self.last_of(shoen)? {
-            self.remove(number)?;
-        }
-        Ok(())
+        });
     }
 
     /// How many shoens are known.
@@ -309,23 +121,9 @@ impl<N: NameValue> GoalTable<N> {
         ensures known { IfSome result (λ g. IsKnown g self.now.shoens) }
         ensures order { AreInOrder self.now.goals }
     {
-        match self.lend(number) {
-            None => None,
-            Some(goal) => Some(*goal),
-        }
-    }
-
-    /// The goal with number `number`, lent.
-    #[inline]
-    pub fn lend(&self, number: u64) -> Option<&Goal<N>>
-        ensures goal { option_copied result ≡ find (has_number number) self.now.goals }
-        ensures number { IfSome result (λ g. g.now.number ≡ number) }
-        ensures known { IfSome result (λ g. IsKnown g.now self.now.shoens) }
-        ensures order { AreInOrder self.now.goals }
-    {
         match held_place(&self.slots, self.seen, number) {
             None => None,
-            Some(place) => Some(&self.slots[place].goal),
+            Some(place) => Some(self.slots[place].goal),
         }
     }
 
@@ -340,11 +138,148 @@ impl<N: NameValue> GoalTable<N> {
         first_held(&self.slots, from)
     }
 
+    /// Puts a goal after all others.
+    #[inline(always)]
+    pub fn put(&mut self, goal: Goal<N>)
+        requires room { 0 < self.old.room }
+        requires next { IsNext goal self.old.goals self.old.shoens }
+        ensures goals { self.new.goals ≡ self.old.goals ++ goal ∷ [] }
+        ensures shoens { self.new.shoens ≡ self.old.shoens }
+        ensures room { self.old.room ≤ self.new.room + 1 }
+        ensures shoen_room { self.new.shoen_room ≡ self.old.shoen_room }
+    {
+        self.put_copy(&goal);
+    }
+
+    /// Puts a copy of a goal after all others.
+    #[inline(always)]
+    pub fn put_copy(&mut self, goal: &Goal<N>)
+        requires room { 0 < self.old.room }
+        requires next { IsNext goal.now self.old.goals self.old.shoens }
+        ensures goals { self.new.goals ≡ self.old.goals ++ goal.now ∷ [] }
+        ensures shoens { self.new.shoens ≡ self.old.shoens }
+        ensures room { self.old.room ≤ self.new.room + 1 }
+        ensures shoen_room { self.new.shoen_room ≡ self.old.shoen_room }
+    {
+        make_end(
+            &mut self.slots,
+            &mut self.empty,
+            &mut self.queue,
+            &mut self.tallies,
+            goal.number,
+        );
+        let last = self.slots.len() as u32 + 1;
+        let before = exchange_last(&mut self.tallies, goal.shoen, last);
+        append(&mut self.slots, self.empty, &mut self.queue, goal, before);
+        raise(&mut self.tallies, goal);
+        self.alive = raise_alive(self.alive, goal);
+    }
+
+    /// Removes the goal with number `number`, if there is one.
+    #[inline(always)]
+    pub fn remove(&mut self, number: u64)
+        ensures goals { self.new.goals ≡ filter (is_other number) self.old.goals }
+        ensures shoens { self.new.shoens ≡ self.old.shoens }
+        ensures room { self.old.room ≤ self.new.room }
+        ensures shoen_room { self.new.shoen_room ≡ self.old.shoen_room }
+    {
+        match held_place(&self.slots, self.seen, number) {
+            None => {}
+            Some(place) => {
+                self.seen = place;
+                let goal = self.slots[place].goal;
+                bury(&mut self.slots, &mut self.empty, &mut self.queue, place);
+                lower(&mut self.tallies, &goal);
+                self.alive = lower_alive(self.alive, &goal);
+                tidy(
+                    &mut self.slots,
+                    &mut self.empty,
+                    &mut self.queue,
+                    &mut self.tallies,
+                );
+            }
+        }
+    }
+
+    /// Removes the monitor of a shoen, if it has one.
+    pub fn remove_monitor(&mut self, shoen: u64)
+        ensures goals { self.new.goals ≡ filter (λ g. not (is_monitor_of shoen g)) self.old.goals }
+        ensures shoens { self.new.shoens ≡ self.old.shoens }
+        ensures room { self.old.room ≤ self.new.room }
+        ensures shoen_room { self.new.shoen_room ≡ self.old.shoen_room }
+    {
+        let tally = tally_of(&self.tallies, shoen);
+        match tally.monitor {
+            None => {}
+            Some(number) => self.remove(number),
+        }
+    }
+
+    /// From now on the goals of a shoen other than its monitor may step, or may not.
+    pub fn enable(&mut self, shoen: u64, is_enabled: bool)
+        ensures { self.new ≡ record self.old { goals = map (enabled_in shoen is_enabled) self.old.goals } }
+    {
+        let tally = tally_of(&self.tallies, shoen);
+        if tally.last == 0 {
+            return;
+        }
+        let last = held_link(&self.slots, tally.last);
+        exchange_last(&mut self.tallies, shoen, last);
+        let_all_step(&mut self.slots, &mut self.queue, last, shoen, is_enabled);
+    }
+
+    /// Removes the goals of a shoen, its monitor too.
+    pub fn remove_all(&mut self, shoen: u64)
+        ensures goals { self.new.goals ≡ filter (λ g. not (is_in shoen g)) self.old.goals }
+        ensures shoens { self.new.shoens ≡ self.old.shoens }
+        ensures room { self.old.room ≤ self.new.room }
+        ensures shoen_room { self.new.shoen_room ≡ self.old.shoen_room }
+    {
+        let tally = tally_of(&self.tallies, shoen);
+        if tally.last == 0 {
+            return;
+        }
+        empty_all(
+            &mut self.slots,
+            &mut self.empty,
+            &mut self.queue,
+            tally.last,
+            shoen,
+        );
+        forget(&mut self.tallies, shoen);
+        self.alive -= tally.goals as u64;
+        tidy(
+            &mut self.slots,
+            &mut self.empty,
+            &mut self.queue,
+            &mut self.tallies,
+        );
+    }
+
     /// How many goals a shoen has other than its monitor.
     pub fn count(&self, shoen: u64) -> u64
         ensures { result ≡ count_by (is_goal_of shoen) self.now.goals }
     {
         tally_of(&self.tallies, shoen).goals as u64
+    }
+
+    /// From now on goal `number` has this clause by which it could step, or none.
+    pub fn set_standing(&mut self, number: u64, standing: Option<u64>)
+        ensures { self.new ≡ record self.old { goals = map (stood_by number standing) self.old.goals } }
+    {
+        match held_place(&self.slots, self.seen, number) {
+            None => {}
+            Some(place) => {
+                self.seen = place;
+                stand(
+                    &mut self.slots,
+                    self.empty,
+                    &mut self.queue,
+                    place,
+                    standing,
+                );
+            }
+        }
     }
 
     /// Which goal goes first of those that can step, by the greatest priority, then by the least number, and its clause.
@@ -371,6 +306,13 @@ impl<N: NameValue> GoalTable<N> {
             None => false,
             Some(_) => true,
         }
+    }
+
+    /// How many goals there are other than monitors.
+    pub fn alive(&self) -> u64
+        ensures { result ≡ count_by (λ g. not (is_monitor g)) self.now.goals }
+    {
+        self.alive
     }
 
     /// Whether a shoen has a goal other than its monitor and goal `number`.

@@ -4,6 +4,7 @@
 mod begun;
 mod chains;
 mod goal;
+mod goal_row;
 mod goal_table;
 mod noting;
 mod places;
@@ -13,6 +14,7 @@ mod tally;
 mod task;
 
 pub use goal::Goal;
+pub use goal_row::GoalRow;
 pub use goal_table::GoalTable;
 pub use kl1_model::Rules;
 pub use room::make_room;

@@ -6,7 +6,7 @@ ghost use Rattle.kl1_shoen_paths.specs.Tracked.{put_back};
 ghost use Rattle.kl1_goals.specs.Lists.{enabled_in};
 ghost use Rattle.kl1_goals.specs.Slots.{goals_in, level_in, rank_in, capped_in, held_in, AreLow};
 ghost use Rattle.kl1_goals.specs.Chains.{shape_in, IsLink, AreLinked, AreChained, HaveSameCounts};
-ghost use Rattle.kl1_goals.specs.Keeping.{places_then, kept_then};
+ghost use Rattle.kl1_goals.specs.Rows.{places_then, kept_then};
 
 use crate::begun::{Begun, note_slot, note_tally};
 use crate::chains::{held_link, let_step};
@@ -60,6 +60,7 @@ pub(crate) fn let_each_step<N: NameValue>(
     ensures links { AreLinked slots.new.items }
     ensures shapes { map shape_in slots.new.items ≡ map shape_in slots.old.items }
     ensures goals { OnOk result (goals_in slots.new.items ≡ map (enabled_in shoen is_enabled) (goals_in slots.old.items)) }
+    ensures some { map (enabled_in shoen is_enabled) (goals_in slots.new.items) ≡ map (enabled_in shoen is_enabled) (goals_in slots.old.items) }
     ensures was { places_then begun.new slots.new.items ≡ places_then begun.old slots.old.items }
     ensures rest { begun.new ≡ record begun.old { slots = begun.new.slots } }
 {

@@ -1,22 +1,19 @@
 // The places of a table, in order of number, with the queue over them.
 
-ghost use Rattle.std.specs.Prelude.{◌≡◌, ◌+◌, ◌<◌, ◌≤◌, ℕ, true, None, [], ◌∷◌, ◌++◌, length, map, drop, MatchOption, OnOk, vec_len, vec_capacity};
-ghost use Rattle.std.specs.List.{find};
+ghost use Rattle.std.specs.Prelude.{◌≡◌, ◌+◌, ◌-◌, ◌<◌, ◌≤◌, ℕ, true, None, List, [], ◌∷◌, ◌++◌, length, map, drop, get_or, nat_lt, MatchOption, vec_len, vec_capacity};
+ghost use Rattle.std.specs.List.{filter, find};
 ghost use Rattle.kl1_model.specs.declared.limits.TheConstants.{MONITOR_PRIORITY};
-ghost use Rattle.kl1_goals.specs.Lists.{has_number};
-ghost use Rattle.kl1_goals.specs.Tables.{Ascend};
-ghost use Rattle.kl1_goals.specs.Slots.{numbers_of, goals_in, first_of, rank_in, level_in, emptied, looked_in, changed_at, AreLow, AreBelow, IsCut, IsPlace, IsAbsent, AreSlots, IsHeldAt, IsEmptyEnd, IsWithout};
+ghost use Rattle.kl1_goals.specs.Lists.{has_number, is_other, stood_by, looked_at, number_of};
+ghost use Rattle.kl1_goals.specs.Tables.{Ascend, AreBefore};
+ghost use Rattle.kl1_goals.specs.Slots.{numbers_of, goals_in, first_of, rank_in, level_in, emptied, standing_in, looked_in, changed_at, AreLow, AreBelow, IsCut, IsPlace, IsAbsent, AreSlots, IsHeldAt, IsEmptyEnd, IsWithout};
 ghost use Rattle.kl1_goals.specs.Chains.{shape_in, before_in, AreChained, HaveSameCounts};
-ghost use Rattle.kl1_goals.specs.Keeping.{places_then};
 
-use crate::begun::{Begun, note_slot};
 use crate::chains::{forget_last, link_all, unlink_last};
 use crate::goal::Goal;
 use crate::slot::Slot;
 use crate::tally::Tally;
 use kl1_queue::ReadyQueue;
 use kl1_text::NameValue;
-use std::alloc::AllocError;
 
 /// A table of at most this many places isn't compacted.
 const FEW: usize = 32;
@@ -37,6 +34,19 @@ pub(crate) fn count_upto<N: NameValue>(slots: &Vec<Slot<N>>, number: u64) -> usi
         }
     }
     low
+}
+
+/// Whether all places have a lesser number.
+#[inline]
+pub(crate) fn ends_before<N: NameValue>(slots: &Vec<Slot<N>>, number: u64) -> bool
+    requires { Ascend 0 (numbers_of slots.now.items) }
+    ensures { result ≡ true → AreBelow number (numbers_of slots.now.items) }
+{
+    let count = slots.len();
+    if count == 0 {
+        return true;
+    }
+    slots[count - 1].goal.number < number
 }
 
 /// The place of `number`, by a search.
@@ -146,6 +156,9 @@ pub(crate) fn append<N: NameValue>(
     ensures slots { AreSlots slots.new.items empty queue.new.ranks }
     ensures place { slots.new.items ≡ slots.old.items ++ record { goal = goal.now; is_held = true; before = before } ∷ [] }
     ensures goals { goals_in slots.new.items ≡ goals_in slots.old.items ++ goal.now ∷ [] }
+    ensures len { vec_len slots.new ≡ vec_len slots.old + 1 }
+    ensures capacity { vec_capacity slots.new ≡ vec_capacity slots.old }
+    ensures rest { queue.new.room + 1 ≡ queue.old.room }
 {
     slots.push_reserved(Slot {
         goal: *goal,
@@ -168,37 +181,64 @@ pub(crate) fn bury<N: NameValue>(
     ensures slots { AreSlots slots.new.items empty.new queue.new.ranks }
     ensures emptied { slots.new.items ≡ changed_at emptied place slots.old.items }
     ensures goals { (s : Slot N) → IsHeldAt slots.old.items s.goal.number place s → IsWithout s.goal (goals_in slots.old.items) (goals_in slots.new.items) }
+    ensures len { vec_len slots.new ≡ vec_len slots.old }
+    ensures capacity { vec_capacity slots.new ≡ vec_capacity slots.old }
+    ensures room { queue.new.room ≡ queue.old.room }
 {
     slots[place].is_held = false;
     queue.remove(place);
     *empty += 1;
 }
 
-/// Notes what stands at the place of a goal; then the goal may step, or may not, and has the clause by which it can step.
+/// Gives a goal the clause by which it can step.
+pub(crate) fn stand<N: NameValue>(
+    slots: &mut Vec<Slot<N>>,
+    empty: usize,
+    queue: &mut ReadyQueue,
+    place: usize,
+    standing: Option<u64>,
+)
+    requires slots { AreSlots slots.old.items empty queue.old.ranks }
+    requires place { (s : Slot N) × IsHeldAt slots.old.items s.goal.number place s }
+    ensures slots { AreSlots slots.new.items empty queue.new.ranks }
+    ensures stood { slots.new.items ≡ changed_at (standing_in standing) place slots.old.items }
+    ensures shapes { map shape_in slots.new.items ≡ map shape_in slots.old.items }
+    ensures links { map before_in slots.new.items ≡ map before_in slots.old.items }
+    ensures goals { (s : Slot N) → IsHeldAt slots.old.items s.goal.number place s → goals_in slots.new.items ≡ map (stood_by s.goal.number standing) (goals_in slots.old.items) }
+    ensures len { vec_len slots.new ≡ vec_len slots.old }
+    ensures capacity { vec_capacity slots.new ≡ vec_capacity slots.old }
+    ensures room { queue.new.room ≡ queue.old.room }
+{
+    let slot = &mut slots[place];
+    slot.goal.standing = standing;
+    match slot.priority() {
+        None => queue.remove(place),
+        Some(priority) => queue.put(place, priority),
+    }
+}
+
+/// A goal that is there may step, or may not, and has the clause by which it can step.
 pub(crate) fn look_at<N: NameValue>(
-    begun: &mut Begun<N>,
     slots: &mut Vec<Slot<N>>,
     empty: usize,
     queue: &mut ReadyQueue,
     place: usize,
     standing: Option<u64>,
     is_enabled: bool,
-) -> Result<(), AllocError>
+)
     requires slots { AreSlots slots.old.items empty queue.old.ranks }
-    requires place { place < length slots.old.items }
+    requires place { (s : Slot N) × IsHeldAt slots.old.items s.goal.number place s }
+    ensures changed { slots.new.items ≡ changed_at (looked_in standing is_enabled) place slots.old.items }
     ensures slots { AreSlots slots.new.items empty queue.new.ranks }
-    ensures changed { OnOk result (slots.new.items ≡ changed_at (looked_in standing is_enabled) place slots.old.items) }
-    ensures shapes { map shape_in slots.new.items ≡ map shape_in slots.old.items }
-    ensures links { map before_in slots.new.items ≡ map before_in slots.old.items }
-    ensures was { places_then begun.new slots.new.items ≡ places_then begun.old slots.old.items }
-    ensures rest { begun.new ≡ record begun.old { slots = begun.new.slots } }
+    ensures goals { (s : Slot N) → IsHeldAt slots.old.items s.goal.number place s → goals_in slots.new.items ≡ map (looked_at s.goal.number standing is_enabled) (goals_in slots.old.items) }
 {
-    note_slot(begun, slots, place)?;
     let slot = &mut slots[place];
     slot.goal.standing = standing;
     slot.goal.is_enabled = is_enabled;
-    slot.rank(queue, place);
-    Ok(())
+    match slot.priority() {
+        None => queue.remove(place),
+        Some(ready) => queue.put(place, ready),
+    }
 }
 
 /// Ranks places anew.
@@ -206,6 +246,7 @@ pub(crate) fn rank_all<N: NameValue>(slots: &Vec<Slot<N>>, queue: &mut ReadyQueu
     requires room { length slots.now.items ≤ queue.old.room + length queue.old.ranks }
     requires low { AreLow (map level_in slots.now.items) }
     ensures ranks { queue.new.ranks ≡ map rank_in slots.now.items }
+    ensures room { queue.new.room + length queue.new.ranks ≡ queue.old.room + length queue.old.ranks }
 {
     queue.clear();
     for place in 0..slots.len() {
@@ -227,7 +268,12 @@ pub(crate) fn compact<N: NameValue>(
     ensures chained { AreChained slots.new.items tallies.new.items }
     ensures counts { HaveSameCounts tallies.old.items tallies.new.items }
     ensures goals { goals_in slots.new.items ≡ goals_in slots.old.items }
-    ensures below { (n : ℕ) → AreBelow n (numbers_of slots.old.items) → AreBelow n (numbers_of slots.new.items) }
+    ensures numbers { numbers_of slots.new.items ≡ map number_of (goals_in slots.old.items) }
+    ensures len { vec_len slots.new ≤ vec_len slots.old }
+    ensures capacity { vec_capacity slots.new ≡ vec_capacity slots.old }
+    ensures room { queue.old.room ≤ queue.new.room }
+    ensures tallies_len { vec_len tallies.new ≡ vec_len tallies.old }
+    ensures tallies_capacity { vec_capacity tallies.new ≡ vec_capacity tallies.old }
 {
     forget_last(slots, tallies);
     slots.retain(|slot| slot.is_held);
@@ -262,7 +308,11 @@ fn trim<N: NameValue>(
     ensures chained { AreChained slots.new.items tallies.new.items }
     ensures counts { HaveSameCounts tallies.old.items tallies.new.items }
     ensures goals { goals_in slots.new.items ≡ goals_in slots.old.items }
-    ensures below { (n : ℕ) → AreBelow n (numbers_of slots.old.items) → AreBelow n (numbers_of slots.new.items) }
+    ensures len { vec_len slots.new ≤ vec_len slots.old }
+    ensures capacity { vec_capacity slots.new ≡ vec_capacity slots.old }
+    ensures room { queue.old.room ≤ queue.new.room }
+    ensures tallies_len { vec_len tallies.new ≡ vec_len tallies.old }
+    ensures tallies_capacity { vec_capacity tallies.new ≡ vec_capacity tallies.old }
 {
     while ends_empty(slots) {
         unlink_last(slots, tallies);
@@ -287,7 +337,11 @@ pub(crate) fn tidy<N: NameValue>(
     ensures chained { AreChained slots.new.items tallies.new.items }
     ensures counts { HaveSameCounts tallies.old.items tallies.new.items }
     ensures goals { goals_in slots.new.items ≡ goals_in slots.old.items }
-    ensures below { (n : ℕ) → AreBelow n (numbers_of slots.old.items) → AreBelow n (numbers_of slots.new.items) }
+    ensures len { vec_len slots.new ≤ vec_len slots.old }
+    ensures capacity { vec_capacity slots.new ≡ vec_capacity slots.old }
+    ensures room { queue.old.room ≤ queue.new.room }
+    ensures tallies_len { vec_len tallies.new ≡ vec_len tallies.old }
+    ensures tallies_capacity { vec_capacity tallies.new ≡ vec_capacity tallies.old }
 {
     trim(slots, empty, queue, tallies);
     let count = slots.len();
@@ -295,6 +349,34 @@ pub(crate) fn tidy<N: NameValue>(
         return;
     }
     if *empty > count - count / 4 {
+        compact(slots, empty, queue, tallies);
+    }
+}
+
+/// Drops the empty places if one of them may have this number or a greater one.
+#[inline]
+pub(crate) fn make_end<N: NameValue>(
+    slots: &mut Vec<Slot<N>>,
+    empty: &mut usize,
+    queue: &mut ReadyQueue,
+    tallies: &mut Vec<Tally>,
+    number: u64,
+)
+    requires slots { AreSlots slots.old.items empty.old queue.old.ranks }
+    requires chained { AreChained slots.old.items tallies.old.items }
+    requires before { AreBefore number (goals_in slots.old.items) }
+    ensures slots { AreSlots slots.new.items empty.new queue.new.ranks }
+    ensures chained { AreChained slots.new.items tallies.new.items }
+    ensures counts { HaveSameCounts tallies.old.items tallies.new.items }
+    ensures goals { goals_in slots.new.items ≡ goals_in slots.old.items }
+    ensures below { AreBelow number (numbers_of slots.new.items) }
+    ensures len { vec_len slots.new ≤ vec_len slots.old }
+    ensures capacity { vec_capacity slots.new ≡ vec_capacity slots.old }
+    ensures room { queue.old.room ≤ queue.new.room }
+    ensures tallies_len { vec_len tallies.new ≡ vec_len tallies.old }
+    ensures tallies_capacity { vec_capacity tallies.new ≡ vec_capacity tallies.old }
+{
+    if !ends_before(slots, number) {
         compact(slots, empty, queue, tallies);
     }
 }

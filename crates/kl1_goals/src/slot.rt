@@ -1,11 +1,10 @@
 // Places of a table.
 
-ghost use Rattle.std.specs.Prelude.{◌≡◌, ◌<◌, ◌≤◌, length, set};
+ghost use Rattle.std.specs.Prelude.{◌≡◌, ◌≤◌};
 ghost use Rattle.kl1_model.specs.declared.limits.TheConstants.{MONITOR_PRIORITY};
-ghost use Rattle.kl1_goals.specs.Slots.{priority_in, rank_in};
+ghost use Rattle.kl1_goals.specs.Slots.{priority_in};
 
 use crate::goal::Goal;
-use kl1_queue::ReadyQueue;
 use kl1_text::NameValue;
 
 /// A goal in a table; it is empty if the goal is gone, and only its number and its shoen count then. `before` is one more than
@@ -27,18 +26,5 @@ impl<N: NameValue> Slot<N> {
             return None;
         }
         self.goal.ready_priority()
-    }
-
-    /// Ranks its place in the queue.
-    #[inline]
-    pub(crate) fn rank(&self, queue: &mut ReadyQueue, place: usize)
-        requires priority { self.now.goal.priority ≤ MONITOR_PRIORITY }
-        requires place { place < length queue.old.ranks }
-        ensures { queue.new.ranks ≡ set queue.old.ranks place (rank_in self.now) }
-    {
-        match self.priority() {
-            None => queue.remove(place),
-            Some(priority) => queue.put(place, priority),
-        }
     }
 }

@@ -1,8 +1,8 @@
 // What a table keeps of each shoen.
 
-ghost use Rattle.std.specs.Prelude.{◌≡◌, ◌+◌, ◌-◌, ◌<◌, ◌≤◌, ◌==◌, ℕ, length, if◌then◌else◌};
+ghost use Rattle.std.specs.Prelude.{◌≡◌, ◌+◌, ◌-◌, ◌<◌, ◌≤◌, ◌==◌, ℕ, length, if◌then◌else◌, vec_len, vec_capacity};
 ghost use Rattle.kl1_goals.specs.Lists.{is_monitor};
-ghost use Rattle.kl1_goals.specs.Tallies.{tally_at, raised, lowered, left};
+ghost use Rattle.kl1_goals.specs.Tallies.{nothing, tally_at, raised, lowered, left};
 
 use crate::goal::Goal;
 use kl1_text::NameValue;
@@ -56,6 +56,7 @@ pub(crate) fn raise<N: NameValue>(tallies: &mut Vec<Tally>, goal: &Goal<N>)
     requires fits { (tally_at tallies.old.items goal.now.shoen).goals < 0xffff_ffff_ffff_ffff }
     ensures tallies { (n : ℕ) → tally_at tallies.new.items n ≡ (if n == goal.now.shoen then raised goal.now (tally_at tallies.old.items n) else tally_at tallies.old.items n) }
     ensures length { length tallies.new.items ≡ length tallies.old.items }
+    ensures capacity { vec_capacity tallies.new ≡ vec_capacity tallies.old }
 {
     let tally = &mut tallies[goal.shoen as usize - 1];
     if goal.is_monitor() {
@@ -71,6 +72,7 @@ pub(crate) fn lower<N: NameValue>(tallies: &mut Vec<Tally>, goal: &Goal<N>)
     requires high { goal.now.shoen ≤ length tallies.old.items }
     ensures tallies { (n : ℕ) → tally_at tallies.new.items n ≡ (if n == goal.now.shoen then lowered goal.now (tally_at tallies.old.items n) else tally_at tallies.old.items n) }
     ensures length { length tallies.new.items ≡ length tallies.old.items }
+    ensures capacity { vec_capacity tallies.new ≡ vec_capacity tallies.old }
 {
     let tally = &mut tallies[goal.shoen as usize - 1];
     if goal.is_monitor() {
@@ -88,6 +90,8 @@ pub(crate) fn exchange_last(tallies: &mut Vec<Tally>, shoen: u64, last: u32) -> 
     ensures was { result ≡ (tally_at tallies.old.items shoen).last }
     ensures tallies { (n : ℕ) → tally_at tallies.new.items n ≡ (if n == shoen then record (tally_at tallies.old.items n) { last = last } else tally_at tallies.old.items n) }
     ensures length { length tallies.new.items ≡ length tallies.old.items }
+    ensures len { vec_len tallies.new ≡ vec_len tallies.old }
+    ensures capacity { vec_capacity tallies.new ≡ vec_capacity tallies.old }
 {
     let tally = &mut tallies[shoen as usize - 1];
     let was = tally.last;
@@ -102,9 +106,27 @@ pub(crate) fn unlink(tallies: &mut Vec<Tally>, shoen: u64, link: usize, before: 
     requires high { shoen ≤ length tallies.old.items }
     ensures tallies { (n : ℕ) → tally_at tallies.new.items n ≡ (if n == shoen then left link before (tally_at tallies.old.items n) else tally_at tallies.old.items n) }
     ensures length { length tallies.new.items ≡ length tallies.old.items }
+    ensures len { vec_len tallies.new ≡ vec_len tallies.old }
+    ensures capacity { vec_capacity tallies.new ≡ vec_capacity tallies.old }
 {
     let tally = &mut tallies[shoen as usize - 1];
     if tally.last as usize == link {
         tally.last = before;
     }
+}
+
+/// Forgets the goals of a shoen.
+pub(crate) fn forget(tallies: &mut Vec<Tally>, shoen: u64)
+    requires low { 0 < shoen }
+    requires high { shoen ≤ length tallies.old.items }
+    ensures tallies { (n : ℕ) → tally_at tallies.new.items n ≡ (if n == shoen then nothing else tally_at tallies.old.items n) }
+    ensures length { length tallies.new.items ≡ length tallies.old.items }
+    ensures len { vec_len tallies.new ≡ vec_len tallies.old }
+    ensures capacity { vec_capacity tallies.new ≡ vec_capacity tallies.old }
+{
+    tallies[shoen as usize - 1] = Tally {
+        goals: 0,
+        monitor: None,
+        last: 0,
+    };
 }

@@ -1,21 +1,58 @@
 -- Goals of bodies that come after the others.
-use Rattle.kl1_machine.proofs.Words.{◌≡◌, ℕ, suc, ◌+◌, ◌-◌, ◌&&◌, not, Bool, true, false, List, [], ◌∷◌, ◌++◌, length, refl, sym, ap, ◌∙◌, arith, subst, append-nil, append_assoc, length-map, find, nat_le, count_by, Option, Some, option_map, unwrap_or, goals_of, Candidate, Term, substituted, clipped, body_priorities, body_variable, limits_of, commits, or_exhaustion, committed, raised, moved, exhaustion, Reads, CellName, Qualified, Held, Kept, AreQualifiedIn, Place, IsCandidate, IsBody, AreNeeds, Needs, Reduces, Goal, is_monitor, Shoen, has_number, Reading, built, meaning, goal_with, aim, IsOwned, goals_for, goal_at, priorities_by, Made, worked, count_read, turns_as, with_body, commit_turns, room_read, Machine, made, IsMachine, Keeps, with_goal, with_goals, Becomes, TurnsAs, Chosen, Commits}
+use Rattle.std.proofs.Common.{◌≡◌, ℕ, suc, ◌+◌, ◌-◌, ◌&&◌, not, Bool, true, false, List, [], ◌∷◌, ◌++◌, length, refl, sym, ap, ◌∙◌, arith, subst, append-nil, append_assoc}
+use Rattle.std.proofs.lemmas.List.{length-map}
+use Rattle.std.specs.Prelude.{find, nat_le, count_by, Option, Some, option_map, unwrap_or}
+use Rattle.kl1_model.specs.Module.{goals_of}
+use Rattle.kl1_model.specs.Match.{Candidate}
+use Rattle.kl1_model.specs.Term.{Term, substituted}
+use Rattle.kl1_model.specs.code.Steps.{clipped}
+use Rattle.kl1_model.specs.Instance.{body_priorities, body_variable}
+use Rattle.kl1_model.specs.State.{limits_of}
+use Rattle.kl1_model.specs.Reduction.{commits, or_exhaustion, committed, raised, moved}
+use Rattle.kl1_model.specs.Report.{exhaustion}
+use Rattle.kl1_text.specs.Reading.{Reads}
+use Rattle.kl1_text.specs.declared.cell_name.CellName.{CellName}
+use Rattle.kl1_store.specs.declared.qualified.Qualified.{Qualified}
+use Rattle.kl1_store.specs.Held.{Held}
+use Rattle.kl1_store.specs.Hooks.{Kept}
+use Rattle.kl1_store.specs.InModules.{AreQualifiedIn}
+use Rattle.kl1_match.specs.declared.place.Place.{Place}
+use Rattle.kl1_goals_moves.specs.Moves.{IsCandidate}
+use Rattle.kl1_goals_moves.specs.Bodies.{IsBody, AreNeeds}
+use Rattle.kl1_goals_moves.specs.declared.needs.Needs.{Needs}
+use Rattle.kl1_goals.specs.declared.task.Task.TheVariants.{Reduces}
+use Rattle.kl1_goals.specs.declared.goal.Goal.{Goal}
+use Rattle.kl1_goals.specs.Lists.{is_monitor}
+use Rattle.kl1_shoen_paths.specs.declared.shoen.Shoen.{Shoen}
+use Rattle.kl1_shoen.specs.Shoens.{has_number}
+use Rattle.kl1_user_effects.specs.Fitting.{Reading, built}
+use Rattle.kl1_user_effects.specs.Account.{meaning, goal_with, aim}
+use Rattle.kl1_user_effects.specs.Kept.{IsOwned}
+use Rattle.kl1_user_effects.specs.Drafts.{goals_for}
+use Rattle.kl1_user_effects.specs.Moving.{priorities_by}
+use Rattle.kl1_user_effects.specs.Works.{Made, worked}
+use Rattle.kl1_user_effects.proofs.Goals.{count_read}
+use Rattle.kl1_user_effects.proofs.Works.{turns_as}
+use Rattle.kl1_user_effects.proofs.Commits.{with_body, commit_turns, room_read}
+use Rattle.kl1_machine.specs.declared.machine.Machine.{Machine}
+use Rattle.kl1_machine.specs.Machines.{made, IsMachine, Keeps}
 use Rattle.kl1_machine.proofs.Keeping.{Grows}
+use Rattle.kl1_machine.specs.Effects.{goal_at, with_goal, with_goals, Becomes, TurnsAs, Chosen, Commits}
 
 -- ---- goals of a body
 
--- a machine with these goals, the greatest number that was put, and the last number
-abbrev with_row : List (Goal CellName) → ℕ → ℕ → Machine → Machine
-with_row gs l n m = record m { goals = record m.goals { goals = gs; last = l }; counts = record m.counts { last_goal = n } }
+-- a machine with these goals more, and this last number
+abbrev with_row : List (Goal CellName) → ℕ → Machine → Machine
+with_row gs n m = record m { goals = record m.goals { goals = gs }; counts = record m.counts { last_goal = n } }
 
 -- a machine with goals for cells more, each with the next number
 abbrev with_come : ℕ → List ℕ → List (Qualified CellName) → Machine → Machine
-with_come shoen ps xs m = with_row (m.goals.goals ++ goals_for m.counts.last_goal shoen ps xs) (with_goals shoen ps xs m).goals.last (m.counts.last_goal + length (goals_for m.counts.last_goal shoen ps xs)) m
+with_come shoen ps xs m = with_row (m.goals.goals ++ goals_for m.counts.last_goal shoen ps xs) (m.counts.last_goal + length (goals_for m.counts.last_goal shoen ps xs)) m
 
-none_more : (m : Machine) → m ≡ with_row (m.goals.goals ++ []) m.goals.last (m.counts.last_goal + 0) m
+none_more : (m : Machine) → m ≡ with_row (m.goals.goals ++ []) (m.counts.last_goal + 0) m
 none_more m =
     let e : m.counts.last_goal ≡ m.counts.last_goal + 0 = omega arith in
-    ap (λ gs. with_row gs m.goals.last m.counts.last_goal m) (sym (append-nil m.goals.goals)) ∙ ap (λ n. with_row (m.goals.goals ++ []) m.goals.last n m) e
+    ap (λ gs. with_row gs m.counts.last_goal m) (sym (append-nil m.goals.goals)) ∙ ap (λ n. with_row (m.goals.goals ++ []) n m) e
 
 goals_are : (shoen : ℕ) (ps : List ℕ) (xs : List (Qualified CellName)) (m : Machine) → with_goals shoen ps xs m ≡ with_come shoen ps xs m
 goals_are shoen ps [] m = none_more m
@@ -23,11 +60,10 @@ goals_are shoen [] (x ∷ xs) m = none_more m
 goals_are shoen (p ∷ ps) (x ∷ xs) m =
     let g = goal_at (suc m.counts.last_goal) shoen p (Reduces x) in
     let more = goals_for (suc m.counts.last_goal) shoen ps xs in
-    let last = (with_goals shoen ps xs (with_goal g m)).goals.last in
     let e : suc m.counts.last_goal + length more ≡ m.counts.last_goal + suc (length more) = omega arith in
     goals_are shoen ps xs (with_goal g m)
-    ∙ ap (λ gs. with_row gs last (suc m.counts.last_goal + length more) m) (append_assoc m.goals.goals (g ∷ []) more)
-    ∙ ap (λ n. with_row (m.goals.goals ++ (g ∷ more)) last n m) e
+    ∙ ap (λ gs. with_row gs (suc m.counts.last_goal + length more) m) (append_assoc m.goals.goals (g ∷ []) more)
+    ∙ ap (λ n. with_row (m.goals.goals ++ (g ∷ more)) n m) e
 
 as_many : (last shoen : ℕ) (ps : List ℕ) (xs : List (Qualified CellName)) → length ps ≡ length xs → length (goals_for last shoen ps xs) ≡ length xs
 as_many last shoen [] [] e = refl
@@ -55,7 +91,7 @@ commits_exhausted b goal x m u n needs full r = record {
       let a = needs f m.store.held b.places (c f) (candidate f knows) in
       let S = worked f s m.store.held (made m) in
       ap (λ y. or_exhaustion y (goal_with (meaning f m.store.held) goal) (aim f m.store.held x) (committed (goal_with (meaning f m.store.held) goal) (c f) S) S)
-      (room_read f s m.store.held (made m) (c f).clause (count_by (λ g. not (is_monitor g)) m.goals.goals) n refl a ∙ full))
+      (room_read f s m.store.held (made m) (c f).clause (count_by (λ g. not (is_monitor g)) m.goals.goals) n.goals n.variables n.nodes refl a.goals a.variables a.nodes ∙ full))
       (r.turns ms);
   machine = r.machine;
   named = r.named;
@@ -68,7 +104,10 @@ abbrev pub with_needs : Needs → Machine → Machine
 with_needs n m = record m { counts = record m.counts { variables = m.counts.variables + n.variables; nodes = m.counts.nodes + n.nodes } }
 
 pub needs_machine : (n : Needs) (m : Machine) → IsMachine m → IsMachine (with_needs n m)
-needs_machine n m i = let w = i.inside in record { inside = record { some = w.some; goals = w.goals; shoens = w.shoens; owned = w.owned }; last = i.last; placed = i.placed; known = i.known }
+needs_machine n m i = let w = i.inside in record { inside = record { some = w.some; goals = w.goals; shoens = w.shoens; owned = w.owned }; last = i.last; known = i.known }
+
+pub needs_keep : (n : Needs) (m u : Machine) → Keeps m u → Keeps m (with_needs n u)
+needs_keep n m u p = record { grown = p.grown; trail = p.trail }
 
 -- the body of a clause that a goal of a machine has chosen is in a store, and there is room for it
 pub record HasBody (b : Chosen) (goal : Goal CellName) (m : Machine) (k : Kept CellName) (sh : Shoen CellName) (ps : List (Option ℕ)) (cells : List (Qualified CellName)) (n : Needs) : Type 0 where
@@ -93,15 +132,8 @@ commits_body b goal x m k sh ps cells n u a after =
     subst C (sym (after.is ∙ goals_are sh.number qs cells (with_needs n (record m { store = k }))))
     (λ machine. record {
       turns = λ ms c candidate.
-          let B = commit_turns ms h k.held (made m) goal (Some sh) ps n cells c a.machine.inside (record {
-            grown = a.grows.grown;
-            found = a.found;
-            owned = a.owned;
-            inside = a.inside;
-            priorities = λ f knows. a.priorities f h b.places (c f) (candidate f knows);
-            needs = λ f knows. a.needs f h b.places (c f) (candidate f knows);
-            body = λ f knows. a.body f knows.reads (c f) (candidate f knows);
-          }) in
+          let B = commit_turns ms h k.held (made m) goal (Some sh) ps n.variables n.nodes cells c a.machine.inside a.grows.grown a.found a.owned a.inside (λ f knows. a.priorities f h b.places (c f) (candidate f knows)) (λ f knows. (a.needs f h b.places (c f) (candidate f knows)).variables)
+          (λ f knows. (a.needs f h b.places (c f) (candidate f knows)).nodes) (λ f knows. a.body f knows.reads (c f) (candidate f knows)) in
           record {
             inside = machine.inside;
             states = λ f knows s.
@@ -113,7 +145,7 @@ commits_body b goal x m k sh ps cells n u a after =
                 ap (λ y. with_body (made m) y qs cells n.variables n.nodes) (sym a.number)
                 ∙ ap (λ y. let z : Made = record (with_body (made m) sh.number qs cells n.variables n.nodes) { last_goal = y } in z) last in
                 ap (λ y. or_exhaustion y (goal_with (meaning f h) goal) (aim f h x) (committed (goal_with (meaning f h) goal) (c f) S) S)
-                (room_read f s h (made m) (c f).clause (count_by (λ g. not (is_monitor g)) m.goals.goals) n refl d ∙ a.room)
+                (room_read f s h (made m) (c f).clause (count_by (λ g. not (is_monitor g)) m.goals.goals) n.goals n.variables n.nodes refl d.goals d.variables d.nodes ∙ a.room)
                 ∙ B.states f knows s
                 ∙ ap (λ (y : Made). worked f s k.held y) same;
           };

@@ -1,7 +1,41 @@
 -- Changes of states one after another, goals that go, and shoens that end.
-use Rattle.kl1_machine.proofs.Words.{◌≡◌, ℕ, ◌+◌, ◌<◌, ◌≤◌, drop, get_or, not, ◌||◌, Bool, true, false, if◌then◌else◌, List, [], ◌∷◌, ◌++◌, length, refl, sym, ap, ◌∙◌, subst, append-nil, zero-add, arith, cond, count_by, nat_lt, lt-ltb, drop_more, drop_all, sum_by-cons, filter, list_any, State, change_shoen, path, report, report_each, close, exhausted_report, terminated_report, without_monitor, ending_of, newly_exhausted, settle, after_reduction, terminate_each, CellName, Goal, is_monitor_of, Shoen, Tree, changed, path_in, path_zero, Numbered, Reading, meaning, shoen_with, IsShoenIn, worked, ended_each, finished, finished_each, terminated, ends_in, ended_in, reached_in, EndsOne, terminates_apart, settles_apart, StillEnds, first_end, next_end, last_end, monitors_read, path_read, ending_read, reached_read, ends_turn, reached_after, paths_all, turns_then, turns_as, turns_none, changed_turns, Machine, made, IsMachine, Becomes, TurnsAs, having_goals, shifting_shoens, LifeEnds, LivesEnd}
+use Rattle.std.proofs.Common.{◌≡◌, ℕ, ◌+◌, ◌<◌, ◌≤◌, drop, get_or, not, ◌&&◌, ◌||◌, Bool, true, false, if◌then◌else◌, List, [], ◌∷◌, ◌++◌, length, refl, sym, ap, ◌∙◌, subst, append-nil, zero-add, arith}
+use Rattle.std.specs.Prelude.{cond, count_by, nat_lt, OnOk}
+use Rattle.std.specs.declared.result.Result.{Result}
+use Rattle.std.proofs.lemmas.Bool.{lt-ltb}
+use Rattle.std.proofs.lemmas.List.{drop_more, drop_all}
+use Rattle.std.proofs.lemmas.List.Sums.{sum_by-cons}
+use Rattle.std.proofs.lemmas.Result.{on_ok_weaker}
+use Rattle.std.specs.List.{filter, list_any}
 use Rattle.kl1_model.specs.State as model
+use Rattle.kl1_model.specs.State.{State, change_shoen}
+use Rattle.kl1_model.specs.Tree.{path}
+use Rattle.kl1_model.specs.Report.{report, report_each, close, exhausted_report, terminated_report}
+use Rattle.kl1_model.specs.Ending.{without_monitor, ending_of, newly_exhausted, settle, after_reduction, terminate_each}
+use Rattle.kl1_text.specs.declared.cell_name.CellName.{CellName}
+use Rattle.kl1_goals.specs.declared.goal.Goal.{Goal}
+use Rattle.kl1_goals.specs.Lists.{is_monitor_of, is_goal_of}
+use Rattle.kl1_shoen_paths.specs.declared.shoen.Shoen.{Shoen}
+use Rattle.kl1_shoen.specs.Shoens.{Tree, changed, path_in, lives_in, is_living_child_of}
+use Rattle.kl1_shoen_paths.proofs.Paths.{path_zero}
+use Rattle.kl1_codes.specs.Numbered.{Numbered}
+use Rattle.kl1_user_effects.specs.Fitting.{Reading}
+use Rattle.kl1_user_effects.specs.Account.{meaning, shoen_with}
+use Rattle.kl1_user_effects.specs.Kept.{IsShoenIn}
+use Rattle.kl1_user_effects.specs.Works.{worked}
 use Rattle.kl1_user_effects.specs.Works as works
+use Rattle.kl1_user_effects.specs.Endings.{ended_each, finished, finished_each}
+use Rattle.kl1_user_effects.specs.Walks.{terminated, ends_in, ending_in, ended_in, reached_in, EndsOne}
+use Rattle.kl1_user_effects.proofs.Apart.{terminates_apart, settles_apart}
+use Rattle.kl1_user_effects.proofs.Ends.{StillEnds, first_end, next_end, last_end}
+use Rattle.kl1_user_effects.proofs.Goals.{monitors_read}
+use Rattle.kl1_user_effects.proofs.Walking.{path_read, ending_read, reached_read, ends_turn, reached_after, paths_all}
+use Rattle.kl1_user_effects.proofs.Works.{turns_then, turns_as, turns_none, changed_turns}
+use Rattle.kl1_machine.specs.declared.machine.Machine.{Machine}
+use Rattle.kl1_machine.specs.Machines.{made, IsMachine}
+use Rattle.kl1_machine.specs.Effects.{Becomes, TurnsAs, having_goals, shifting_shoens}
+use Rattle.kl1_machine.specs.Since.{Since}
+use Rattle.kl1_machine.specs.Ending.{LifeEnds, LivesEnd}
 
 -- ---- one after another
 
@@ -18,6 +52,10 @@ as_same f g m n e p = record { turns = λ ms. turns_as ms f g m.store.held n.sto
 
 pub as_none : (m : Machine) → IsMachine m → TurnsAs (λ f s. s) m m
 as_none m i = record { turns = λ ms. turns_none ms (λ f s. s) m.store.held (made m) i.inside (λ f knows s. refl); machine = i; named = record { name = refl; spelled = refl } }
+
+-- what an event has done, by one call after what was done before
+pub since_then : {T E : Type 0} (r : Result T E) (b m n o : Machine) → (Since b m → Since b n) → OnOk r (Since b n → Since b o) → OnOk r (Since b m → Since b o)
+since_then r b m n o f g = on_ok_weaker r (λ h s. h (f s)) g
 
 -- ---- changes for each of some shoens, one after another
 
@@ -51,6 +89,20 @@ any_counted p (g ∷ gs) = ap (nat_lt 0) (sum_by-cons (λ (z : Goal CellName). c
     by_case : (b : Bool) → nat_lt 0 (count_by p gs) ≡ list_any p gs → nat_lt 0 (cond b 1 0 + count_by p gs) ≡ (b || list_any p gs)
     by_case true e = some_more (count_by p gs)
     by_case false e = ap (nat_lt 0) (zero-add (count_by p gs)) ∙ e
+
+-- a shoen with a goal doesn't end
+kept_one : (goals : List (Goal CellName)) (n : ℕ) (ss : List (Shoen CellName)) → list_any (is_goal_of n) goals ≡ true → ending_in goals (n ∷ []) ss ≡ []
+kept_one goals n ss has = ap (λ b. if lives_in ss n && not b && not (list_any (is_living_child_of n) ss) then n ∷ [] else []) has ∙ by_case (lives_in ss n) (list_any (is_living_child_of n) ss)
+  where
+    by_case : (b c : Bool) → (if b && not true && not c then n ∷ [] else []) ≡ []
+    by_case true c = refl
+    by_case false c = refl
+
+-- of a path of one shoen, which has a goal, none ends
+pub kept_alone : (m : Machine) (n up : ℕ) → path_in m.shoens.shoens n ≡ n ∷ path_in m.shoens.shoens up → up ≡ 0 → list_any (is_goal_of n) m.goals.goals ≡ true → ending_in m.goals.goals (path_in m.shoens.shoens n) m.shoens.shoens ≡ []
+kept_alone m n up path e has =
+    let ss = m.shoens.shoens in
+    ap (λ (ps : List ℕ). ending_in m.goals.goals ps ss) (path ∙ ap (λ (ps : List ℕ). n ∷ ps) (path_zero up ss e)) ∙ kept_one m.goals.goals n ss has
 
 -- ---- goals that go
 

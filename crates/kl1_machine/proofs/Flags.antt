@@ -1,6 +1,20 @@
 -- Which goals may step: as before, after changes that leave all by which that is so, and after a charge by which no shoen reaches its allowance.
-use Rattle.kl1_machine.proofs.Words.{◌≡◌, ℕ, zero, suc, ◌+◌, ◌<◌, ◌≤◌, ◌==◌, ◌||◌, not, Bool, true, false, List, [], ◌∷◌, ◌++◌, length, get_or, refl, sym, ap, ap₂, ◌∙◌, arith, Option, Some, None, find, option_map, unwrap_or, cond, list_any, AllByRecursion, eqb-true, eqb-false, lt-leb, le-leb, leb-true, leb-false, sum_by-cons, is_among, is_living, path_within, ParentsAreLower, CellName, Shoen, Tree, has_number, AreNumbered, AreLower, parents_in, path_in, is_on_path_in, charged_in, is_exhausted_in, is_blocking_in, is_blocking_at, is_enabled_at, has_reached_in, path_among, plain, KeepsBy, IsCalm, SameFlags, found_stays, any_reached, found_number}
-use Rattle.std.proofs.Common.{nat_le}
+use Rattle.std.proofs.Common.{◌≡◌, ℕ, zero, suc, ◌+◌, ◌<◌, ◌≤◌, ◌==◌, ◌||◌, not, nat_le, Bool, true, false, if◌then◌else◌, List, [], ◌∷◌, ◌++◌, length, get_or, refl, sym, ap, ap₂, ◌∙◌, arith}
+use Rattle.std.specs.Prelude.{Option, Some, None, find, option_map, unwrap_or, cond}
+use Rattle.std.specs.List.{list_any, AllByRecursion}
+use Rattle.std.proofs.lemmas.Bool.{eqb-true, eqb-false, lt-leb, le-leb, leb-true, leb-false}
+use Rattle.std.proofs.lemmas.List.Sums.{sum_by-cons}
+use Rattle.kl1_model.specs.Module.{is_among}
+use Rattle.kl1_model.specs.State.{is_living}
+use Rattle.kl1_model.specs.Tree.{path_within}
+use Rattle.kl1_model.specs.laws.TreeLaws.{ParentsAreLower}
+use Rattle.kl1_text.specs.declared.cell_name.CellName.{CellName}
+use Rattle.kl1_shoen_paths.specs.declared.shoen.Shoen.{Shoen}
+use Rattle.kl1_shoen.specs.Shoens.{Tree, has_number, AreNumbered, AreLower, parents_in, path_in, is_on_path_in, charged_in, is_exhausted_in, is_blocking_in, is_blocking_at, is_enabled_at, has_reached_in}
+use Rattle.kl1_shoen_paths.proofs.Paths.{path_among}
+use Rattle.kl1_user_effects.specs.Frames.{plain, KeepsBy, IsCalm, SameFlags}
+use Rattle.kl1_user_effects.proofs.Frames.{found_stays}
+use Rattle.kl1_machine.specs.Effects.{any_reached}
 
 -- ---- paths and charges stay
 
@@ -81,6 +95,14 @@ none_of p (n ∷ ns) a e on = by_case (p n) (a == n) refl refl e on (none_of p n
     by_case true d r q e on k = absurd (cc)
     by_case false true r q e on k = ap p (eqb-true a n q) ∙ r
     by_case false false r q e on k = k e on
+
+found_case : (c : Bool) (a : ℕ) (r h : Shoen CellName) (o : Option (Shoen CellName)) → (r.number == a) ≡ c → (if c then Some r else o) ≡ Some h → (o ≡ Some h → h.number ≡ a) → h.number ≡ a
+found_case true a r h o e f k = let same : r ≡ h = cc in sym (ap (λ (x : Shoen CellName). x.number) same) ∙ eqb-true r.number a e
+found_case false a r h o e f k = k f
+
+found_number : (a : ℕ) (ss : List (Shoen CellName)) (h : Shoen CellName) → find (has_number a) ss ≡ Some h → h.number ≡ a
+found_number a [] h e = absurd (cc)
+found_number a (r ∷ ss) h e = found_case (r.number == a) a r h (find (has_number a) ss) refl e (found_number a ss h)
 
 -- one charge more is reached by no allowance but one that it is just as much as
 same_but_reached : (allowance c : ℕ) → (allowance ≡ 1 + c → ⊥) → nat_le allowance (1 + c) ≡ nat_le allowance c

@@ -1,8 +1,39 @@
 -- What messages to shoens do to a machine, and what monitors read.
-use Rattle.kl1_machine.proofs.Words.{◌≡◌, ℕ, suc, ◌+◌, ◌-◌, ◌<◌, ◌≤◌, ◌==◌, not, ◌&&◌, ◌||◌, Bool, true, false, if◌then◌else◌, List, [], ◌∷◌, length, map, drop, get_or, refl, sym, ap, ap₂, ◌∙◌, subst, find, Option, Some, option_map, filter, drop_more, drop_all, Aborted, is_among, State, change_shoen, is_living, path_within, report, close, exception, illegal_input, stopped_report, resumed_report, aborted_report, without_monitor, ended_below, Stop, Start, Abort, Allow, Message, tells, tells_other, breaks_off, obeyed, heard, stopped_of, resumed_of, allowed_more, CellName, Cell, Held, IsIn, Goal, is_in, is_monitor_of, Shoen, has_number, changed, is_on_path_in, aborted_below_in, AreBelow, Means, meaning, goal_with, shoen_with, is_of_any, worked, below_tells, halted, allowing, controlled, all_stay, below_read, parents_read, path_read, finds, changes, Machine, made, IsMachine, Becomes, TurnsAs, having_goals, having_shoens, shifting_shoens}
+use Rattle.std.proofs.Common.{◌≡◌, ℕ, suc, ◌+◌, ◌-◌, ◌<◌, ◌≤◌, ◌==◌, not, ◌&&◌, ◌||◌, Bool, true, false, if◌then◌else◌, List, [], ◌∷◌, length, map, drop, get_or, refl, sym, ap, ap₂, ◌∙◌, subst}
+use Rattle.std.specs.Prelude.{find, Option, Some, option_map}
+use Rattle.std.specs.List.{filter}
+use Rattle.std.proofs.lemmas.List.{drop_more, drop_all}
+use Rattle.kl1_model.specs.declared.life.Life.TheVariants.{Aborted}
+use Rattle.kl1_model.specs.Module.{is_among}
 use Rattle.kl1_model.specs.State as model
-use Rattle.kl1_model.specs.Reduction.{with_control}
+use Rattle.kl1_model.specs.State.{State, change_shoen, is_living}
+use Rattle.kl1_model.specs.Tree.{path_within}
+use Rattle.kl1_model.specs.Report.{report, close, exception, illegal_input, stopped_report, resumed_report, aborted_report}
+use Rattle.kl1_model.specs.Ending.{without_monitor, ended_below}
+use Rattle.kl1_model.specs.declared.message.Message.TheVariants.{Stop, Start, Abort, Allow}
+use Rattle.kl1_model.specs.declared.message.Message.{Message}
+use Rattle.kl1_model.specs.Control.{tells, tells_other, breaks_off}
+use Rattle.kl1_model.specs.Reduction.{obeyed, heard, with_control}
 use Rattle.kl1_model.specs.code.Steps as steps
+use Rattle.kl1_model.specs.code.Steps.{stopped_of, resumed_of, allowed_more}
+use Rattle.kl1_text.specs.declared.cell_name.CellName.{CellName}
+use Rattle.kl1_store.specs.declared.cell.Cell.{Cell}
+use Rattle.kl1_store.specs.Held.{Held, IsIn}
+use Rattle.kl1_goals.specs.declared.goal.Goal.{Goal}
+use Rattle.kl1_goals.specs.Lists.{is_in, is_monitor_of}
+use Rattle.kl1_shoen_paths.specs.declared.shoen.Shoen.{Shoen}
+use Rattle.kl1_shoen.specs.Shoens.{has_number, changed, is_on_path_in, aborted_below_in, AreBelow}
+use Rattle.kl1_user_effects.specs.Account.{Means, meaning, goal_with, shoen_with}
+use Rattle.kl1_user_effects.specs.Drafts.{is_of_any}
+use Rattle.kl1_user_effects.specs.Works.{worked}
+use Rattle.kl1_user_effects.proofs.Below.{below_tells}
+use Rattle.kl1_user_effects.proofs.Effects.{halted, allowing, controlled}
+use Rattle.kl1_user_effects.proofs.Goals.{all_stay, below_read}
+use Rattle.kl1_user_effects.proofs.Walking.{parents_read, path_read}
+use Rattle.kl1_user_effects.proofs.Works.{finds, changes}
+use Rattle.kl1_machine.specs.declared.machine.Machine.{Machine}
+use Rattle.kl1_machine.specs.Machines.{made, IsMachine}
+use Rattle.kl1_machine.specs.Effects.{Becomes, TurnsAs, having_goals, having_shoens, shifting_shoens}
 use Rattle.kl1_machine.proofs.Ending.{as_then, as_same, as_none, changed_as, unmonitored}
 
 -- ---- a shoen that is stopped, or goes on

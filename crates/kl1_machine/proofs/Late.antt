@@ -1,9 +1,32 @@
 -- What comes while the variable that is to become a name is still unbound.
-use Rattle.kl1_machine.proofs.Words.{◌≡◌, ℕ, ◌+◌, ◌-◌, ◌<◌, ◌≤◌, not, ◌&&◌, Bool, true, false, if◌then◌else◌, List, [], ◌∷◌, ◌++◌, length, take, get_or, refl, sym, ap, ◌∙◌, subst, find, Option, Some, None, option_map, OnOk, take_more, take_all, Term, State, shoen_at, path, broken_at, report, closed_at, close, exhausted_report, terminated_report, close_of, without_monitor, newly_exhausted, CellName, Held, has_number, changed, Reading, meaning, shoen_with, worked, ended_each, is_variable, is_tail_of, IsNoTail, StaysFree, KeepsFree, break_of, break_at, report_late, report_each_late, close_late_of, close_late, finished_late, finished_each_late, settle_charged_late, finds, turns_then, turns_as, turns_none, torn, changed_turns, changed_count, is_monitor_of, free_same, free_then, still_within, Machine, made, IsMachine, Since, Turns, TurnsAs, Becomes, having_goals, having_shoens, LivesEnd, LateAs}
-use Rattle.std.specs.Prelude.{filter, Result, Ok, Err}
+use Rattle.std.proofs.Common.{◌≡◌, ℕ, ◌+◌, ◌-◌, ◌<◌, ◌≤◌, not, ◌&&◌, Bool, true, false, if◌then◌else◌, List, [], ◌∷◌, ◌++◌, length, take, get_or, refl, sym, ap, ◌∙◌, subst}
+use Rattle.std.specs.Prelude.{filter, find, Option, Some, None, option_map, Result, Ok, Err, OnOk}
+use Rattle.std.proofs.lemmas.List.{take_more, take_all}
+use Rattle.kl1_model.specs.Term.{Term}
 use Rattle.kl1_model.specs.State as model
-use Rattle.kl1_machine.proofs.Sincing.{since_same}
-use Rattle.kl1_machine.proofs.Ending.{unmonitored, lives_turn, ending_is, reached_is, AreReached}
+use Rattle.kl1_model.specs.State.{State, shoen_at}
+use Rattle.kl1_model.specs.Tree.{path}
+use Rattle.kl1_model.specs.Report.{broken_at, report, closed_at, close, exhausted_report, terminated_report}
+use Rattle.kl1_model.specs.code.Steps.{close_of}
+use Rattle.kl1_model.specs.Ending.{without_monitor, newly_exhausted}
+use Rattle.kl1_text.specs.declared.cell_name.CellName.{CellName}
+use Rattle.kl1_store.specs.Held.{Held}
+use Rattle.kl1_shoen.specs.Shoens.{has_number, changed}
+use Rattle.kl1_user_effects.specs.Fitting.{Reading}
+use Rattle.kl1_user_effects.specs.Account.{meaning, shoen_with}
+use Rattle.kl1_user_effects.specs.Works.{worked}
+use Rattle.kl1_user_effects.specs.Endings.{ended_each}
+use Rattle.kl1_user_effects.specs.Late.{is_variable, is_tail_of, IsNoTail, StaysFree, KeepsFree, break_of, break_at, report_late, report_each_late, close_late_of, close_late, finished_late, finished_each_late, settle_charged_late}
+use Rattle.kl1_user_effects.proofs.Works.{finds, turns_then, turns_as, turns_none, torn, changed_turns}
+use Rattle.kl1_user_effects.proofs.States.{changed_count}
+use Rattle.kl1_user_effects.proofs.Goals.{no_monitor, monitors_read}
+use Rattle.kl1_user_effects.proofs.LateFree.{free_same, free_then, still_within}
+use Rattle.kl1_machine.specs.declared.machine.Machine.{Machine}
+use Rattle.kl1_machine.specs.Machines.{made, IsMachine, Keeps}
+use Rattle.kl1_machine.specs.Effects.{Turns, KeepsName, TurnsAs, Becomes, having_goals, having_shoens}
+use Rattle.kl1_machine.specs.Ending.{LivesEnd}
+use Rattle.kl1_machine.specs.Naming.{LateAs}
+use Rattle.kl1_machine.proofs.Ending.{lives_turn, ending_is, reached_is, AreReached}
 
 -- ---- one change after another
 
@@ -27,8 +50,10 @@ pub late_free : (v : ℕ) (f : Reading → State → State) (m n : Machine) → 
 late_free v f m n free p = record { turns = p.turns; machine = p.machine; named = p.named; free = free }
 
 -- a change that leaves the cells
-late_same : (v : ℕ) (f : Reading → State → State) (m n : Machine) → n.store.held ≡ m.store.held → TurnsAs f m n → LateAs v f m n
-late_same v f m n e p = let F : Held CellName → Type 0 = λ h. StaysFree v m.store.held h in late_free v f m n (subst F (sym e) (free_same v m.store.held)) p
+pub late_same : (v : ℕ) (f : Reading → State → State) (m n : Machine) → n.store.held ≡ m.store.held → KeepsName m n → Turns f m n → IsMachine n → LateAs v f m n
+late_same v f m n e named p i =
+    let F : Held CellName → Type 0 = λ h. StaysFree v m.store.held h in
+    record { turns = p; machine = i; named = named; free = subst F (sym e) (free_same v m.store.held) }
 
 -- ---- tails that become a name
 
@@ -75,7 +100,7 @@ late_torn m n v i is =
     let turns : Turns (λ f. B) m (with_torn n m) = λ ms. changed_turns ms h w n torn (λ x. record x { is_broken = true }) i.inside (λ s k. record { control = k.control; tail = k.tail; origin = k.origin; low = k.low; high = k.high }) (λ r s. refl) in
     late_as v (λ f. B) (λ f. break_at v n) m (with_torn n m)
     (λ f s. found_leads m n f s (λ o. break_of o v n) ∙ break_by (option_map (shoen_with (meaning f h)) (find (has_number n) m.shoens.shoens)) v n (worked f s h w) true (is f))
-    (record { turns = turns; machine = record { inside = (turns []).inside; last = i.last; placed = i.placed; known = i.known ∙ sym (changed_count n torn m.shoens.shoens) }; named = record { name = refl; spelled = refl }; free = free_same v h })
+    (record { turns = turns; machine = record { inside = (turns []).inside; last = i.last; known = i.known ∙ sym (changed_count n torn m.shoens.shoens) }; named = record { name = refl; spelled = refl }; free = free_same v h })
 
 -- a stream whose tail doesn't become a name stays as it is
 pub late_untorn : (m : Machine) (n v : ℕ) → IsMachine m → IsTail v n false m → LateAs v (λ f. break_at v n) m m
@@ -101,6 +126,22 @@ late_closed m k n v is p =
     ∙ sym (found_leads m n f s (λ o. close_of o)))
     p
 
+-- a monitor that goes leaves the cells
+pub late_unmonitored : (m n : Machine) (k v : ℕ) → Becomes (having_goals (filter (no_monitor k) m.goals.goals) m) n → IsMachine m → LateAs v (λ f. without_monitor k) m n
+late_unmonitored m n k v b i =
+    let T : Machine → Type 0 = λ x. IsMachine x → LateAs v (λ f. without_monitor k) m x in
+    subst T (sym b.is)
+    (λ j. record {
+      turns = λ ms. record {
+        inside = j.inside;
+        states = λ f knows s. ap (λ (gs : List model.Goal). let z : State = record (worked f s m.store.held (made m)) { goals = gs } in z) (monitors_read (meaning f m.store.held) k m.goals.goals);
+      };
+      machine = j;
+      named = record { name = refl; spelled = refl };
+      free = free_same v m.store.held;
+    })
+    b.machine
+
 -- ---- by what calls tell of their results
 
 both_ok : {T E : Type 0} (r : Result T E) (P Q R : Type 0) → (P → Q → R) → OnOk r P → OnOk r Q → OnOk r R
@@ -108,15 +149,15 @@ both_ok (Ok x) P Q R f p q = f p q
 both_ok (Err x) P Q R f p q = tt
 
 -- a variable of a machine is one of what it has come to
-pub within_then : (v : ℕ) (m n : Machine) → v < m.store.held.variables → (Since m m → Since m n) → v < n.store.held.variables
-within_then v m n lt since = still_within v m.store.held n.store.held lt (since (since_same m)).keeps.grown.held
+pub within_then : (v : ℕ) (m n : Machine) → v < m.store.held.variables → Keeps m n → v < n.store.held.variables
+within_then v m n lt k = still_within v m.store.held n.store.held lt k.grown.held
 
 -- a report of a shoen whose stream broke before if its tail becomes a name
-pub late_told : {T E : Type 0} (r : Result T E) (m n o : Machine) (k v : ℕ) (t : Term) → v < n.store.held.variables → IsNoTail v k n.store.held n.shoens.shoens → LateAs v (λ f. break_at v k) m n →
+pub late_told : {T E : Type 0} (r : Result T E) (m n o : Machine) (k v : ℕ) (t : Term) → v < m.store.held.variables → Keeps m n → IsNoTail v k n.store.held n.shoens.shoens → LateAs v (λ f. break_at v k) m n →
     OnOk r (TurnsAs (λ f. report k t) n o) → OnOk r (KeepsFree k n.shoens.shoens n.store.held o.store.held) → OnOk r (LateAs v (λ f. report_late v k t) m o)
-late_told r m n o k v t within untold broke told free =
+late_told r m n o k v t within keeps untold broke told free =
     both_ok r (TurnsAs (λ f. report k t) n o) (KeepsFree k n.shoens.shoens n.store.held o.store.held) (LateAs v (λ f. report_late v k t) m o)
-    (λ p q. late_then v (λ f. break_at v k) (λ f. report k t) m n o broke (late_free v (λ f. report k t) n o (q v within untold) p)) told free
+    (λ p q. late_then v (λ f. break_at v k) (λ f. report k t) m n o broke (late_free v (λ f. report k t) n o (q v (within_then v m n within keeps) untold) p)) told free
 
 -- the end of a stream whose tail doesn't become a name
 pub late_closes : {T E : Type 0} (r : Result T E) (m o : Machine) (k v : ℕ) → v < m.store.held.variables → IsTail v k false m → OnOk r (TurnsAs (λ f. close k) m o) → OnOk r (KeepsFree k m.shoens.shoens m.store.held o.store.held) → OnOk r (LateAs v (λ f. close_late v k) m o)
@@ -125,45 +166,56 @@ late_closes r m o k v within is closing free =
     (λ p q. late_closed m o k v is (late_free v (λ f. close k) m o (q v within is) p)) closing free
 
 -- what is left of a termination
-pub late_finished : (m n o u : Machine) (k v : ℕ) → Becomes (having_goals (filter (λ g. not (is_monitor_of k g)) m.goals.goals) m) n → LateAs v (λ f. report_late v k terminated_report) n o → LateAs v (λ f. close_late v k) o u → LateAs v (λ f. finished_late v k) m u
-late_finished m n o u k v gone told closed =
+pub late_finished : (m n o u : Machine) (k v : ℕ) → IsMachine m → Becomes (having_goals (filter (no_monitor k) m.goals.goals) m) n → LateAs v (λ f. report_late v k terminated_report) n o → LateAs v (λ f. close_late v k) o u → LateAs v (λ f. finished_late v k) m u
+late_finished m n o u k v i gone told closed =
     late_then v (λ f s. report_late v k terminated_report (without_monitor k s)) (λ f. close_late v k) m o u
-    (late_then v (λ f. without_monitor k) (λ f. report_late v k terminated_report) m n o (late_same v (λ f. without_monitor k) m n (ap (λ (x : Machine). x.store.held) gone.is) (unmonitored m n k gone)) told) closed
+    (late_then v (λ f. without_monitor k) (λ f. report_late v k terminated_report) m n o (late_unmonitored m n k v gone i) told) closed
 
 -- ---- each of some shoens
 
-pub reports_more : (v : ℕ) (t : Term) (ns : List ℕ) (n : ℕ) (s : State) → report_each_late v (ns ++ n ∷ []) t s ≡ report_late v n t (report_each_late v ns t s)
-reports_more v t [] n s = refl
-reports_more v t (k ∷ ns) n s = reports_more v t ns n (report_late v k t s)
+reports_more : (v : ℕ) (ns : List ℕ) (n : ℕ) (t : Term) (s : State) → report_each_late v (ns ++ n ∷ []) t s ≡ report_late v n t (report_each_late v ns t s)
+reports_more v [] n t s = refl
+reports_more v (k ∷ ns) n t s = reports_more v ns n t (report_late v k t s)
 
-pub finishes_more : (v : ℕ) (ns : List ℕ) (n : ℕ) (s : State) → finished_each_late v (ns ++ n ∷ []) s ≡ finished_late v n (finished_each_late v ns s)
+finishes_more : (v : ℕ) (ns : List ℕ) (n : ℕ) (s : State) → finished_each_late v (ns ++ n ∷ []) s ≡ finished_late v n (finished_each_late v ns s)
 finishes_more v [] n s = refl
 finishes_more v (k ∷ ns) n s = finishes_more v ns n (finished_late v k s)
 
--- a change for one shoen more, after that for others
-pub next_late : (each : List ℕ → State → State) (one : ℕ → State → State) → ((ns : List ℕ) (n : ℕ) (s : State) → each (ns ++ n ∷ []) s ≡ one n (each ns s)) →
-    (m n o : Machine) (v : ℕ) (ns : List ℕ) (i : ℕ) → i < length ns → LateAs v (λ f. each (take i ns)) m n → LateAs v (λ f. one (get_or ns i 0)) n o → LateAs v (λ f. each (take (i + 1) ns)) m o
-next_late each one more m n o v ns i lt p q =
-    late_as v (λ f s. one (get_or ns i 0) (each (take i ns) s)) (λ f. each (take (i + 1) ns)) m o
-    (λ f s. let S = worked f s m.store.held (made m) in ap (λ (ks : List ℕ). each ks S) (take_more ns i 0 lt) ∙ more (take i ns) (get_or ns i 0) S)
-    (late_then v (λ f. each (take i ns)) (λ f. one (get_or ns i 0)) m n o p q)
+-- one report more
+pub next_report_late : (m n o : Machine) (v : ℕ) (ns : List ℕ) (i : ℕ) (t : Term) → i < length ns → LateAs v (λ f. report_each_late v (take i ns) t) m n → LateAs v (λ f. report_late v (get_or ns i 0) t) n o → LateAs v (λ f. report_each_late v (take (i + 1) ns) t) m o
+next_report_late m n o v ns i t lt p q =
+    late_as v (λ f s. report_late v (get_or ns i 0) t (report_each_late v (take i ns) t s)) (λ f. report_each_late v (take (i + 1) ns) t) m o
+    (λ f s. let S = worked f s m.store.held (made m) in ap (λ (ks : List ℕ). report_each_late v ks t S) (take_more ns i 0 lt) ∙ reports_more v (take i ns) (get_or ns i 0) t S)
+    (late_then v (λ f. report_each_late v (take i ns) t) (λ f. report_late v (get_or ns i 0) t) m n o p q)
 
--- the change for all
-pub all_late : (each : List ℕ → State → State) (m n : Machine) (v : ℕ) (ns : List ℕ) (i : ℕ) → length ns ≤ i → LateAs v (λ f. each (take i ns)) m n → LateAs v (λ f. each ns) m n
-all_late each m n v ns i le p = let P : List ℕ → Type 0 = λ ks. LateAs v (λ f. each ks) m n in subst P (take_all i ns le) p
+-- the rest of one termination more
+pub next_finish_late : (m n o : Machine) (v : ℕ) (ns : List ℕ) (i : ℕ) → i < length ns → LateAs v (λ f. finished_each_late v (take i ns)) m n → LateAs v (λ f. finished_late v (get_or ns i 0)) n o → LateAs v (λ f. finished_each_late v (take (i + 1) ns)) m o
+next_finish_late m n o v ns i lt p q =
+    late_as v (λ f s. finished_late v (get_or ns i 0) (finished_each_late v (take i ns) s)) (λ f. finished_each_late v (take (i + 1) ns)) m o
+    (λ f s. let S = worked f s m.store.held (made m) in ap (λ (ks : List ℕ). finished_each_late v ks S) (take_more ns i 0 lt) ∙ finishes_more v (take i ns) (get_or ns i 0) S)
+    (late_then v (λ f. finished_each_late v (take i ns)) (λ f. finished_late v (get_or ns i 0)) m n o p q)
+
+-- all reports
+pub all_reports_late : (m n : Machine) (v : ℕ) (ns : List ℕ) (i : ℕ) (t : Term) → length ns ≤ i → LateAs v (λ f. report_each_late v (take i ns) t) m n → LateAs v (λ f. report_each_late v ns t) m n
+all_reports_late m n v ns i t le p = let P : List ℕ → Type 0 = λ ks. LateAs v (λ f. report_each_late v ks t) m n in subst P (take_all i ns le) p
+
+-- the rest of all terminations
+pub all_finished_late : (m n : Machine) (v : ℕ) (ns : List ℕ) (i : ℕ) → length ns ≤ i → LateAs v (λ f. finished_each_late v (take i ns)) m n → LateAs v (λ f. finished_each_late v ns) m n
+all_finished_late m n v ns i le p = let P : List ℕ → Type 0 = λ ks. LateAs v (λ f. finished_each_late v ks) m n in subst P (take_all i ns le) p
 
 -- ---- all of it
 
 -- lives that end leave the cells
 lives_late : (m u : Machine) (n v : ℕ) (ending : List ℕ) → IsMachine m → LivesEnd n ending m u → LateAs v (λ f. ended_each ending) m u
-lives_late m u n v ending i l = late_same v (λ f. ended_each ending) m u (ap (λ (x : Machine). x.store.held) l.rest) (lives_turn m u n ending i l)
+lives_late m u n v ending i l = late_same v (λ f. ended_each ending) m u (ap (λ (x : Machine). x.store.held) l.rest) (record { name = ap (λ (x : Machine). x.name) l.rest; spelled = ap (λ (x : Machine). x.spelled) l.rest }) (lives_turn m u n ending i l).turns l.machine
 
-pub late_settles : (m u y : Machine) (n v : ℕ) (ending reached : List ℕ) → IsMachine m → LivesEnd n ending m u → AreReached n ending u reached → LateAs v (λ f s. finished_each_late v ending (report_each_late v reached exhausted_report s)) u y → LateAs v (λ f. settle_charged_late v n) m y
-late_settles m u y n v ending reached i l r p =
+pub late_settles : (m u x y : Machine) (n v : ℕ) (ending reached : List ℕ) → IsMachine m → LivesEnd n ending m u → AreReached n ending u reached → LateAs v (λ f. report_each_late v reached exhausted_report) u x → LateAs v (λ f. finished_each_late v ending) x y → LateAs v (λ f. settle_charged_late v n) m y
+late_settles m u x y n v ending reached i l r p q =
     let after : List ℕ → List ℕ → State → State = λ es rs s. finished_each_late v es (report_each_late v rs exhausted_report (ended_each es s)) in
     late_as v (λ f. after ending reached) (λ f. settle_charged_late v n) m y
     (λ f s.
     let S = worked f s m.store.held (made m) in
     ap (λ (ns : List ℕ). after ns (newly_exhausted S ns (path S.shoens n)) S) (ending_is m u n ending f s l)
     ∙ ap (λ (ns : List ℕ). after ending ns S) (reached_is m u n ending reached f s l r))
-    (late_then v (λ f. ended_each ending) (λ f s. finished_each_late v ending (report_each_late v reached exhausted_report s)) m u y (lives_late m u n v ending i l) p)
+    (late_then v (λ f. ended_each ending) (λ f s. finished_each_late v ending (report_each_late v reached exhausted_report s)) m u y (lives_late m u n v ending i l)
+    (late_then v (λ f. report_each_late v reached exhausted_report) (λ f. finished_each_late v ending) u x y p q))

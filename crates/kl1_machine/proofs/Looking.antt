@@ -1,7 +1,28 @@
 -- Goals of a machine that are looked at, each by its number.
-use Rattle.kl1_machine.proofs.Words.{◌≡◌, ℕ, suc, ◌≤◌, ◌==◌, Bool, true, false, if◌then◌else◌, List, [], ◌∷◌, length, map, refl, sym, ap, ◌∙◌, arith, subst, ⊎_elim, Option, Some, None, find, AllByRecursion, ne_eqb, eq-eqb, eqb-true, eqb-false, cases_eq, CellName, Kept, HasGrown, Held, HasGrown-same, HasGrown-trans, grown_among, Goal, Task, number_of, Tabled, Ascend, AreInOrder, Program, Reading, IsTaskIn, IsOwned, IsSettled, IsMadeIn, Machine, made, trail_of, IsMachine, Keeps, ready_at, IsReadyAt, unready, unlooked, Looks, AreSettledBut, settled_more}
-use Rattle.kl1_goals.specs.Lists.{has_number}
+use Rattle.std.proofs.Common.{◌≡◌, ℕ, suc, ◌≤◌, ◌==◌, Bool, true, false, if◌then◌else◌, List, [], ◌∷◌, length, map, refl, sym, ap, ◌∙◌, arith, subst, ⊎_elim}
+use Rattle.std.specs.Prelude.{Option, Some, None, find}
+use Rattle.std.specs.List.{AllByRecursion}
+use Rattle.std.proofs.lemmas.Bool.{ne_eqb, eq-eqb, eqb-true, eqb-false, cases_eq}
+use Rattle.kl1_text.specs.declared.cell_name.CellName.{CellName}
+use Rattle.kl1_store.specs.Hooks.{Kept, HasGrown}
+use Rattle.kl1_store.specs.Held.{Held}
+use Rattle.kl1_store_hooks.proofs.Hooked.{HasGrown-same, HasGrown-trans, grown_among}
+use Rattle.kl1_goals.specs.declared.goal.Goal.{Goal}
+use Rattle.kl1_goals.specs.declared.task.Task.{Task}
+use Rattle.kl1_goals.specs.Lists.{number_of, has_number}
+use Rattle.kl1_goals.specs.Rows.{Rowed}
+use Rattle.kl1_goals.specs.Tables.{Ascend, AreInOrder}
+use Rattle.kl1_codes.specs.Shelves.{Program}
+use Rattle.kl1_user_effects.specs.Fitting.{Reading}
+use Rattle.kl1_user_effects.specs.Kept.{IsTaskIn, IsOwned}
+use Rattle.kl1_user_effects.specs.Settled.{IsSettled}
+use Rattle.kl1_user_effects.specs.Works.{IsMadeIn}
+use Rattle.kl1_machine.specs.declared.machine.Machine.{Machine}
+use Rattle.kl1_machine.specs.Machines.{made, trail_of, IsMachine, Keeps}
+use Rattle.kl1_machine.specs.Ready.{ready_at, IsReadyAt}
+use Rattle.kl1_machine.specs.Rescheduling.{unready, unlooked, Looks, AreSettledBut}
 use Rattle.kl1_machine.proofs.Sincing.{each_so, each_both}
+use Rattle.kl1_machine.proofs.SettledStays.{settled_more}
 
 -- ---- what holds of each goal
 
@@ -102,7 +123,6 @@ looks_machine m n l i =
         owned = looked_hold (IsOwned (length m.shoens.shoens)) (λ g o b p. record { low = p.low; high = p.high }) n.goals.goals m.goals.goals l.goals w.owned;
       });
       last = looked_hold (λ g. g.number ≤ m.counts.last_goal) (λ g o b p. p) n.goals.goals m.goals.goals l.goals i.last;
-      placed = i.placed;
       known = i.known;
     })
 
@@ -137,13 +157,13 @@ one_settled f program m k x o up found g b is was =
 pub record IsLook (program : Program) (m : Machine) (k : Kept CellName) (n : ℕ) (goal : Goal CellName) (o : Option ℕ) : Type 0 where
   pub order : AreInOrder m.goals.goals
   pub found : Some goal ≡ find (has_number n) m.goals.goals
-  pub number : goal.number ≡ n
   pub held : k.held ≡ m.store.held
   pub grown : HasGrown m.store k
-  pub ready : IsReadyAt program m.shoens.shoens m.store.held k.hooks goal.number goal.shoen goal.task o
+  pub ready : IsReadyAt program m.shoens.shoens m.store.held k.hooks n goal.shoen goal.task o
 
-pub look_ready : (program : Program) (m : Machine) (k : Kept CellName) (n : ℕ) (goal : Goal CellName) (o : Option ℕ) → IsLook program m k n goal o → IsReadyAt program m.shoens.shoens m.store.held k.hooks n goal.shoen goal.task o
-look_ready program m k n goal o look = let R : ℕ → Type 0 = λ i. IsReadyAt program m.shoens.shoens m.store.held k.hooks i goal.shoen goal.task o in subst R look.number look.ready
+-- a table of which only the goals are others
+pub row_of : (m : Machine) (r : Rowed CellName) (gs : List (Goal CellName)) → r ≡ record m.goals { goals = r.goals } → r.goals ≡ gs → r ≡ record m.goals { goals = gs }
+row_of m r gs rest is = rest ∙ ap (λ (xs : List (Goal CellName)). let z : Rowed CellName = record m.goals { goals = xs } in z) is
 
 -- goals that are settled but for those of some numbers are so but for those of more
 pub settled_but_more : (f : Reading) (program : Program) (m : Machine) (r q : ℕ → Bool) → ((k : ℕ) → q k ≡ false → r k ≡ false) → AreSettledBut r f program m → AreSettledBut q f program m
@@ -155,3 +175,7 @@ pub settled_but_none : (f : Reading) (program : Program) (m : Machine) (n : ℕ)
 settled_but_none f program m n r q none others all =
     each_both (λ g. g.number ≡ n → ⊥) (λ g. r g.number ≡ false → IsSettled f m.store.hooks m.store.held program m.shoens.shoens g) (λ g. q g.number ≡ false → IsSettled f m.store.hooks m.store.held program m.shoens.shoens g) (λ g other s e. s (others g.number e other))
     m.goals.goals (none_of n m.goals.goals none) all
+
+-- a store that has grown, and a table of which only goals are others
+pub row_keeps : (m : Machine) (k : Kept CellName) (r : Rowed CellName) → HasGrown m.store k → r ≡ record m.goals { goals = r.goals } → Keeps m (record m { store = k; goals = r })
+row_keeps m k r grown e = record { grown = grown; trail = ap (λ (x : Rowed CellName). let z : Machine = record m { store = k; goals = x } in trail_of z) e }

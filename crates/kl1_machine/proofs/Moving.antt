@@ -1,11 +1,44 @@
--- What a goal's move does to a machine, and a move with the charge before it.
-use Rattle.kl1_machine.proofs.Words.{◌≡◌, ℕ, suc, ◌||◌, Bool, List, [], ◌∷◌, length, refl, sym, ap, ◌∙◌, subst, Option, Some, None, BuiltIn, text_of, Candidate, State, charge, commits, raises, unifies, names, opens, goes, gives_way, raised, moved, CellName, Cell, Qualified, IsIn, Move, ExecuteArguments, order_at, IsOrder, IsCandidate, IsMove, Reduces, Goal, Numbered, Reading, meaning, goal_with, aim, IsOwned, worked, Knows, name_for, turns_as, replaced_turns, Machine, made, IsMachine, goal_at, Turns, with_goal, Puts, Charges, TurnsAs, Commits, UnifiesAs, OpensChild, Making, IsMade, MovesAs, ReadsAll, StandsFor}
+-- What a goal's move does to a machine, and a move with the charge before it and what comes after it.
+use Rattle.std.proofs.Common.{◌≡◌, ℕ, suc, ◌||◌, Bool, List, [], ◌∷◌, length, refl, sym, ap, ◌∙◌, subst}
+use Rattle.std.specs.Prelude.{Option, Some, None}
+use Rattle.kl1_model.specs.declared.built_in.BuiltIn.{BuiltIn}
+use Rattle.kl1_model.specs.Text.{text_of}
 use Rattle.kl1_model.specs.Term as term
+use Rattle.kl1_model.specs.Match.{Candidate}
+use Rattle.kl1_model.specs.State.{State}
+use Rattle.kl1_model.specs.Tree.{charge}
+use Rattle.kl1_model.specs.Ending.{after_reduction}
 use Rattle.kl1_model.specs.Reduction as model
+use Rattle.kl1_model.specs.Reduction.{commits, raises, unifies, names, opens, goes, gives_way, raised, moved}
+use Rattle.kl1_text.specs.declared.cell_name.CellName.{CellName}
+use Rattle.kl1_store.specs.declared.cell.Cell.{Cell}
+use Rattle.kl1_store.specs.declared.qualified.Qualified.{Qualified}
+use Rattle.kl1_store.specs.Held.{IsIn}
+use Rattle.kl1_goals_moves.specs.declared.moves.Move.{Move}
 use Rattle.kl1_goals_moves.specs.declared.moves.Move.TheVariants as move
+use Rattle.kl1_goals_moves.specs.declared.order.ExecuteArguments.{ExecuteArguments}
+use Rattle.kl1_goals_moves.specs.Orders.{order_at, IsOrder}
+use Rattle.kl1_goals_moves.specs.Moves.{IsCandidate}
+use Rattle.kl1_goals.specs.declared.task.Task.TheVariants.{Reduces}
+use Rattle.kl1_goals.specs.declared.goal.Goal.{Goal}
+use Rattle.kl1_codes.specs.Numbered.{Numbered}
+use Rattle.kl1_user_effects.specs.Fitting.{Reading}
+use Rattle.kl1_user_effects.specs.Account.{meaning, goal_with, aim}
+use Rattle.kl1_user_effects.specs.Kept.{IsOwned}
+use Rattle.kl1_user_effects.specs.Works.{worked, Knows}
 use Rattle.kl1_user_effects.specs.Works as works
-use Rattle.kl1_machine.proofs.Ending.{as_none}
-use Rattle.kl1_machine.proofs.Naming.{found_is}
+use Rattle.kl1_user_effects.specs.Moving.{name_for}
+use Rattle.kl1_user_effects.proofs.Works.{turns_then, turns_as}
+use Rattle.kl1_user_effects.proofs.Substituting.{replaced_turns}
+use Rattle.kl1_machine.specs.declared.machine.Machine.{Machine}
+use Rattle.kl1_machine.specs.Machines.{made, IsMachine}
+use Rattle.kl1_machine.specs.Effects.{Turns, goal_at, with_goal, KeepsName, Puts, Charges, TurnsAs, Commits}
+use Rattle.kl1_machine.specs.Moving.{UnifiesAs, OpensChild, Making, TurnsBy, MovesAs, RunsAs}
+use Rattle.kl1_machine.specs.Naming.{NamesAs}
+
+-- what is found of a move is the move
+found_is : (m n : model.Move) (o : Option model.Move) → o ≡ Some m → o ≡ Some n → m ≡ n
+found_is m n o a b = cc
 
 -- what a goal does by a move
 abbrev moves_by : Goal CellName → Qualified CellName → Machine → (Reading → model.Move) → Reading → State → State
@@ -17,6 +50,10 @@ moves_as : (ms : List Numbered) (goal : Goal CellName) (x : Qualified CellName) 
 moves_as ms goal x m n k l is p =
     turns_as ms (moves_by goal x m l) (moves_by goal x m k) m.store.held n.store.held (made m) (made n)
     (λ f knows s. ap (λ y. moved (goal_with (meaning f m.store.held) goal) (aim f m.store.held x) y (worked f s m.store.held (made m))) (is f knows)) p
+
+-- a move by which no name is used
+plainly : (a : Making) (goal : Goal CellName) (x : Qualified CellName) (m n : Machine) → m.name ≡ None → name_for a.move m.names.names a.text ≡ None → IsMachine n → KeepsName m n → TurnsBy a (λ f k. moved (goal_with (meaning f m.store.held) goal) (aim f m.store.held x) k) m n → MovesAs a goal x m n
+plainly a goal x m n none unnamed i same turns = record { turns = turns; machine = i; name = same.name ∙ none ∙ sym unnamed; spelled = same.spelled }
 
 -- ---- commits
 
@@ -34,85 +71,90 @@ candidate_in (opens o) = no_candidate
 candidate_in goes = no_candidate
 candidate_in gives_way = no_candidate
 
-pub moves_commit : (a : Making) (place : ℕ) (goal : Goal CellName) (x : Qualified CellName) (m n : Machine) → a.move ≡ move.Commits place → Commits (record { predicate = a.predicate; place = place; places = a.places }) goal x m n → MovesAs a goal x m n
-moves_commit a place goal x m n is c =
+pub moves_commit : (a : Making) (place : ℕ) (goal : Goal CellName) (x : Qualified CellName) (m n : Machine) → a.move ≡ move.Commits place → m.name ≡ None → Commits (record { predicate = a.predicate; place = place; places = a.places }) goal x m n → MovesAs a goal x m n
+moves_commit a place goal x m n is none c =
     let P : Move CellName → Type 0 = λ y. MovesAs (record a { move = y }) goal x m n in
     subst P (sym is)
-    (record {
-      turns = λ ms k found.
-          let so : (f : Reading) (knows : Knows ms f) → k f ≡ commits (found f knows).candidate = λ f knows. found_is (k f) (commits (found f knows).candidate) (Some (k f)) refl (found f knows).moves in
-          let C : (f : Reading) → Candidate → Type 0 = λ f y. IsCandidate f m.store.held a.predicate place a.places y in
-          moves_as ms goal x m n k (λ f. commits (candidate_in (k f))) (λ f knows. so f knows ∙ ap (λ y. commits (candidate_in y)) (sym (so f knows)))
-          (c.turns ms (λ f. candidate_in (k f)) (λ f knows. subst (C f) (ap candidate_in (sym (so f knows))) (found f knows).is));
-      machine = c.machine;
-      named = c.named;
-    })
+    (plainly (record a { move = move.Commits place }) goal x m n none refl c.machine c.named
+    (λ ms k reads found.
+    let so : (f : Reading) (knows : Knows ms f) → k f ≡ commits (found f knows).candidate = λ f knows. found_is (k f) (commits (found f knows).candidate) (Some (k f)) refl (found f knows).moves in
+    let C : (f : Reading) → Candidate → Type 0 = λ f y. IsCandidate f m.store.held a.predicate place a.places y in
+    moves_as ms goal x m n k (λ f. commits (candidate_in (k f))) (λ f knows. so f knows ∙ ap (λ y. commits (candidate_in y)) (sym (so f knows)))
+    (c.turns ms (λ f. candidate_in (k f)) (λ f knows. subst (C f) (ap candidate_in (sym (so f knows))) (found f knows).is))))
 
--- ---- other moves
+-- ---- exceptions, unifications, names, and shoens that open
 
--- a move that is one of the definitions for each reading
-moves_one : (a : Making) (y : Move CellName) (j : Reading → model.Move) (goal : Goal CellName) (x : Qualified CellName) (m n : Machine) → a.move ≡ y → ((f : Reading) (k : model.Move) → IsMove f m.store.held (Some k) a.predicate a.places a.text (Some y) → Some k ≡ Some (j f)) →
-    TurnsAs (λ f. moved (goal_with (meaning f m.store.held) goal) (aim f m.store.held x) (j f)) m n → MovesAs a goal x m n
-moves_one a y j goal x m n is found c =
+pub moves_exception : (a : Making) (b : BuiltIn) (goal : Goal CellName) (x : Qualified CellName) (m n : Machine) → a.move ≡ move.Raises b → m.name ≡ None → TurnsAs (λ f. raised (goal_with (meaning f m.store.held) goal) (text_of b) (aim f m.store.held x)) m n → MovesAs a goal x m n
+moves_exception a b goal x m n is none c =
+    let P : Move CellName → Type 0 = λ y. MovesAs (record a { move = y }) goal x m n in
+    subst P (sym is)
+    (plainly (record a { move = move.Raises b }) goal x m n none refl c.machine c.named
+    (λ ms k reads found. moves_as ms goal x m n k (λ f. raises (text_of b)) (λ f knows. found_is (k f) (raises (text_of b)) (Some (k f)) refl (found f knows)) (c.turns ms)))
+
+pub moves_unification : (a : Making) (l r : Cell CellName) (goal : Goal CellName) (x : Qualified CellName) (m n : Machine) → a.move ≡ move.Unifies l r → m.name ≡ None → UnifiesAs goal x l r m n → MovesAs a goal x m n
+moves_unification a l r goal x m n is none c =
+    let P : Move CellName → Type 0 = λ y. MovesAs (record a { move = y }) goal x m n in
+    let h = m.store.held in
+    subst P (sym is)
+    (plainly (record a { move = move.Unifies l r }) goal x m n none refl c.machine c.named
+    (λ ms k reads found. moves_as ms goal x m n k (λ f. unifies (meaning f h l) (meaning f h r)) (λ f knows. found_is (k f) (unifies (meaning f h l) (meaning f h r)) (Some (k f)) refl (found f knows)) (c.turns ms)))
+
+pub moves_order : (a : Making) (s : ℕ) (o : ExecuteArguments CellName) (goal : Goal CellName) (x : Qualified CellName) (m n : Machine) → a.move ≡ move.Opens s → m.name ≡ None → IsOrder m.store.held s o → OpensChild s goal x m n → MovesAs a goal x m n
+moves_order a s o goal x m n is none order c =
+    let P : Move CellName → Type 0 = λ y. MovesAs (record a { move = y }) goal x m n in
+    let h = m.store.held in
+    subst P (sym is)
+    (plainly (record a { move = move.Opens s }) goal x m n none refl c.machine c.named
+    (λ ms k reads found. moves_as ms goal x m n k (λ f. opens (order_at f h o)) (λ f knows. found_is (k f) (opens (order_at f h o)) (Some (k f)) refl (found f knows o order)) (c.turns o order ms)))
+
+pub moves_name : (a : Making) (y : Cell CellName) (goal : Goal CellName) (x : Qualified CellName) (m n : Machine) → a.move ≡ move.Names y → NamesAs goal a.text y x m n → MovesAs a goal x m n
+moves_name a y goal x m n is c =
     let P : Move CellName → Type 0 = λ z. MovesAs (record a { move = z }) goal x m n in
-    subst P (sym is) (record { turns = λ ms k made_is. moves_as ms goal x m n k j (λ f knows. found_is (k f) (j f) (Some (k f)) refl (found f (k f) (made_is f knows))) (c.turns ms); machine = c.machine; named = c.named })
-
-pub moves_exception : (a : Making) (b : BuiltIn) (goal : Goal CellName) (x : Qualified CellName) (m n : Machine) → a.move ≡ move.Raises b → TurnsAs (λ f. raised (goal_with (meaning f m.store.held) goal) (text_of b) (aim f m.store.held x)) m n → MovesAs a goal x m n
-moves_exception a b goal x m n is c = moves_one a (move.Raises b) (λ f. raises (text_of b)) goal x m n is (λ f k e. e) c
-
-pub moves_unification : (a : Making) (l r : Cell CellName) (goal : Goal CellName) (x : Qualified CellName) (m n : Machine) → a.move ≡ move.Unifies l r → UnifiesAs goal x l r m n → MovesAs a goal x m n
-moves_unification a l r goal x m n is c = moves_one a (move.Unifies l r) (λ f. unifies (meaning f m.store.held l) (meaning f m.store.held r)) goal x m n is (λ f k e. e) c
-
-pub moves_order : (a : Making) (s : ℕ) (o : ExecuteArguments CellName) (goal : Goal CellName) (x : Qualified CellName) (m n : Machine) → a.move ≡ move.Opens s → IsOrder m.store.held s o → OpensChild s goal x m n → MovesAs a goal x m n
-moves_order a s o goal x m n is order c = moves_one a (move.Opens s) (λ f. opens (order_at f m.store.held o)) goal x m n is (λ f k e. e o order) (record { turns = c.turns o order; machine = c.machine; named = c.named })
-
-pub moves_nothing : (a : Making) (goal : Goal CellName) (x : Qualified CellName) (m : Machine) → a.move ≡ move.Goes → IsMachine m → MovesAs a goal x m m
-moves_nothing a goal x m is i = moves_one a move.Goes (λ f. goes) goal x m m is (λ f k e. e) (as_none m i)
-
-pub moves_giving_way : (a : Making) (goal : Goal CellName) (x : Qualified CellName) (m n : Machine) → a.move ≡ move.GivesWay → IsMachine m → IsIn m.store.held x.cell → IsOwned (length m.shoens.shoens) goal → Puts goal.shoen goal.priority (Reduces x) m n → MovesAs a goal x m n
-moves_giving_way a goal x m n is i inside own p =
-    let come = with_goal (goal_at (suc m.counts.last_goal) goal.shoen goal.priority (Reduces x)) m in
-    let Q : Machine → Type 0 = λ z. IsMachine z → MovesAs a goal x m z in
-    subst Q (sym p.is)
-    (λ machine. moves_one a move.GivesWay (λ f. gives_way) goal x m come is (λ f k e. e) (record { turns = λ ms. replaced_turns ms m.store.held (made m) goal (Reduces x) i.inside inside own; machine = machine; named = record { name = refl; spelled = refl } }))
-    p.machine
-
--- ---- a move with the charge before it
-
--- a goal has made a move, after a charge of its shoen; a name that is new has been used
-pub record RunsAs (a : Making) (goal : Goal CellName) (x : Qualified CellName) (m n : Machine) : Type 0 where
-  pub turns : (ms : List Numbered) (k : Reading → model.Move) (key : CellName) → ReadsAll a.move ms m.store.held m.names.names a.text key → IsMade a ms m k →
-      works.Turns ms (λ f s. moved (goal_with (meaning f m.store.held) goal) (aim f m.store.held x) (k f) (charge goal.shoen s)) m.store.held n.store.held (made m) (made n)
-  pub machine : IsMachine n
-  pub name : n.name ≡ name_for a.move m.names.names a.text
-  pub spelled : n.spelled ≡ m.spelled
-
-pub runs : (a : Making) (b : Move CellName) (goal : Goal CellName) (x : Qualified CellName) (m c d u : Machine) (reached : Bool) → Charges goal.shoen m c reached → StandsFor b a c d → MovesAs (record a { move = b }) goal x d u → RunsAs a goal x m u
-runs a b goal x m c d u reached charges stands moves =
-    let y : Machine = record m { shoens = record m.shoens { work = goal.shoen ∷ m.shoens.work }; shifts = m.shifts || reached } in
-    let C : Machine → Type 0 = λ z. Turns (λ f. charge goal.shoen) m z → StandsFor b a z d → RunsAs a goal x m u in
-    let D : Machine → Type 0 = λ z. StandsFor b a y z → MovesAs (record a { move = b }) goal x z u → RunsAs a goal x m u in
-    subst C (sym charges.is)
-    (λ first stand. subst D (sym stand.is)
-    (λ p q. record {
-      turns = λ ms k key reads is.
-          let then = q.turns ms (p.by k) (p.made_by ms k is) in
-          record {
-            inside = then.inside;
-            states = λ f knows s.
-                let g = goal_with (meaning f m.store.held) goal in
-                let t = aim f m.store.held x in
-                ap (moved g t (k f)) ((first ms).states f knows s) ∙ p.does ms k key reads is f knows g t s ∙ then.states f knows s;
-          };
-      machine = q.machine;
-      name = q.named.name;
-      spelled = q.named.spelled;
+    let h = m.store.held in
+    subst P (sym is)
+    (record {
+      turns = λ ms k reads found. moves_as ms goal x m n k (λ f. names a.text (meaning f h y)) (λ f knows. found_is (k f) (names a.text (meaning f h y)) (Some (k f)) refl (found f knows)) (c.turns ms reads);
+      machine = c.machine;
+      name = c.name;
+      spelled = c.spelled;
     })
-    stand moves)
-    charges.turns stands
 
--- a machine whose shoen was charged, and that was told a name, is what it was but for that
-pub charged_still : (P : Machine → Type 0) (n : ℕ) (m c d : Machine) (o : Option (List ℕ)) (reached : Bool) → Charges n m c reached → d ≡ record c { name = o } → P (record m { shoens = record m.shoens { work = n ∷ m.shoens.work }; shifts = m.shifts || reached; name = o }) → P d
-charged_still P n m c d o reached charges is p =
-    let Q : Machine → Type 0 = λ z. P (record z { name = o }) in
-    subst P (sym is) (subst Q (sym charges.is) p)
+-- ---- nothing, and giving way
+
+pub moves_nothing : (a : Making) (goal : Goal CellName) (x : Qualified CellName) (m : Machine) → a.move ≡ move.Goes → m.name ≡ None → IsMachine m → MovesAs a goal x m m
+moves_nothing a goal x m is none i =
+    let P : Move CellName → Type 0 = λ z. MovesAs (record a { move = z }) goal x m m in
+    subst P (sym is)
+    (plainly (record a { move = move.Goes }) goal x m m none refl i (record { name = refl; spelled = refl })
+    (λ ms k reads found. moves_as ms goal x m m k (λ f. goes) (λ f knows. found_is (k f) goes (Some (k f)) refl (found f knows)) (record { inside = i.inside; states = λ f knows s. refl })))
+
+pub moves_giving_way : (a : Making) (goal : Goal CellName) (x : Qualified CellName) (m n : Machine) → a.move ≡ move.GivesWay → m.name ≡ None → IsMachine m → IsIn m.store.held x.cell → IsOwned (length m.shoens.shoens) goal → Puts goal.shoen goal.priority (Reduces x) m n → MovesAs a goal x m n
+moves_giving_way a goal x m n is none i inside own p =
+    let P : Move CellName → Type 0 = λ z. MovesAs (record a { move = z }) goal x m n in
+    let come = with_goal (goal_at (suc m.counts.last_goal) goal.shoen goal.priority (Reduces x)) m in
+    let Q : Machine → Type 0 = λ z. IsMachine z → MovesAs (record a { move = move.GivesWay }) goal x m z in
+    subst P (sym is)
+    (subst Q (sym p.is)
+    (λ machine. plainly (record a { move = move.GivesWay }) goal x m come none refl machine (record { name = refl; spelled = refl })
+    (λ ms k reads found. moves_as ms goal x m come k (λ f. gives_way) (λ f knows. found_is (k f) gives_way (Some (k f)) refl (found f knows)) (replaced_turns ms m.store.held (made m) goal (Reduces x) i.inside inside own)))
+    p.machine)
+
+-- ---- a move with the charge before it, and what comes after it
+
+pub runs : (a : Making) (goal : Goal CellName) (x : Qualified CellName) (m c u v : Machine) (reached : Bool) → Charges goal.shoen m c reached → MovesAs a goal x c u → TurnsAs (λ f. after_reduction goal.shoen) u v → RunsAs a goal x m v
+runs a goal x m c u v reached charges moves ends =
+    let P : Machine → Type 0 = λ y. Turns (λ f. charge goal.shoen) m y → MovesAs a goal x y u → RunsAs a goal x m v in
+    subst P (sym charges.is)
+    (λ first second. record {
+      turns = λ ms k reads found.
+          let so_far = turns_then ms (λ f. charge goal.shoen) (moves_by goal x m k) m.store.held m.store.held u.store.held (made m) _ (made u) (first ms) (second.turns ms k reads found) in
+          turns_then ms (λ f s. moves_by goal x m k f (charge goal.shoen s)) (λ f. after_reduction goal.shoen) m.store.held u.store.held v.store.held (made m) (made u) (made v) so_far (ends.turns ms);
+      machine = ends.machine;
+      name = ends.named.name ∙ second.name;
+      spelled = ends.named.spelled ∙ second.spelled;
+    })
+    charges.turns moves
+
+-- a machine whose shoen was charged is what it was but for that
+pub charged_still : (P : Machine → Type 0) (n : ℕ) (m c : Machine) (reached : Bool) → Charges n m c reached → P (record m { shoens = record m.shoens { work = n ∷ m.shoens.work }; shifts = m.shifts || reached }) → P c
+charged_still P n m c reached charges p = subst P (sym charges.is) p

@@ -1,9 +1,40 @@
 -- Shoens that open, with their monitors and goals, and the children that goals open.
-use Rattle.kl1_machine.proofs.Words.{◌≡◌, ℕ, suc, ◌-◌, ◌<◌, ◌==◌, ◌&&◌, ◌||◌, Bool, true, false, if◌then◌else◌, List, [], ◌∷◌, ◌++◌, length, map, length-append, refl, sym, ap, ◌∙◌, subst, arith, nat_lt, find, Option, Some, list_any, ne_eqb, map-append, MONITOR_PRIORITY, number_of_term, State, limits_of, report, exhaustion, started_report, exhausted_report, clipped_to, open_child, clipped, opens, or_exhaustion, raised, moved, CellName, Cell, Qualified, ExecuteArguments, order_at, IsOrder, Monitor, Reduces, Task, Goal, is_monitor, is_monitor_of, Shoen, has_number, path_in, Reading, meaning, goal_with, shoen_with, aim, whole, AreOwned, worked, finds, path_read, child_of, Machine, made, IsMachine, goal_at, with_goal, with_shoen, Becomes, Puts, TurnsAs, JoinsAs, OpensAs, OpensChild}
-use Rattle.std.proofs.lemmas.List.{append_assoc}
+use Rattle.std.proofs.Common.{◌≡◌, ℕ, suc, ◌-◌, ◌<◌, ◌==◌, ◌&&◌, ◌||◌, Bool, true, false, if◌then◌else◌, List, [], ◌∷◌, ◌++◌, length, map, length-append, refl, sym, ap, ◌∙◌, subst, arith}
+use Rattle.std.specs.Prelude.{nat_lt, find, Option, Some}
+use Rattle.std.specs.List.{list_any}
+use Rattle.std.proofs.lemmas.Bool.{ne_eqb}
+use Rattle.std.proofs.lemmas.List.{map-append, append_assoc}
+use Rattle.kl1_model.specs.declared.limits.TheConstants.{MONITOR_PRIORITY}
+use Rattle.kl1_model.specs.Look.{number_of_term}
 use Rattle.kl1_model.specs.State as model
+use Rattle.kl1_model.specs.State.{State, limits_of}
+use Rattle.kl1_model.specs.Report.{report, exhaustion, started_report, exhausted_report}
 use Rattle.kl1_model.specs.Opening as opening
-use Rattle.kl1_machine.proofs.Ending.{as_then, as_same}
+use Rattle.kl1_model.specs.Opening.{clipped_to, open_child}
+use Rattle.kl1_model.specs.code.Steps.{clipped}
+use Rattle.kl1_model.specs.Reduction.{opens, or_exhaustion, raised, moved}
+use Rattle.kl1_text.specs.declared.cell_name.CellName.{CellName}
+use Rattle.kl1_store.specs.declared.cell.Cell.{Cell}
+use Rattle.kl1_store.specs.declared.qualified.Qualified.{Qualified}
+use Rattle.kl1_goals_moves.specs.declared.order.ExecuteArguments.{ExecuteArguments}
+use Rattle.kl1_goals_moves.specs.Orders.{order_at, IsOrder}
+use Rattle.kl1_goals.specs.declared.task.Task.TheVariants.{Monitor, Reduces}
+use Rattle.kl1_goals.specs.declared.task.Task.{Task}
+use Rattle.kl1_goals.specs.declared.goal.Goal.{Goal}
+use Rattle.kl1_goals.specs.Lists.{is_monitor, is_monitor_of}
+use Rattle.kl1_shoen_paths.specs.declared.shoen.Shoen.{Shoen}
+use Rattle.kl1_shoen.specs.Shoens.{has_number, path_in}
+use Rattle.kl1_user_effects.specs.Fitting.{Reading}
+use Rattle.kl1_user_effects.specs.Account.{meaning, goal_with, shoen_with, aim, whole}
+use Rattle.kl1_user_effects.specs.Kept.{AreOwned}
+use Rattle.kl1_user_effects.specs.Works.{worked}
+use Rattle.kl1_user_effects.proofs.Works.{finds, turns_then, turns_as}
+use Rattle.kl1_user_effects.proofs.Walking.{path_read}
+use Rattle.kl1_user_effects.proofs.Joining.{child_of}
+use Rattle.kl1_machine.specs.declared.machine.Machine.{Machine}
+use Rattle.kl1_machine.specs.Machines.{made, IsMachine}
+use Rattle.kl1_machine.specs.Effects.{goal_at, with_goal, with_shoen, Becomes, Puts, KeepsName, TurnsAs}
+use Rattle.kl1_machine.specs.Moving.{JoinsAs, OpensAs, OpensChild}
 
 -- ---- a shoen that joins
 
@@ -16,14 +47,14 @@ no_monitor count n (g ∷ gs) lt o =
     ∙ no_monitor count n gs lt o.1
 
 -- the monitor of a shoen, and its goal, which is a cell
-abbrev pub monitor_for : ℕ → Shoen CellName → Goal CellName
+abbrev monitor_for : ℕ → Shoen CellName → Goal CellName
 monitor_for last h = goal_at (suc last) h.number MONITOR_PRIORITY Monitor
 
-abbrev pub goal_for : ℕ → Shoen CellName → Cell CellName → Goal CellName
+abbrev goal_for : ℕ → Shoen CellName → Cell CellName → Goal CellName
 goal_for last h x = goal_at (suc last) h.number h.high (Reduces (whole x))
 
 -- a machine with a shoen more, its monitor and its goal
-abbrev pub with_opened : Shoen CellName → Cell CellName → ℕ → Machine → Machine
+abbrev with_opened : Shoen CellName → Cell CellName → ℕ → Machine → Machine
 with_opened h x room m = with_goal (goal_for (suc m.counts.last_goal) h x) (with_goal (monitor_for m.counts.last_goal h) (with_shoen h room m))
 
 opened_states : (f : Reading) (s : State) (h : Shoen CellName) (x : Cell CellName) (room : ℕ) (m : Machine) → h.number ≡ suc (length m.shoens.shoens) →
@@ -55,39 +86,55 @@ no_monitor_yet h room m u i number b = ap (λ (y : Machine). list_any (is_monito
 pub put_beside : (shoen priority : ℕ) (task : Task CellName) (u v : Machine) → Puts shoen priority task u v → (v.store ≡ u.store) × (v.shoens ≡ u.shoens)
 put_beside shoen priority task u v p = (ap (λ (y : Machine). y.store) p.is, ap (λ (y : Machine). y.shoens) p.is)
 
--- a shoen was taken in, then its monitor, and then its goal
-pub record Joins (h : Shoen CellName) (x : Cell CellName) (room : ℕ) (m u v w : Machine) : Type 0 where
-  pub number : h.number ≡ suc (length m.shoens.shoens)
-  pub taken : Becomes (with_shoen h room m) u
-  pub monitor : Puts h.number MONITOR_PRIORITY Monitor u v
-  pub goal : Puts h.number h.high (Reduces (whole x)) v w
-
-pub joined_is : (h : Shoen CellName) (x : Cell CellName) (room : ℕ) (m u v w : Machine) → Joins h x room m u v w → w ≡ with_opened h x room m
-joined_is h x room m u v w j =
+-- a shoen that was taken in, then its monitor, and then its goal
+pub joined : (h : Shoen CellName) (x : Cell CellName) (room : ℕ) (m u v w : Machine) → h.number ≡ suc (length m.shoens.shoens) → Becomes (with_shoen h room m) u → Puts h.number MONITOR_PRIORITY Monitor u v → Puts h.number h.high (Reduces (whole x)) v w → JoinsAs h x m w
+joined h x room m u v w number taken monitor goal =
     let F : Machine → Machine = λ y. with_goal (monitor_for y.counts.last_goal h) y in
     let G : Machine → Machine = λ y. with_goal (goal_for y.counts.last_goal h x) y in
-    j.goal.is ∙ ap G j.monitor.is ∙ ap (λ y. G (F y)) j.taken.is
-
-pub joined : (h : Shoen CellName) (x : Cell CellName) (room : ℕ) (m u v w : Machine) → Joins h x room m u v w → JoinsAs h x m w
-joined h x room m u v w j =
+    let is : w ≡ with_opened h x room m = goal.is ∙ ap G monitor.is ∙ ap (λ y. G (F y)) taken.is in
     let P : Machine → Type 0 = λ y. IsMachine y → JoinsAs h x m y in
-    subst P (sym (joined_is h x room m u v w j))
+    subst P (sym is)
     (λ machine. record {
-      turns = λ ms. record { inside = machine.inside; states = λ f knows s. opened_states f s h x room m j.number };
+      turns = λ ms. record { inside = machine.inside; states = λ f knows s. opened_states f s h x room m number };
       machine = machine;
       named = record { name = refl; spelled = refl };
     })
-    j.goal.machine
+    goal.machine
 
 -- ---- a shoen that opens
 
--- a shoen has joined, and then this was done: it has opened, if that is what its allowance asks for
-pub opened : (h : Shoen CellName) (x : Cell CellName) (m u v : Machine) (b : Bool) → (h.allowance == 0) ≡ b → JoinsAs h x m u →
-    TurnsAs (λ f s. let said = report h.number started_report s in if b then report h.number exhausted_report said else said) u v → OpensAs h x m v
-opened h x m u v b is p q =
-    let after : Bool → State → State = λ c s. (let said = report h.number started_report s in if c then report h.number exhausted_report said else said) in
-    let change : Reading → State → State = λ f. opening.with_shoen (shoen_with (meaning f m.store.held) h) (meaning f m.store.held x) in
-    as_same (λ f s. after b (change f s)) (λ f. opening.open_shoen (shoen_with (meaning f m.store.held) h) (meaning f m.store.held x)) m v (λ f s. ap (λ c. after c (change f (worked f s m.store.held (made m)))) is) (as_then change (λ f. after b) m u v p q)
+-- the name that is new stays, one change after another
+pub named_then : (m n o : Machine) → KeepsName m n → KeepsName n o → KeepsName m o
+named_then m n o p q = record { name = q.name ∙ p.name; spelled = q.spelled ∙ p.spelled }
+
+-- a shoen that reports that it has started
+pub opened : (h : Shoen CellName) (x : Cell CellName) (m u v : Machine) → (h.allowance == 0) ≡ false → JoinsAs h x m u → TurnsAs (λ f. report h.number started_report) u v → OpensAs h x m v
+opened h x m u v some p q = record {
+  turns = λ ms.
+      let change : Reading → State → State = λ f. opening.with_shoen (shoen_with (meaning f m.store.held) h) (meaning f m.store.held x) in
+      turns_as ms (λ f s. report h.number started_report (change f s)) (λ f. opening.open_shoen (shoen_with (meaning f m.store.held) h) (meaning f m.store.held x)) m.store.held v.store.held (made m) (made v)
+      (λ f knows s.
+      let said = report h.number started_report (change f (worked f s m.store.held (made m))) in
+      ap (λ b. if b then report h.number exhausted_report said else said) some)
+      (turns_then ms change (λ f. report h.number started_report) m.store.held u.store.held v.store.held (made m) (made u) (made v) (p.turns ms) (q.turns ms));
+  machine = q.machine;
+  named = named_then m u v p.named q.named;
+}
+
+-- and after that that it is exhausted, if it may be charged nothing
+pub opened_empty : (h : Shoen CellName) (x : Cell CellName) (m u v w : Machine) → (h.allowance == 0) ≡ true → JoinsAs h x m u → TurnsAs (λ f. report h.number started_report) u v → TurnsAs (λ f. report h.number exhausted_report) v w → OpensAs h x m w
+opened_empty h x m u v w none p q r = record {
+  turns = λ ms.
+      let change : Reading → State → State = λ f. opening.with_shoen (shoen_with (meaning f m.store.held) h) (meaning f m.store.held x) in
+      let both = turns_then ms change (λ f. report h.number started_report) m.store.held u.store.held v.store.held (made m) (made u) (made v) (p.turns ms) (q.turns ms) in
+      turns_as ms (λ f s. report h.number exhausted_report (report h.number started_report (change f s))) (λ f. opening.open_shoen (shoen_with (meaning f m.store.held) h) (meaning f m.store.held x)) m.store.held w.store.held (made m) (made w)
+      (λ f knows s.
+      let said = report h.number started_report (change f (worked f s m.store.held (made m))) in
+      ap (λ b. if b then report h.number exhausted_report said else said) none)
+      (turns_then ms (λ f s. report h.number started_report (change f s)) (λ f. report h.number exhausted_report) m.store.held v.store.held w.store.held (made m) (made v) (made w) both (r.turns ms));
+  machine = r.machine;
+  named = named_then m v w (named_then m u v p.named q.named) r.named;
+}
 
 -- ---- children
 
@@ -98,15 +145,16 @@ has_room_in m parent = nat_lt (length m.shoens.shoens) (limits_of m.rules).shoen
 -- a goal of a shoen that may open no child
 pub child_refused : (s : ℕ) (goal : Goal CellName) (x : Qualified CellName) (m n : Machine) → has_room_in m goal.shoen ≡ false → TurnsAs (λ f. raised (goal_with (meaning f m.store.held) goal) exhaustion (aim f m.store.held x)) m n → OpensChild s goal x m n
 child_refused s goal x m n full a = record {
-  turns = λ o order. (as_same (λ f. raised (goal_with (meaning f m.store.held) goal) exhaustion (aim f m.store.held x)) (λ f. moved (goal_with (meaning f m.store.held) goal) (aim f m.store.held x) (opens (order_at f m.store.held o))) m n
-      (λ f z.
+  turns = λ o order ms.
+      turns_as ms (λ f. raised (goal_with (meaning f m.store.held) goal) exhaustion (aim f m.store.held x)) (λ f. moved (goal_with (meaning f m.store.held) goal) (aim f m.store.held x) (opens (order_at f m.store.held o))) m.store.held n.store.held (made m) (made n)
+      (λ f knows z.
       let S = worked f z m.store.held (made m) in
       let G = goal_with (meaning f m.store.held) goal in
       let A = aim f m.store.held x in
       let O = order_at f m.store.held o in
       ap (λ (ns : List ℕ). or_exhaustion (nat_lt (length m.shoens.shoens) (limits_of m.rules).shoens && nat_lt (length ns) (limits_of m.rules).depth) G A (open_child S goal.shoen O) S) (path_read (meaning f m.store.held) m.shoens.shoens goal.shoen)
       ∙ ap (λ b. or_exhaustion b G A (open_child S goal.shoen O) S) full)
-      a).turns;
+      (a.turns ms);
   machine = a.machine;
   named = a.named;
 }
@@ -144,11 +192,12 @@ child_states s goal x m parent o h c f z =
 -- a child that is opened
 pub child_opened : (s : ℕ) (goal : Goal CellName) (x : Qualified CellName) (m n : Machine) (parent : Shoen CellName) (o : ExecuteArguments CellName) (h : Shoen CellName) → IsChild s goal m parent o h → OpensAs h o.goal m n → OpensChild s goal x m n
 child_opened s goal x m n parent o h c opened = record {
-  turns = λ p order. (as_same (λ f. opening.open_shoen (shoen_with (meaning f m.store.held) h) (meaning f m.store.held o.goal)) (λ f. moved (goal_with (meaning f m.store.held) goal) (aim f m.store.held x) (opens (order_at f m.store.held p))) m n
-      (λ f z.
+  turns = λ p order ms.
+      turns_as ms (λ f. opening.open_shoen (shoen_with (meaning f m.store.held) h) (meaning f m.store.held o.goal)) (λ f. moved (goal_with (meaning f m.store.held) goal) (aim f m.store.held x) (opens (order_at f m.store.held p))) m.store.held n.store.held (made m) (made n)
+      (λ f knows z.
       ap (λ (y : ExecuteArguments CellName). moved (goal_with (meaning f m.store.held) goal) (aim f m.store.held x) (opens (order_at f m.store.held y)) (worked f z m.store.held (made m))) (c.one p order)
       ∙ child_states s goal x m parent o h c f z)
-      opened).turns;
+      (opened.turns ms);
   machine = opened.machine;
   named = opened.named;
 }

@@ -1,17 +1,70 @@
 -- What a reduction has left when its name is published.
-use Rattle.kl1_machine.proofs.Words.{◌≡◌, ℕ, ◌<◌, ◌≤◌, ◌&&◌, false, List, [], ◌∷◌, ◌++◌, length, refl, sym, ap, ◌∙◌, subst, Option, Some, None, AllByRecursion, State, is_in_run, reduce, reduced, Transition, is_full, needs_entry, with_reduction, step, Action, acted, CellName, Known, number_by, Cell, Atom, Binding, Held, IsIn, with_binding, Hook, contents, Program, Spelled, Reading, Fits, meaning, goal_with, texts_of, names_with, AreUpTo, NameShelf, AreSmall, spare, IsNewName, AreSettled, AreEnabled, Made, IsMadeIn, worked, Machine, made, Trail, IsMachine, Keeps, IsRested, IsBoundLast, HoldsSpare, Patches, CanPublish, ReadsNew, IsNamed, Publishes, exchanged, ReadsAlike, goals_in_by, shoens_in_by, with_spare, spare_texts, spare_fits, spare_reads, exchanged_fits, settled_alike}
+use Rattle.std.proofs.Common.{◌≡◌, ℕ, ◌<◌, ◌&&◌, false, List, [], ◌∷◌, ◌++◌, length, refl, sym, ap, ◌∙◌, subst}
+use Rattle.std.specs.Prelude.{Option, Some, None}
+use Rattle.std.specs.List.{AllByRecursion}
 use Rattle.kl1_model.specs.State as model
-use Rattle.kl1_machine.specs.Reducing.{Reduces as HasReduced}
-use Rattle.kl1_machine.proofs.Planned.{state_in, steps_some}
+use Rattle.kl1_model.specs.State.{State}
+use Rattle.kl1_model.specs.Choice.{is_in_run}
+use Rattle.kl1_model.specs.Event.{reduce, reduced, Transition, is_full, needs_entry, with_reduction}
+use Rattle.kl1_model.specs.Step.{step}
+use Rattle.kl1_model.specs.Reduction.{Action, acted}
+use Rattle.kl1_text.specs.declared.cell_name.CellName.{CellName}
+use Rattle.kl1_atoms.specs.declared.known.Known.{Known}
+use Rattle.kl1_atoms.specs.Names.{number_by}
+use Rattle.kl1_store.specs.declared.cell.Cell.{Cell}
+use Rattle.kl1_store.specs.declared.cell.Cell.TheVariants.{Atom}
+use Rattle.kl1_store.specs.declared.binding.Binding.{Binding}
+use Rattle.kl1_store.specs.Held.{Held, with_binding}
+use Rattle.kl1_store.specs.Hooks.{Hook}
+use Rattle.kl1_goals.specs.declared.task.Task.{Task}
+use Rattle.kl1_goals.specs.declared.task.Task.TheVariants.{Monitor, Reduces, Substitutes}
+use Rattle.kl1_goals.specs.declared.goal.Goal.{Goal}
+use Rattle.kl1_shoen_paths.specs.declared.shoen.Origin.{Origin}
+use Rattle.kl1_shoen_paths.specs.declared.shoen.Shoen.{Shoen}
+use Rattle.kl1_codes.specs.Finding.{contents}
+use Rattle.kl1_codes.specs.Shelves.{Program}
+use Rattle.kl1_user_effects.specs.declared.spelled.Spelled.{Spelled}
+use Rattle.kl1_user_effects.specs.Fitting.{Reading, Fits}
+use Rattle.kl1_user_effects.specs.Account.{meaning, goal_with, texts_of}
+use Rattle.kl1_user_effects.specs.Drafts.{names_with}
+use Rattle.kl1_user_effects.specs.Kept.{IsTaskIn, AreGoalsIn, AreUpTo, IsOriginIn, AreShoensIn}
+use Rattle.kl1_user_effects.specs.Naming.{NameShelf, AreSmall}
+use Rattle.kl1_user_effects.specs.Calling.{spare, IsNewName}
+use Rattle.kl1_user_effects.specs.Settled.{AreSettled, AreEnabled}
+use Rattle.kl1_user_effects.specs.Works.{Made, IsMadeIn, worked}
+use Rattle.kl1_machine.specs.declared.machine.Machine.{Machine}
+use Rattle.kl1_machine.specs.Machines.{made, Trail, IsMachine, Keeps}
+use Rattle.kl1_machine.specs.Rested.{IsRested}
+use Rattle.kl1_machine.specs.Naming.{IsBoundLast, HoldsSpare, Patches, HasName, CanPublish, ReadsNew, IsNamed, Publishes}
+use Rattle.kl1_machine.specs.Exchanging.{exchanged}
+use Rattle.kl1_machine.specs.Reducing.{ReadsAlike, Reduces as HasReduced}
+use Rattle.kl1_machine.proofs.Exchanged.{with_spare, spare_texts, spare_fits, spare_reads, exchanged_fits, settled_alike}
+use Rattle.kl1_machine.proofs.Planned.{state_in, steps_on}
 use Rattle.kl1_machine.proofs.Publishing.{published_made}
-use Rattle.kl1_machine.proofs.Stepped.{rested_knows, ReadBoth, bare, same_goal, same_action}
+use Rattle.kl1_machine.proofs.Stepped.{rested_knows, same_goal, same_action}
 
 -- ---- cells of a store whose last binding is to another cell
 
-made_bound : (h : Held CellName) (v : ℕ) (x y : Cell CellName) (w : Made) → IsMadeIn (with_binding h v x) w → IsMadeIn (with_binding h v y) w
-made_bound h v x y w i =
-    let up : (z : Cell CellName) → IsIn (with_binding h v x) z → IsIn (with_binding h v y) z = λ z j. j in
-    record { some = i.some; goals = goals_in_by (with_binding h v x) (with_binding h v y) up w.goals i.goals; shoens = shoens_in_by (with_binding h v x) (with_binding h v y) up w.shoens i.shoens; owned = i.owned }
+module _ (h : Held CellName) (v : ℕ) (x y : Cell CellName) where
+  task_bound : (t : Task CellName) → IsTaskIn (with_binding h v x) t → IsTaskIn (with_binding h v y) t
+  task_bound Monitor i = i
+  task_bound (Reduces q) i = i
+  task_bound (Substitutes x) i = i
+
+  goals_bound : (gs : List (Goal CellName)) → AreGoalsIn (with_binding h v x) gs → AreGoalsIn (with_binding h v y) gs
+  goals_bound [] i = tt
+  goals_bound (g ∷ gs) i = (task_bound g.task i.0, goals_bound gs i.1)
+
+  origin_bound : (o : Option (Origin CellName)) → IsOriginIn (with_binding h v x) o → IsOriginIn (with_binding h v y) o
+  origin_bound None i = i
+  origin_bound (Some o) i = record { goal = i.goal; reports = i.reports; control = i.control }
+
+  shoens_bound : (ss : List (Shoen CellName)) → AreShoensIn (with_binding h v x) ss → AreShoensIn (with_binding h v y) ss
+  shoens_bound [] i = tt
+  shoens_bound (s ∷ ss) i = (record { control = i.0.control; tail = i.0.tail; origin = origin_bound s.origin i.0.origin; low = i.0.low; high = i.0.high }, shoens_bound ss i.1)
+
+  made_bound : (w : Made) → IsMadeIn (with_binding h v x) w → IsMadeIn (with_binding h v y) w
+  made_bound w i = record { some = i.some; goals = goals_bound w.goals i.goals; shoens = shoens_bound w.shoens i.shoens; owned = i.owned }
 
 -- what is made has its cells when a name has its number
 made_patched : (s : Option Spelled) (k : CellName) (h last : Held CellName) (w : Made) → IsBoundLast s h → Patches s k h last → IsMadeIn h w → IsMadeIn last w
@@ -47,40 +100,55 @@ record Numbers (m u : Machine) (more : List Known) (last : Held CellName) : Type
   named : IsNamed m.names.names more u.name number
   patches : Patches u.spelled number u.store.held last
 
--- machine `m`, which rested, has come to `u` by a reduction; `u` has become `v` as its name was published
-record Comes (program : Program) (n c : ℕ) (m u v : Machine) : Type 0 where
-  rested : IsRested program m
-  alike : ReadsAlike m
-  reduces : HasReduced program n c m u
-  keeps : Keeps m u
-  rests : IsRested program u
-  can : CanPublish u
-  published : Publishes u v
+-- a state with nothing
+bare : Program → State
+bare program = record {
+  own_name = [];
+  rules = program.rules;
+  goals = [];
+  shoens = [];
+  work = [];
+  modules = [];
+  names = [];
+  last_variable = 0;
+  last_goal = 0;
+  last_shoen = 0;
+  variables = 0;
+  nodes = 0;
+  reports = 0;
+  entries = 0;
+  run = 0;
+  sessions = 0;
+}
 
-module _ (program : Program) (n c : ℕ) (m u v : Machine) (q : Comes program n c m u v) where
+some_same : (x y : Action) → Some x ≡ Some y → x ≡ y
+some_same x y e = cc
+
+-- machine `m`, which rested, has come to `u` by a reduction; `u` has become `v` as its name was published
+module _ (program : Program) (n c : ℕ) (m u v : Machine) (rested : IsRested program m) (alike : ReadsAlike m) (r : HasReduced program n c m u) (keeps : Keeps m u) (rests : IsRested program u) (can : CanPublish u) (p : Publishes u v) where
   -- two readings, of names that have numbers in two ways, read the same state
   same_states : (more less : List Known) (last first : Held CellName) → Numbers m u more last → Numbers m u less first → (f g : Reading) → Fits more f → Fits less g → (s : State) → worked f s last (made u) ≡ worked g s first (made u)
   same_states more less last first a b f g one two s =
       let fits = a.named.fits f one in
       let other = b.named.fits g two in
-      let k = q.reduces.goal in
+      let k = r.goal in
       let was : Reading → State = λ q. state_in q s m in
-      let both : ReadBoth m n k f g = record { alike = q.alike; found = q.reduces.steppable.found; first = fits; second = other } in
-      let same : q.reduces.action f ≡ q.reduces.action g = same_action program m n c k f g both (q.reduces.action f) (q.reduces.action g) (q.reduces.does f (rested_knows program m f q.rested fits)) (q.reduces.does g (rested_knows program m g q.rested other)) in
-      sym (q.reduces.acts more a.number last a.named a.patches f one s)
-      ∙ ap (λ (x : model.Goal). acted x (q.reduces.action f) (was f)) (same_goal program m n k f g both)
+      let found = r.steppable.found in
+      let same : r.action f ≡ r.action g = some_same (r.action f) (r.action g) (same_action program m s n c k f g alike found fits other (Some (r.action f)) (Some (r.action g)) (r.does f (rested_knows program m f rested fits)) (r.does g (rested_knows program m g rested other))) in
+      sym (r.acts more a.number last a.named a.patches f one s)
+      ∙ ap (λ (x : model.Goal). acted x (r.action f) (was f)) (same_goal m s n k f g alike found fits other)
       ∙ ap (λ (x : Action). acted (goal_with (meaning g m.store.held) k) x (was f)) same
-      ∙ ap (acted (goal_with (meaning g m.store.held) k) (q.reduces.action g)) (q.alike f g fits other s)
-      ∙ q.reduces.acts less b.number first b.named b.patches g two s
+      ∙ ap (acted (goal_with (meaning g m.store.held) k) (r.action g)) (alike f g fits other s)
+      ∙ r.acts less b.number first b.named b.patches g two s
 
   names_are : u.names ≡ m.names
-  names_are = ap (λ (t : Trail). t.names) q.keeps.trail
+  names_are = ap (λ (t : Trail). t.names) keeps.trail
 
   -- the names that the machine has at last
   published : Numbers m u v.names.names v.store.held
   published =
-      let N : NameShelf → Type 0 = λ s. IsNamed s.names v.names.names u.name q.published.number in
-      record { number = q.published.number; named = subst N names_are q.published.named; patches = q.published.patches }
+      let N : NameShelf → Type 0 = λ s. IsNamed s.names v.names.names u.name p.number in
+      record { number = p.number; named = subst N names_are p.named; patches = p.patches }
 
   -- its name by the spare number
   spared : (text : List ℕ) → u.name ≡ Some text → number_by m.names.names text ≡ None → Numbers m u (with_spare m.names.names text) u.store.held
@@ -95,7 +163,7 @@ module _ (program : Program) (n c : ℕ) (m u v : Machine) (q : Comes program n 
           fits = spare_fits known text new;
           reads = subst R (sym is) (spare_reads known text new);
         };
-        patches = spare_again u.spelled u.store.held q.reduces.spare_last;
+        patches = spare_again u.spelled u.store.held r.spare_last;
       }
 
   -- ---- goals that are settled
@@ -105,23 +173,23 @@ module _ (program : Program) (n c : ℕ) (m u v : Machine) (q : Comes program n 
   settled_named text is new f fits =
       let known = m.names.names in
       let more = with_spare known text in
-      let R : Option (List ℕ) → Type 0 = λ o. ReadsNew f q.published.number o in
+      let R : Option (List ℕ) → Type 0 = λ o. ReadsNew f p.number o in
       let A : NameShelf → Type 0 = λ x. AreSmall x.names in
-      let F : NameShelf → Type 0 = λ x. Fits x.names (exchanged spare q.published.number f) in
-      let g = exchanged spare q.published.number f in
+      let F : NameShelf → Type 0 = λ x. Fits x.names (exchanged spare p.number f) in
+      let g = exchanged spare p.number f in
       let a = published in
-      let two : Fits more g = exchanged_fits known text q.published.number f (subst A names_are q.can.small) new (subst R is (q.published.named.reads f fits)) (a.named.fits f fits) in
+      let two : Fits more g = exchanged_fits known text p.number f (subst A names_are can.small) new (subst R is (p.named.reads f fits)) (a.named.fits f fits) in
       let states = same_states more v.names.names u.store.held v.store.held (spared text is new) a g f two fits (bare program) in
       settled_alike g f u.store.hooks u.store.held v.store.held program u.shoens.shoens u.goals.goals (ap (λ (z : State). z.shoens) states) (ap (λ (z : State). z.goals) states)
-      (q.rests.settled g (subst F (sym names_are) (spare_fits known text new g two)))
+      (rests.settled g (subst F (sym names_are) (spare_fits known text new g two)))
 
   -- if none did, the store is what it was
   settled_unnamed : u.name ≡ None → (f : Reading) → Fits v.names.names f → AreSettled f u.store.hooks v.store.held program u.shoens.shoens u.goals.goals
   settled_unnamed is f fits =
-      let S : Option Spelled → Type 0 = λ o. Patches o q.published.number u.store.held v.store.held in
+      let S : Option Spelled → Type 0 = λ o. Patches o p.number u.store.held v.store.held in
       let H : Held CellName → Type 0 = λ h. AreSettled f u.store.hooks h program u.shoens.shoens u.goals.goals in
-      let stays : v.store.held ≡ u.store.held = subst S (q.can.has is) q.published.patches in
-      subst H (sym stays) (q.rests.settled f (q.published.named.fits f fits))
+      let stays : v.store.held ≡ u.store.held = subst S (can.has is) p.patches in
+      subst H (sym stays) (rests.settled f (p.named.fits f fits))
 
   settled_then : (f : Reading) → Fits v.names.names f → AreSettled f u.store.hooks v.store.held program u.shoens.shoens u.goals.goals
   settled_then f fits = by_name u.name refl
@@ -130,21 +198,20 @@ module _ (program : Program) (n c : ℕ) (m u v : Machine) (q : Comes program n 
       by_name None is = settled_unnamed is f fits
       by_name (Some text) is =
           let N : Option (List ℕ) → Type 0 = λ o. IsNewName u.names.names o in
-          let name : IsNewName u.names.names (Some text) = subst N is q.can.name in
+          let name : IsNewName u.names.names (Some text) = subst N is can.name in
           settled_named text is (ap (λ (x : NameShelf). number_by x.names text) (sym names_are) ∙ name.1.0) f fits
 
   -- ---- the machine rests
 
   machine_then : IsMachine v
   machine_then =
-      let i = q.rests.machine in
+      let i = rests.machine in
       let W : Made → Type 0 = λ w. IsMadeIn v.store.held w in
-      let inside : IsMadeIn v.store.held (made v) = subst W (sym (published_made u v q.published)) (made_patched u.spelled q.published.number u.store.held v.store.held (made u) q.can.last q.published.patches i.inside) in
+      let inside : IsMadeIn v.store.held (made v) = subst W (sym (published_made u v p)) (made_patched u.spelled p.number u.store.held v.store.held (made u) can.last p.patches i.inside) in
       record {
         inside = inside;
-        placed = (let G : Machine → Type 0 = λ x. x.goals.last ≤ x.counts.last_goal in subst G (sym q.published.rest) i.placed);
-        last = (let L : Machine → Type 0 = λ x. AreUpTo x.counts.last_goal x.goals.goals in subst L (sym q.published.rest) i.last);
-        known = (let K : Machine → Type 0 = λ x. x.goals.shoens ≡ length x.shoens.shoens in subst K (sym q.published.rest) i.known);
+        last = (let L : Machine → Type 0 = λ x. AreUpTo x.counts.last_goal x.goals.goals in subst L (sym p.rest) i.last);
+        known = (let K : Machine → Type 0 = λ x. x.goals.shoens ≡ length x.shoens.shoens in subst K (sym p.rest) i.known);
       }
 
   rests_then : IsRested program v
@@ -155,23 +222,23 @@ module _ (program : Program) (n c : ℕ) (m u v : Machine) (q : Comes program n 
       let H : Reading → List Hook → Type 0 = λ f hs. AreSettled f hs v.store.held program v.shoens.shoens v.goals.goals in
       record {
         machine = machine_then;
-        rules = q.rests.rules ∙ sym (ap (λ (x : Machine). x.rules) q.published.rest);
-        first = subst O (sym q.published.rest) q.rests.first;
-        rows = λ f fits. q.rests.rows f (q.published.named.fits f fits);
-        settled = λ f fits. (let A : Machine → Type 0 = S f in let B : List Hook → Type 0 = H f in subst B (sym q.published.hooks) (subst A (sym q.published.rest) (settled_then f fits)));
-        enabled = subst E (sym q.published.rest) q.rests.enabled;
+        rules = rests.rules ∙ sym (ap (λ (x : Machine). x.rules) p.rest);
+        first = subst O (sym p.rest) rests.first;
+        rows = λ f fits. rests.rows f (p.named.fits f fits);
+        settled = λ f fits. (let A : Machine → Type 0 = S f in let B : List Hook → Type 0 = H f in subst B (sym p.hooks) (subst A (sym p.rest) (settled_then f fits)));
+        enabled = subst E (sym p.rest) rests.enabled;
       }
 
   -- ---- the states
 
-  states_then : (f : Reading) → Fits v.names.names f → (s : State) → acted (goal_with (meaning f m.store.held) q.reduces.goal) (q.reduces.action f) (state_in f s m) ≡ state_in f s v
+  states_then : (f : Reading) → Fits v.names.names f → (s : State) → acted (goal_with (meaning f m.store.held) r.goal) (r.action f) (state_in f s m) ≡ state_in f s v
   states_then f fits s =
       let a = published in
-      q.reduces.acts v.names.names a.number v.store.held a.named a.patches f fits s ∙ ap (worked f s v.store.held) (sym (published_made u v q.published))
+      r.acts v.names.names a.number v.store.held a.named a.patches f fits s ∙ ap (worked f s v.store.held) (sym (published_made u v p))
 
   alike_then : ReadsAlike v
   alike_then f g one two s =
-      let is = published_made u v q.published in
+      let is = published_made u v p in
       ap (worked f s v.store.held) is ∙ same_states v.names.names v.names.names v.store.held v.store.held published published f g one two s ∙ ap (worked g s v.store.held) (sym is)
 
   steps_then : (f : Reading) → Fits v.names.names f → (s : State) → s.modules ≡ contents program.loaded → (needs_entry (is_in_run (state_in f s m) n c) (state_in f s m) && is_full (state_in f s m)) ≡ false →
@@ -179,7 +246,7 @@ module _ (program : Program) (n c : ℕ) (m u v : Machine) (q : Comes program n 
   steps_then f fits s is room =
       let old = published.named.fits f fits in
       let in_run = is_in_run (state_in f s m) n c in
-      steps_some f s m n c q.reduces.goal (q.reduces.action f) false q.reduces.steppable q.rested.enabled (q.reduces.does f (rested_knows program m f q.rested old) s is) room
+      steps_on f s m n c r.goal (r.action f) r.steppable rested.enabled (r.does f (rested_knows program m f rested old) s is) room
       ∙ ap (λ (z : State). let y : Transition = record { state = z; reply = reduced } in y) (states_then f fits (with_reduction in_run s))
 
 -- an account's machine has come to another one by a reduction whose name is published, if it has one: it rests, all readings of its names
@@ -192,13 +259,11 @@ pub record IsReduced (program : Program) (n c : ℕ) (m v : Machine) : Type 0 wh
   pub steps : (f : Reading) → Fits v.names.names f → (s : State) → s.modules ≡ contents program.loaded → (needs_entry (is_in_run (state_in f s m) n c) (state_in f s m) && is_full (state_in f s m)) ≡ false →
       step (state_in f s m) (reduce n c) ≡ record { state = state_in f (with_reduction (is_in_run (state_in f s m) n c) s) v; reply = reduced }
 
-pub published_reduced : (program : Program) (n c : ℕ) (m u v : Machine) → IsRested program m → ReadsAlike m → HasReduced program n c m u → Keeps m u → IsRested program u × CanPublish u → Publishes u v → IsReduced program n c m v
-published_reduced program n c m u v rested alike reduces keeps rests published =
-    let q : Comes program n c m u v = record { rested = rested; alike = alike; reduces = reduces; keeps = keeps; rests = rests.0; can = rests.1; published = published } in
-    record {
-      rested = rests_then program n c m u v q;
-      alike = alike_then program n c m u v q;
-      small = published.small;
-      name = ap (λ (x : Machine). x.name) published.rest;
-      steps = steps_then program n c m u v q;
-    }
+pub published_reduced : (program : Program) (n c : ℕ) (m u v : Machine) → IsRested program m → ReadsAlike m → HasReduced program n c m u → Keeps m u → IsRested program u → CanPublish u → Publishes u v → IsReduced program n c m v
+published_reduced program n c m u v rested alike r keeps rests can p = record {
+  rested = rests_then program n c m u v rested alike r keeps rests can p;
+  alike = alike_then program n c m u v rested alike r keeps rests can p;
+  small = p.small;
+  name = ap (λ (x : Machine). x.name) p.rest;
+  steps = steps_then program n c m u v rested alike r keeps rests can p;
+}

@@ -1,6 +1,28 @@
 -- A name that is published.
-use Rattle.kl1_machine.proofs.Words.{◌≡◌, ℕ, ◌+◌, ◌≤◌, ◌<◌, ◌^◌, true, List, [], ◌∷◌, length, refl, sym, ap, ◌∙◌, subst, inr, arith, leb-true, length-map, length_push, map-append, MOST_NAMES, with_name, AtomNo, CellName, Known, number_by, Adds, HasRoom, still_known, Kept, Spelled, texts_of, NameShelf, AreSmall, keeps_names, IsNewName, added_new, push_below, fits_less, new_named, Machine, made, Patches, CanPublish, IsNamed, Publishes}
-use Rattle.std.proofs.Common.{Option, Some, None}
+use Rattle.std.proofs.Common.{◌≡◌, ℕ, ◌+◌, ◌≤◌, ◌<◌, ◌^◌, true, List, [], ◌∷◌, length, Option, Some, None, refl, sym, ap, ◌∙◌, subst, inr, arith}
+use Rattle.std.proofs.lemmas.Bool.{leb-true}
+use Rattle.std.proofs.lemmas.List.{length-map, length_push, map-append}
+use Rattle.kl1_model.specs.declared.limits.TheConstants.{MOST_NAMES}
+use Rattle.kl1_model.specs.State.{with_name}
+use Rattle.kl1_text.specs.declared.atom_no.AtomNo.{AtomNo}
+use Rattle.kl1_text.specs.declared.cell_name.CellName.{CellName}
+use Rattle.kl1_atoms.specs.declared.known.Known.{Known}
+use Rattle.kl1_atoms.specs.Names.{number_by, Adds, HasRoom}
+use Rattle.kl1_atoms.specs.Knowing.{still_known}
+use Rattle.kl1_store.specs.declared.cell.Cell.TheVariants.{Atom}
+use Rattle.kl1_store.specs.Constants.{Rebinds}
+use Rattle.kl1_store.specs.Hooks.{Kept}
+use Rattle.kl1_user_effects.specs.declared.spelled.Spelled.{Spelled}
+use Rattle.kl1_user_effects.specs.Account.{texts_of}
+use Rattle.kl1_user_effects.specs.Naming.{NameShelf, AreSmall}
+use Rattle.kl1_user_effects.specs.Calling.{keeps_names, IsNewName}
+use Rattle.kl1_user_effects.proofs.KnownNames.{added_new}
+use Rattle.kl1_user_effects.proofs.DraftRows.{push_below}
+use Rattle.kl1_user_effects.proofs.NumberRows.{fits_less}
+use Rattle.kl1_user_effects.proofs.Calling.{new_named}
+use Rattle.kl1_machine.specs.declared.machine.Machine.{Machine}
+use Rattle.kl1_machine.specs.Machines.{made}
+use Rattle.kl1_machine.specs.Naming.{Patches, CanPublish, IsNamed, Publishes}
 
 -- a name that is new, which the account may use
 pub new_name : (ks : List Known) (name : Option (List ℕ)) (t : List ℕ) → name ≡ Some t → IsNewName ks name → (number_by ks t ≡ None) × (keeps_names ks t ≡ true)
@@ -42,14 +64,25 @@ published_none m none can =
       rest = ap (λ (o : Option (List ℕ)). let z : Machine = record m { name = o } in z) none ∙ ap (λ (o : Option Spelled). let z : Machine = record m { name = None; spelled = o } in z) spelled;
     }
 
--- a name is published
-pub published_one : (m : Machine) (names : NameShelf) (store : Kept CellName) (t : List ℕ) (k : CellName) → m.name ≡ Some t → IsNumbered m.names.names names.names (Some t) k → Patches m.spelled k m.store.held store.held → store.hooks ≡ m.store.hooks →
-    Publishes m (record m { store = store; names = names; name = None; spelled = None })
-published_one m names store t k is numbered patches hooks = record {
+-- a name is published that no variable becomes
+pub published_alone : (m : Machine) (names : NameShelf) (t : List ℕ) (k : CellName) → m.name ≡ Some t → m.spelled ≡ None → IsNumbered m.names.names names.names (Some t) k → Publishes m (record m { names = names; name = None })
+published_alone m names t k is none numbered = record {
   number = k;
   named = subst (λ (o : Option (List ℕ)). IsNamed m.names.names names.names o k) (sym is) numbered.named;
   small = numbered.small;
-  patches = patches;
+  patches = subst (λ (o : Option Spelled). Patches o k m.store.held m.store.held) (sym none) refl;
+  hooks = refl;
+  rest = ap (λ (o : Option Spelled). let z : Machine = record m { names = names; name = None; spelled = o } in z) none;
+}
+
+-- a name is published that a variable becomes
+pub published_at : (m : Machine) (names : NameShelf) (store : Kept CellName) (t : List ℕ) (k : CellName) (s : Spelled) → m.name ≡ Some t → m.spelled ≡ Some s → IsNumbered m.names.names names.names (Some t) k → Rebinds s.before.sizes s.variable (Atom k) m.store.held store.held → store.hooks ≡ m.store.hooks →
+    Publishes m (record m { store = store; names = names; name = None; spelled = None })
+published_at m names store t k s is spelled numbered rebinds hooks = record {
+  number = k;
+  named = subst (λ (o : Option (List ℕ)). IsNamed m.names.names names.names o k) (sym is) numbered.named;
+  small = numbered.small;
+  patches = subst (λ (o : Option Spelled). Patches o k m.store.held store.held) (sym spelled) rebinds;
   hooks = hooks;
   rest = refl;
 }

@@ -1,8 +1,47 @@
 -- Exceptions: with a report alone, and with a substitute in the place of the goal.
-use Rattle.kl1_machine.proofs.Words.{◌≡◌, ℕ, suc, ◌+◌, ◌-◌, ◌&&◌, Bool, true, false, if◌then◌else◌, List, [], length, map, refl, sym, ap, ◌∙◌, arith, subst, find, Option, BuiltIn, text_of, Term, variable, State, has_substitutes, report, is_reported, exception, exception_with, is_reported_of, replaced_by, substituted_by, raised, Reads, CellName, Qualified, Cell, Variable, Held, IsIn, with_variable, Kept, term_of-variable, Grown-variable, IsException, Substitutes, Goal, has_number, Numbered, Reading, built, meaning, aim, task_with, goal_with, shoen_with, IsWhole, IsOwned, unheard, Made, worked, IsMadeIn, Knows, found_in, read_as, rereads, grown_made, last_made, turns_then, turns_as, unmade_turns, grown_turns, raised_turns, IsAsked, new_in, new_stays, reported_here, replaced_turns, plain_turns, unreported_turns, whole_turns, new_means, asked_agree, Machine, made, IsMachine, Puts, Tells, TurnsAs}
+use Rattle.std.proofs.Common.{◌≡◌, ℕ, suc, ◌+◌, ◌-◌, ◌≤◌, ◌&&◌, ◌||◌, Bool, true, false, if◌then◌else◌, List, [], ◌∷◌, ◌++◌, length, map, refl, sym, ap, ◌∙◌, arith, subst}
+use Rattle.std.specs.Prelude.{find, Option}
+use Rattle.std.proofs.lemmas.Bool.{ne_eqb}
+use Rattle.kl1_model.specs.declared.built_in.BuiltIn.{BuiltIn}
+use Rattle.kl1_model.specs.Text.{text_of}
+use Rattle.kl1_model.specs.Term.{Term, variable}
 use Rattle.kl1_model.specs.State as model
+use Rattle.kl1_model.specs.State.{State, has_substitutes}
+use Rattle.kl1_model.specs.Report.{report, is_reported, exception, exception_with}
+use Rattle.kl1_model.specs.code.Steps.{is_reported_of}
+use Rattle.kl1_model.specs.Reduction.{replaced_by, substituted_by, raised}
+use Rattle.kl1_text.specs.Reading.{Reads}
+use Rattle.kl1_text.specs.declared.cell_name.CellName.{CellName}
+use Rattle.kl1_store.specs.declared.qualified.Qualified.{Qualified}
+use Rattle.kl1_store.specs.declared.cell.Cell.{Cell}
+use Rattle.kl1_store.specs.declared.cell.Cell.TheVariants.{Variable}
+use Rattle.kl1_store.specs.declared.binding.Binding.{Binding}
+use Rattle.kl1_store.specs.Held.{Shape, Held, IsIn, is_bound, with_variable}
+use Rattle.kl1_store.specs.Hooks.{Kept}
+use Rattle.kl1_store.specs.Sound.{Bound, IsFormed}
+use Rattle.kl1_store.proofs.Terms.{term_of-variable, term_of-unbound}
+use Rattle.kl1_store.proofs.Grows.{Grown-variable}
+use Rattle.kl1_stream.specs.Exceptions.{IsException}
+use Rattle.kl1_goals.specs.declared.task.Task.TheVariants.{Substitutes}
+use Rattle.kl1_goals.specs.declared.goal.Goal.{Goal}
+use Rattle.kl1_shoen.specs.Shoens.{has_number}
+use Rattle.kl1_codes.specs.Numbered.{Numbered}
+use Rattle.kl1_user_effects.specs.Fitting.{Reading, built}
+use Rattle.kl1_user_effects.specs.Account.{meaning, aim, task_with, goal_with, shoen_with}
+use Rattle.kl1_user_effects.specs.Wholes.{IsWhole}
+use Rattle.kl1_user_effects.specs.Kept.{IsOwned}
+use Rattle.kl1_user_effects.specs.Reports.{unheard}
+use Rattle.kl1_user_effects.specs.Works.{Made, worked, IsMadeIn, Knows}
 use Rattle.kl1_user_effects.specs.Works as works
+use Rattle.kl1_user_effects.proofs.States.{Agree, found_in, in_grown}
+use Rattle.kl1_user_effects.proofs.Works.{read_as, rereads, grown_made, last_made, turns_then, turns_as}
+use Rattle.kl1_user_effects.proofs.Reported.{unmade_turns}
+use Rattle.kl1_user_effects.proofs.Streams.{grown_turns, raised_turns}
+use Rattle.kl1_user_effects.proofs.Substituting.{IsAsked, asked_grown, new_in, new_stays, reported_here, replaced_turns, plain_turns, unreported_turns, whole_turns}
+use Rattle.kl1_machine.specs.declared.machine.Machine.{Machine}
+use Rattle.kl1_machine.specs.Machines.{made, IsMachine}
 use Rattle.kl1_machine.proofs.Keeping.{Grows}
+use Rattle.kl1_machine.specs.Effects.{Puts, Tells, TurnsAs}
 
 -- ---- without a substitute
 
@@ -10,7 +49,7 @@ use Rattle.kl1_machine.proofs.Keeping.{Grows}
 pub exception_reported : (m : Machine) (k : Kept CellName) (n : ℕ) (kind : BuiltIn) (goal message : Cell CellName) (u : Machine) (told : Bool) → IsMachine m → Grows m k → IsException built m.store.held k.held kind goal message →
     Tells n message (record m { store = k }) u told → TurnsAs (λ f. report n (exception (text_of kind) (meaning f m.store.held goal))) m u
 exception_reported m k n kind goal message u told i g e tells = record {
-  turns = λ ms. raised_turns ms m.store.held k.held u.store.held (made m) (made u) n kind goal message (record { grown = g.grown; excepts = e; inside = i.inside }) (λ j. tells.turns ms);
+  turns = λ ms. raised_turns ms m.store.held k.held u.store.held (made m) (made u) n kind goal message g.grown e i.inside (λ j. tells.turns ms);
   machine = tells.machine;
   named = record { name = tells.named.name; spelled = tells.named.spelled };
 }
@@ -20,7 +59,7 @@ pub raised_alone : (m : Machine) (k : Kept CellName) (goal : Goal CellName) (kin
     TurnsAs (λ f. report goal.shoen (exception (text_of kind) (meaning f k.held x))) (record m { store = k }) u → TurnsAs (λ f. raised (goal_with (meaning f m.store.held) goal) (text_of kind) (aim f m.store.held cell)) m u
 raised_alone m k goal kind cell x u i one g whole r =
     record {
-      turns = λ ms. whole_turns ms m.store.held k.held u.store.held (made m) (made u) goal (text_of kind) cell x (record { grown = g.grown; whole = whole; inside = i.inside }) (λ j. plain_turns ms k.held u.store.held (made m) (made u) goal (text_of kind) x one (r.turns ms));
+      turns = λ ms. whole_turns ms m.store.held k.held u.store.held (made m) (made u) goal (text_of kind) cell x g.grown whole i.inside (λ j. plain_turns ms k.held u.store.held (made m) (made u) goal (text_of kind) x one (r.turns ms));
       machine = r.machine;
       named = record { name = r.named.name; spelled = r.named.spelled };
     }
@@ -29,12 +68,25 @@ raised_alone m k goal kind cell x u i one g whole r =
 pub raised_whole : (m : Machine) (k : Kept CellName) (goal : Goal CellName) (kind : BuiltIn) (cell : Qualified CellName) (x : Cell CellName) (u : Machine) → IsMachine m → Grows m k → IsWhole m.store.held k.held cell x →
     TurnsAs (λ f. raised (goal_with (meaning f k.held) goal) (text_of kind) (meaning f k.held x)) (record m { store = k }) u → TurnsAs (λ f. raised (goal_with (meaning f m.store.held) goal) (text_of kind) (aim f m.store.held cell)) m u
 raised_whole m k goal kind cell x u i g whole r = record {
-  turns = λ ms. whole_turns ms m.store.held k.held u.store.held (made m) (made u) goal (text_of kind) cell x (record { grown = g.grown; whole = whole; inside = i.inside }) (λ j. r.turns ms);
+  turns = λ ms. whole_turns ms m.store.held k.held u.store.held (made m) (made u) goal (text_of kind) cell x g.grown whole i.inside (λ j. r.turns ms);
   machine = r.machine;
   named = record { name = r.named.name; spelled = r.named.spelled };
 }
 
 -- ---- with a substitute: as `kl1_user_effects` has it, where these are private
+
+unbound_past : {N : Type 0} (vs : ℕ) (ss : List (Shape N)) (before bs : List (Binding N)) (v : ℕ) → vs ≤ v → Bound vs ss before bs → is_bound v bs ≡ false
+unbound_past vs ss before [] v le p = refl
+unbound_past vs ss before (b ∷ bs) v le p =
+    let i = p.0.inside in
+    let other : b.variable ≡ v → ⊥ = λ e. omega arith in
+    ap (λ c. c || is_bound v bs) (ne_eqb b.variable v other) ∙ unbound_past vs ss (before ++ b ∷ []) bs v le p.1
+
+new_means : (f : Reading) (h : Held CellName) → IsFormed h → meaning f (with_variable h) (Variable h.variables) ≡ variable h.variables
+new_means f h p = term_of-unbound f (with_variable h) h.variables (unbound_past h.variables h.structures [] h.bindings h.variables (omega arith) p.bound)
+
+asked_agree : (h mid : Held CellName) (kind : BuiltIn) (term message : Cell CellName) → IsAsked h mid kind term message → (f : Reading) → Agree h (meaning f mid) (meaning f h)
+asked_agree h mid kind term message a f x i = a.asks.others f x (in_grown h (with_variable h) (Grown-variable h) x i) ∙ term_of-variable f h x
 
 asked_means : (h mid : Held CellName) (kind : BuiltIn) (term message : Cell CellName) → IsAsked h mid kind term message → (f : Reading) → Reads built f → meaning f mid message ≡ exception_with (text_of kind) (meaning f h term) (variable h.variables)
 asked_means h mid kind term message a f reads =
@@ -72,11 +124,14 @@ pub record Asks (m : Machine) (k : Kept CellName) (goal : Goal CellName) (kind :
   pub two : has_substitutes m.rules ≡ true
   pub owned : IsOwned (length m.shoens.shoens) goal
   pub asked : IsAsked m.store.held k.held kind term message
-  pub grows : Grows m k
+  pub hooks : k.hooks ≡ m.store.hooks
 
 -- what the exception does
 abbrev pub Raises : Machine → Goal CellName → BuiltIn → Cell CellName → Machine → Type 0
 Raises m goal kind term n = TurnsAs (λ f. raised (goal_with (meaning f m.store.held) goal) (text_of kind) (meaning f m.store.held term)) m n
+
+pub asks_grows : (m : Machine) (k : Kept CellName) (goal : Goal CellName) (kind : BuiltIn) (term message : Cell CellName) → Asks m k goal kind term message → Grows m k
+asks_grows m k goal kind term message a = record { grown = asked_grown m.store.held k.held kind term message a.asked; hooks = a.hooks }
 
 -- whether the exception is reported, for each reading
 abbrev IsToldSo : Machine → Goal CellName → BuiltIn → Cell CellName → Bool → Type 0
@@ -148,7 +203,7 @@ raised_unasked m k goal kind term message u b a tells held hooks =
     (unreported_turns ms h h w (made v) goal (text_of kind) term a.two (λ f knows s. unmade f ms knows s) (unmade_turns ms h w n (λ f. exception (text_of kind) (meaning f h term)) a.machine.inside (λ f knows s. unmade f ms knows s))) in
     let machine : IsMachine v =
     (let U : Machine → Type 0 = λ y. y.goals.shoens ≡ length y.shoens.shoens in
-    record { inside = (turns []).inside; last = a.machine.last; placed = a.machine.placed; known = subst U is tells.machine.known }) in
+    record { inside = (turns []).inside; last = a.machine.last; known = subst U is tells.machine.known }) in
     subst A (sym is) (record { turns = turns; machine = machine; named = record { name = refl; spelled = refl } })
 
 -- the new variable is a task's, and the goal's shoen is still there

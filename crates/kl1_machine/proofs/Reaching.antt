@@ -1,8 +1,24 @@
 -- All goals of a machine are looked at, in order of number.
-use Rattle.kl1_machine.proofs.Words.{◌≡◌, ℕ, zero, suc, ◌<◌, ◌≤◌, ◌==◌, ◌||◌, Bool, true, false, if◌then◌else◌, List, [], ◌∷◌, map, refl, sym, ap, ◌∙◌, arith, Some, None, find, AllByRecursion, ltb-true, ltb-false, lt-ltb, le-ltb, eqb-false, or_parts, is_among, CellName, Goal, number_of, is_after, Ascend, AreInOrder, Program, Reading, Knows, IsSettled, or_true, Machine, IsMachine, unready, Looks, AreSettledBut, Wakes, AllSettled, Reschedules}
-use Rattle.std.proofs.Common.{nat_lt}
+use Rattle.std.proofs.Common.{◌≡◌, ℕ, zero, suc, ◌<◌, ◌≤◌, ◌==◌, ◌||◌, Bool, true, false, if◌then◌else◌, List, [], ◌∷◌, map, refl, sym, ap, ◌∙◌, arith, nat_lt}
+use Rattle.std.specs.Prelude.{Some, None, find}
+use Rattle.std.specs.List.{AllByRecursion}
+use Rattle.std.proofs.lemmas.Bool.{ltb-true, ltb-false, lt-ltb, eqb-false}
+use Rattle.kl1_model.specs.Module.{is_among}
+use Rattle.kl1_text.specs.declared.cell_name.CellName.{CellName}
+use Rattle.kl1_goals.specs.declared.goal.Goal.{Goal}
+use Rattle.kl1_goals.specs.Lists.{number_of, is_after}
+use Rattle.kl1_goals.specs.Tables.{Ascend, AreInOrder}
+use Rattle.kl1_codes.specs.Shelves.{Program}
+use Rattle.kl1_user_effects.specs.Fitting.{Reading}
+use Rattle.kl1_user_effects.specs.Works.{Knows}
+use Rattle.kl1_user_effects.specs.Settled.{IsSettled}
+use Rattle.kl1_user_effects.proofs.Below.{or_true}
+use Rattle.kl1_machine.specs.declared.machine.Machine.{Machine}
+use Rattle.kl1_machine.specs.Machines.{IsMachine}
+use Rattle.kl1_machine.specs.Rescheduling.{unready, Looks, AreSettledBut, Wakes, AllSettled, Reschedules}
 use Rattle.kl1_machine.proofs.Sincing.{each_so, each_both}
 use Rattle.kl1_machine.proofs.Looking.{same_goal, above_from, looks_then, looks_machine}
+use Rattle.kl1_machine.proofs.Scheduling.{not_less}
 
 -- ---- the first goal after a number
 
@@ -50,6 +66,14 @@ reaches_zero program m u w = record {
     all f [] = tt
     all f (g ∷ gs) = ((λ e. absurd (let t = is_zero_or_more g.number in cc)), all f gs)
 
+first_false : (b c : Bool) → (b || c) ≡ false → b ≡ false
+first_false true c e = absurd (cc)
+first_false false c e = refl
+
+last_false : (b c : Bool) → (b || c) ≡ false → c ≡ false
+last_false true c e = absurd (cc)
+last_false false c e = e
+
 -- the next
 pub reaches_next : (program : Program) (n : ℕ) (goal : Goal CellName) (m u v : Machine) → AreInOrder u.goals.goals → Some goal ≡ find (is_after n) u.goals.goals → Reaches program n m u → Wakes program (goal.number ∷ []) u v → Reaches program goal.number m v
 reaches_next program n goal m u v order found r w = record {
@@ -58,9 +82,8 @@ reaches_next program n goal m u v order found r w = record {
   settled = λ f knows.
       w.settles f knows (nat_lt goal.number)
       (each_both (λ g. n < g.number → goal.number ≤ g.number) (λ g. nat_lt n g.number ≡ false → IsSettled f u.store.hooks u.store.held program u.shoens.shoens g) (λ g. (is_among g.number (goal.number ∷ []) || nat_lt goal.number g.number) ≡ false → IsSettled f u.store.hooks u.store.held program u.shoens.shoens g) (λ g next s e.
-      let apart = or_parts (is_among g.number (goal.number ∷ [])) (nat_lt goal.number g.number) e in
-      let other = eqb-false g.number goal.number (or_parts (g.number == goal.number) false apart.0).0 in
-      let le = ltb-false goal.number g.number apart.1 in
+      let other = eqb-false g.number goal.number (first_false (g.number == goal.number) false (first_false (is_among g.number (goal.number ∷ [])) (nat_lt goal.number g.number) e)) in
+      let le = ltb-false goal.number g.number (last_false (is_among g.number (goal.number ∷ [])) (nat_lt goal.number g.number) e) in
       s (here g next other le (nat_lt n g.number) refl))
       u.goals.goals
       (none_between n 0 u.goals.goals goal order found) (r.settled f knows));
@@ -73,7 +96,7 @@ reaches_next program n goal m u v order found r w = record {
 -- and none is left
 pub reaches_all : (program : Program) (n : ℕ) (m u : Machine) → None ≡ find (is_after n) u.goals.goals → Reaches program n m u → AllSettled program u
 reaches_all program n m u none r f knows =
-    each_both (λ g. g.number ≤ n) (λ g. nat_lt n g.number ≡ false → IsSettled f u.store.hooks u.store.held program u.shoens.shoens g) (IsSettled f u.store.hooks u.store.held program u.shoens.shoens) (λ g le s. s (le-ltb n g.number le))
+    each_both (λ g. g.number ≤ n) (λ g. nat_lt n g.number ≡ false → IsSettled f u.store.hooks u.store.held program u.shoens.shoens g) (IsSettled f u.store.hooks u.store.held program u.shoens.shoens) (λ g le s. s (not_less n g.number le))
     u.goals.goals (none_after n u.goals.goals none) (r.settled f knows)
 
 -- goals that were looked at are rescheduled

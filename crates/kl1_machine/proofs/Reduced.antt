@@ -1,9 +1,33 @@
 -- What reductions leave of a machine.
-use Rattle.kl1_machine.proofs.Words.{◌≡◌, ℕ, ◌+◌, ◌<◌, ◌≤◌, ◌==◌, ◌&&◌, Bool, true, false, if◌then◌else◌, List, [], ◌∷◌, length, refl, sym, ap, ◌∙◌, arith, subst, find, AllByRecursion, eqb-true, eq-eqb, State, settle, reads, heard, CellName, Held, Control, control_as, Monitor, Goal, is_monitor, is_monitor_task, is_monitor_of, AreSingle, Program, Spelled, Reading, NameShelf, AreSmall, IsNewName, worked, Machine, made, IsBegun, TurnsAs, Since, IsOnlyMonitor, IsRested, IsBoundLast, HoldsSpare, Patches, CanPublish, Reschedules, ReadsBy, IsSteppable}
-use Rattle.std.proofs.Common.{Option, Some, None}
-use Rattle.std.specs.Prelude.{filter}
-use Rattle.kl1_goals.specs.Lists.{has_number}
-use Rattle.kl1_machine.specs.Reducing.{Reduces}
+use Rattle.std.proofs.Common.{◌≡◌, ℕ, suc, ◌+◌, ◌<◌, ◌≤◌, ◌==◌, ◌&&◌, Bool, true, false, if◌then◌else◌, Option, Some, None, List, [], ◌∷◌, length, refl, sym, ap, ◌∙◌, arith, subst}
+use Rattle.std.specs.Prelude.{find, filter}
+use Rattle.std.specs.List.{AllByRecursion}
+use Rattle.std.proofs.lemmas.Bool.{eqb-true, eq-eqb}
+use Rattle.kl1_model.specs.State.{State}
+use Rattle.kl1_model.specs.Ending.{settle}
+use Rattle.kl1_model.specs.Reduction.{reads, heard}
+use Rattle.kl1_text.specs.declared.cell_name.CellName.{CellName}
+use Rattle.kl1_store.specs.Held.{Held}
+use Rattle.kl1_stream.specs.declared.control.Control.{Control}
+use Rattle.kl1_stream.specs.Controls.{control_as}
+use Rattle.kl1_goals.specs.declared.task.Task.TheVariants.{Monitor}
+use Rattle.kl1_goals.specs.declared.goal.Goal.{Goal}
+use Rattle.kl1_goals.specs.Lists.{has_number, is_monitor, is_monitor_task, is_monitor_of}
+use Rattle.kl1_goals.specs.Tables.{AreSingle}
+use Rattle.kl1_codes.specs.Shelves.{Program}
+use Rattle.kl1_user_effects.specs.declared.spelled.Spelled.{Spelled}
+use Rattle.kl1_user_effects.specs.Fitting.{Reading}
+use Rattle.kl1_user_effects.specs.Naming.{NameShelf, AreSmall}
+use Rattle.kl1_user_effects.specs.Calling.{IsNewName}
+use Rattle.kl1_user_effects.specs.Works.{worked}
+use Rattle.kl1_machine.specs.declared.machine.Machine.{Machine}
+use Rattle.kl1_machine.specs.Machines.{made, Trail, Keeps, IsBegun}
+use Rattle.kl1_machine.specs.Effects.{KeepsName, TurnsAs}
+use Rattle.kl1_machine.specs.Since.{Since, IsOnlyMonitor}
+use Rattle.kl1_machine.specs.Rested.{IsRested}
+use Rattle.kl1_machine.specs.Naming.{IsBoundLast, HasName, HoldsSpare, Patches, CanPublish}
+use Rattle.kl1_machine.specs.Rescheduling.{Reschedules}
+use Rattle.kl1_machine.specs.Reducing.{IsSteppable, ReadsBy, Reduces}
 use Rattle.kl1_machine.proofs.Planned.{found_holds}
 use Rattle.kl1_machine.proofs.Resting.{turns_rescheduled}
 
@@ -47,27 +71,21 @@ only_monitor n gs g single found task = only_one (is_monitor_of g.shoen) n gs g 
 
 -- ---- what a monitor reads
 
--- an event has begun with machine `m`, which rests, and goal `n`, which is a monitor and may step, reads this by clause `c`
-pub record IsHeard (program : Program) (m : Machine) (n c : ℕ) (g : Goal CellName) (control : Control CellName) : Type 0 where
-  pub begun : IsBegun m
-  pub rested : IsRested program m
-  pub steppable : IsSteppable m.goals.goals n c g
-  pub plan : ReadsBy program m.store.held (made m) g c control
-
--- it comes to machine `u`, and goals are looked at again
-pub heard_reduces : (program : Program) (m u v : Machine) (n c : ℕ) (g : Goal CellName) (control : Control CellName) → IsHeard program m n c g control → TurnsAs (λ f s. settle g.shoen (heard g.shoen (control_as f m.store.held control) s)) m u → Reschedules u v → Reduces program n c m v
-heard_reduces program m u v n c g control p turns r =
+-- of machine `m`, which rests, a monitor reads this, which comes to machine `u`, and goals are looked at again
+pub heard_reduces : (program : Program) (m u v : Machine) (n c : ℕ) (g : Goal CellName) (control : Control CellName) → IsBegun m → IsRested program m → IsSteppable m.goals.goals n c g → ReadsBy program m g c control →
+    TurnsAs (λ f s. settle g.shoen (heard g.shoen (control_as f m.store.held control) s)) m u → Reschedules u v → Reduces program n c m v
+heard_reduces program m u v n c g control begun rested steppable plan turns r =
     let change : Reading → State → State = λ f s. settle g.shoen (heard g.shoen (control_as f m.store.held control) s) in
-    let spelled : v.spelled ≡ None = ap (λ (x : Machine). x.spelled) r.rest ∙ turns.named.spelled ∙ p.begun.spelled in
+    let spelled : v.spelled ≡ None = ap (λ (x : Machine). x.spelled) r.rest ∙ turns.named.spelled ∙ begun.spelled in
     record {
       goal = g;
-      steppable = p.steppable;
+      steppable = steppable;
       action = λ f. reads (control_as f m.store.held control);
-      does = p.plan.does;
+      does = plan.does;
       acts = λ more k last named patches f fits s.
           let P : Option Spelled → Type 0 = λ o. Patches o k v.store.held last in
           let same : last ≡ v.store.held = subst P spelled patches in
-          (turns_rescheduled change m u v turns.turns r program.loaded).states f (record { reads = fits.reads; rows = p.rested.rows f (named.fits f fits) }) s
+          (turns_rescheduled change m u v turns.turns r program.loaded).states f (record { reads = fits.reads; rows = rested.rows f (named.fits f fits) }) s
           ∙ ap (λ (h : Held CellName). worked f s h (made v)) (sym same);
       spare_last = subst (λ (o : Option Spelled). HoldsSpare o v.store.held) (sym spelled) tt;
     }

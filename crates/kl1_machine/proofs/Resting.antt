@@ -1,10 +1,47 @@
 -- A machine rests after its goals were looked at again.
-use Rattle.kl1_machine.proofs.Words.{rules, ⊎_elim, ◌≡◌, ℕ, zero, suc, ◌<◌, ◌≤◌, ◌==◌, ◌||◌, Bool, true, false, if◌then◌else◌, List, [], ◌∷◌, ◌++◌, length, map, drop, refl, sym, ap, ◌∙◌, arith, subst, Contains, filter, AllByRecursion, ltb-false, le-ltb, eq-eqb, or_parts, cases_lt, list_any-append, is_among, State, CellName, Binding, Point, Held, is_bound, Hook, told_by, is_told, HasGrown-same, Goal, Task, is_monitor, is_monitor_task, Shoen, Tree, is_enabled_at, AreShifts, Program, Reading, Fits, Means, meaning, goal_with, SameFlags, IsTaskIn, IsOwned, NameShelf, IsSettled, AreSettled, IsEnabled, AreEnabled, shifted_by, Knows, worked, among_contains, Machine, Counts, made, Trail, IsMachine, IsBegun, Turns, HasCome, KeepsControl, Since, IsRested, unlooked, Looks, AreSettledBut, Wakes, WasLet, IsLet, AreLet, Schedules, Shifts, all_told, Reschedules, LetsStill, HangsOnNone, StaysAlone, stays_settled}
-use Rattle.std.proofs.Common.{nat_lt}
+use Rattle.std.proofs.Common.{◌≡◌, ℕ, zero, suc, ◌<◌, ◌≤◌, ◌==◌, ◌||◌, Bool, true, false, if◌then◌else◌, List, [], ◌∷◌, ◌++◌, length, map, drop, refl, sym, ap, ◌∙◌, arith, subst, nat_lt}
+use Rattle.std.specs.Prelude.{Contains}
+use Rattle.std.specs.List.{filter, AllByRecursion}
+use Rattle.std.proofs.lemmas.Bool.{ltb-true, ltb-false, eq-eqb}
+use Rattle.std.proofs.lemmas.List.Folds.{list_any-append}
+use Rattle.kl1_model.specs.Module.{is_among}
+use Rattle.kl1_model.specs.State.{State}
 use Rattle.kl1_model.specs.State as model
+use Rattle.kl1_text.specs.declared.cell_name.CellName.{CellName}
+use Rattle.kl1_store.specs.declared.binding.Binding.{Binding}
+use Rattle.kl1_store.specs.declared.point.Point.{Point}
+use Rattle.kl1_store.specs.Held.{Held, is_bound}
+use Rattle.kl1_store.specs.Hooks.{Hook, told_by}
+use Rattle.kl1_store.proofs.Telling.{is_told}
+use Rattle.kl1_store_hooks.proofs.Hooked.{HasGrown-same}
+use Rattle.kl1_goals.specs.declared.goal.Goal.{Goal}
+use Rattle.kl1_goals.specs.declared.task.Task.{Task}
+use Rattle.kl1_goals.specs.Lists.{is_monitor, is_monitor_task}
+use Rattle.kl1_shoen_paths.specs.declared.shoen.Shoen.{Shoen}
+use Rattle.kl1_shoen.specs.Shoens.{Tree, is_enabled_at}
+use Rattle.kl1_shoen.specs.Shifts.{AreShifts}
+use Rattle.kl1_codes.specs.Shelves.{Program}
+use Rattle.kl1_user_effects.specs.Fitting.{Reading, Fits}
+use Rattle.kl1_user_effects.specs.Account.{Means, meaning, goal_with}
+use Rattle.kl1_user_effects.specs.Frames.{SameFlags}
+use Rattle.kl1_user_effects.specs.Kept.{IsTaskIn, IsOwned}
+use Rattle.kl1_user_effects.specs.Naming.{NameShelf}
+use Rattle.kl1_user_effects.specs.Settled.{IsSettled, AreSettled, IsEnabled, AreEnabled}
+use Rattle.kl1_user_effects.specs.Installing.{shifted_by}
+use Rattle.kl1_user_effects.specs.Works.{Knows, worked}
+use Rattle.kl1_user_effects.proofs.Below.{among_contained}
+use Rattle.kl1_machine.specs.declared.machine.Machine.{Machine}
+use Rattle.kl1_machine.specs.declared.counts.Counts.{Counts}
+use Rattle.kl1_machine.specs.Machines.{made, Trail, IsMachine, Keeps, IsBegun}
+use Rattle.kl1_machine.specs.Effects.{Turns, TurnsAs}
+use Rattle.kl1_machine.specs.Since.{HasCome, KeepsControl, Since}
+use Rattle.kl1_machine.specs.Rested.{IsRested}
+use Rattle.kl1_machine.specs.Rescheduling.{unlooked, Looks, AreSettledBut, Wakes, WasLet, IsLet, AreLet, Schedules, Shifts, all_told, Reschedules, LetsStill}
+use Rattle.kl1_machine.proofs.SettledStays.{HangsOnNone, StaysAlone, stays_settled}
 use Rattle.kl1_machine.proofs.Keeping.{begun_mark}
 use Rattle.kl1_machine.proofs.Sincing.{both_all, each_so, each_both, fewer}
 use Rattle.kl1_machine.proofs.Looking.{looked_hold, unready_hold, looks_then, looks_machine}
+use Rattle.kl1_machine.proofs.Scheduling.{not_less}
 use Rattle.kl1_machine.proofs.Shifting.{shifted_unlooked, shifted_settled, IsRightBut, rights_shifted, right_since}
 
 -- ---- who is told
@@ -18,10 +55,18 @@ bound_of (b ∷ bs) v (suc i, lt, e) = by_case (b.variable == v) (bound_of bs v 
     by_case true h = refl
     by_case false h = h
 
+first_false : (b c : Bool) → (b || c) ≡ false → b ≡ false
+first_false true c e = absurd (cc)
+first_false false c e = refl
+
+last_false : (b c : Bool) → (b || c) ≡ false → c ≡ false
+last_false true c e = absurd (cc)
+last_false false c e = e
+
 -- a number that isn't told hangs on no variable that was bound
 hangs_on_none : (hooks : List Hook) (bs : List (Binding CellName)) (n : ℕ) → is_among n (told_by bs hooks) ≡ false → HangsOnNone hooks n (map (λ b. b.variable) bs)
 hangs_on_none hooks bs n e v c k =
-    let t = among_contains n (told_by bs hooks) (is_told bs hooks (record { variable = v; number = n }) k (bound_of bs v c)) in
+    let t = among_contained n (told_by bs hooks) (is_told bs hooks (record { variable = v; number = n }) k (bound_of bs v c)) in
     cc
 
 -- an event began with machine `b`, which has come to be `m` since
@@ -41,13 +86,12 @@ untold_settled f program b m event g early keeps inside settled e =
     let bound = drop (length b.store.held.bindings) m.store.held.bindings in
     let mark : all_told m ≡ m.told.items ++ told_by bound m.store.hooks = ap (λ (p : Point). m.told.items ++ told_by (drop p.sizes.bindings m.store.held.bindings) m.store.hooks) (begun_mark b m begun s.keeps) in
     let untold : (is_among g.number m.told.items || is_among g.number (told_by bound m.store.hooks)) ≡ false = sym (list_any-append (λ i. g.number == i) m.told.items (told_by bound m.store.hooks)) ∙ sym (ap (is_among g.number) mark) ∙ e in
-    let apart = or_parts (is_among g.number m.told.items) (is_among g.number (told_by bound m.store.hooks)) untold in
     let alone : StaysAlone m.store.hooks b.store.held m.store.held b.shoens.shoens m.shoens.shoens g = record {
       formed = begun.formed;
       grown = s.keeps.grown.held;
       inside = event.was.inside.shoens;
-      same = λ monitor. keeps early (ap (λ (t : Task CellName). is_monitor_task t) monitor) apart.0;
-      free = hangs_on_none m.store.hooks bound g.number apart.1;
+      same = λ monitor. keeps early (ap (λ (t : Task CellName). is_monitor_task t) monitor) (first_false (is_among g.number m.told.items) (is_among g.number (told_by bound m.store.hooks)) untold);
+      free = hangs_on_none m.store.hooks bound g.number (last_false (is_among g.number m.told.items) (is_among g.number (told_by bound m.store.hooks)) untold);
     } in
     stays_settled f m.store.hooks b.store.held m.store.held program b.shoens.shoens m.shoens.shoens g alone inside (subst H (sym s.hooks) settled)
 
@@ -89,21 +133,17 @@ shift_machine m n s i =
     let l : Looks m k = record { goals = shifts_looks m n s; held = refl; grown = HasGrown-same m.store; rest = refl } in
     subst M (sym s.rest) (looks_machine m k l i)
 
--- a machine that was told is one
-pub told_machine : (m t : Machine) → t ≡ record m { told = t.told } → IsMachine m → IsMachine t
-told_machine m t tells i =
-    let M : Machine → Type 0 = λ x. IsMachine x in
-    subst M (sym tells) (search rules)
-
 pub steps_reschedule : (program : Program) (m t u v w : Machine) → IsMachine m → Steps program m t u v w → Reschedules m w
 steps_reschedule program m t u v w i s =
+    let M : Machine → Type 0 = λ x. IsMachine x in
+    let told : IsMachine t = subst M (sym s.tells) (record { inside = record { some = i.inside.some; goals = i.inside.goals; shoens = i.inside.shoens; owned = i.inside.owned }; last = i.last; known = i.known }) in
     let l = told_looks program m t u v w s in
     let first : map unlooked t.goals.goals ≡ map unlooked m.goals.goals = ap (λ (x : Machine). map unlooked x.goals.goals) s.tells in
     let held : t.store.held ≡ m.store.held = ap (λ (x : Machine). x.store.held) s.tells in
     let last : w.store ≡ v.store = ap (λ (x : Machine). x.store) s.shifts.rest in
     let told_is : w.told ≡ t.told = ap (λ (x : Machine). x.told) s.shifts.rest ∙ ap (λ (x : Machine). x.told) l.rest in
     record {
-      machine = shift_machine v w s.shifts (looks_machine t v l (told_machine m t s.tells i));
+      machine = shift_machine v w s.shifts (looks_machine t v l told);
       goals = shifts_looks v w s.shifts ∙ l.goals ∙ first;
       held = ap (λ (k : _). k.held) last ∙ l.held ∙ held;
       rest = s.shifts.rest
@@ -138,10 +178,9 @@ settled_but_told : (f : Reading) (program : Program) (b m t : Machine) → HasBe
     AreSettledBut (λ k. is_among k t.told.items || nat_lt b.counts.last_goal k) f program m
 settled_but_told f program b m t event told settled =
     each_both (KeepsControl b m) (WasSettled f program b) (λ g. (is_among g.number t.told.items || nat_lt b.counts.last_goal g.number) ≡ false → IsSettled f m.store.hooks m.store.held program m.shoens.shoens g) (λ g keeps was e.
-    let apart = or_parts (is_among g.number t.told.items) (nat_lt b.counts.last_goal g.number) e in
-    let early = ltb-false b.counts.last_goal g.number apart.1 in
+    let early = ltb-false b.counts.last_goal g.number (last_false (is_among g.number t.told.items) (nat_lt b.counts.last_goal g.number) e) in
     let w = was early in
-    untold_settled f program b m event g early keeps w.0 w.1 (sym (told g.number) ∙ apart.0))
+    untold_settled f program b m event g early keeps w.0 w.1 (sym (told g.number) ∙ first_false (is_among g.number t.told.items) (nat_lt b.counts.last_goal g.number) e))
     m.goals.goals
     event.since.controls (were_settled f program b m event.was event.since.come settled)
 
@@ -156,6 +195,15 @@ shifts_settled f program m n s a =
     by_case true = shifted_settled f m.store.hooks m.store.held program m.shoens.shoens s.shifts m.goals.goals a
     by_case false = a
 
+-- a machine that was told is one
+pub told_machine : (m t : Machine) → t ≡ record m { told = t.told } → IsMachine m → IsMachine t
+told_machine m t tells i =
+    let M : Machine → Type 0 = λ x. IsMachine x in
+    subst M (sym tells) (record { inside = record { some = i.inside.some; goals = i.inside.goals; shoens = i.inside.shoens; owned = i.inside.owned }; last = i.last; known = i.known })
+
+pub told_keeps : (m t : Machine) → t ≡ record m { told = t.told } → Keeps m t
+told_keeps m t tells = let K : Machine → Type 0 = λ x. Keeps m x in subst K (sym tells) (record { grown = HasGrown-same m.store; trail = refl })
+
 -- a shoen lets its goals step as before, if nothing of shoens has changed
 pub lets_looked : (m t u : Machine) (n : ℕ) → t ≡ record m { told = t.told } → Looks t u → is_enabled_at m.shoens.shoens m.shoens.work n ≡ true → is_enabled_at u.shoens.shoens u.shoens.work n ≡ true
 lets_looked m t u n tells l e = ap (λ (x : Machine). is_enabled_at x.shoens.shoens x.shoens.work n) l.rest ∙ ap (λ (x : Machine). is_enabled_at x.shoens.shoens x.shoens.work n) tells ∙ e
@@ -163,7 +211,7 @@ lets_looked m t u n tells l e = ap (λ (x : Machine). is_enabled_at x.shoens.sho
 -- all goals are settled that have numbers up to the last
 pub last_settled : (f : Reading) (program : Program) (m : Machine) (n : ℕ) → IsMachine m → m.counts.last_goal ≤ n → AreSettledBut (nat_lt n) f program m → AreSettled f m.store.hooks m.store.held program m.shoens.shoens m.goals.goals
 last_settled f program m n i le all =
-    each_both (λ g. g.number ≤ m.counts.last_goal) (λ g. nat_lt n g.number ≡ false → IsSettled f m.store.hooks m.store.held program m.shoens.shoens g) (IsSettled f m.store.hooks m.store.held program m.shoens.shoens) (λ g up s. s (le-ltb n g.number (omega (arith, up, le))))
+    each_both (λ g. g.number ≤ m.counts.last_goal) (λ g. nat_lt n g.number ≡ false → IsSettled f m.store.hooks m.store.held program m.shoens.shoens g) (IsSettled f m.store.hooks m.store.held program m.shoens.shoens) (λ g up s. s (not_less n g.number (omega (arith, up, le))))
     m.goals.goals i.last all
 
 steps_settled : (f : Reading) (program : Program) (b m t u v w : Machine) → Knows program.loaded f → HasBegun b m → Steps program m t u v w → AreSettled f b.store.hooks b.store.held program b.shoens.shoens b.goals.goals →
@@ -179,6 +227,14 @@ steps_settled f program b m t u v w knows event steps settled =
     (last_settled f program v u.counts.last_goal (looks_machine t v (told_looks program m t u v w steps) (told_machine m t steps.tells event.is)) (omega (arith, last)) (steps.schedules.settles f knows woken))
 
 -- ---- each goal may step as its shoen lets it
+
+-- a goal, be it there when the event began or not
+either : {A : Type 0} (last n : ℕ) → (n ≤ last → A) → (last < n → A) → A
+either {A} last n early late = here (nat_lt last n) refl
+  where
+    here : (b : Bool) → nat_lt last n ≡ b → A
+    here true e = late (ltb-true last n e)
+    here false e = early (ltb-false last n e)
 
 -- the goals that were there may step as they might, and none has come yet
 let_then : (b m : Machine) → IsMachine b → HasCome b m → AreEnabled b.shoens.shoens b.shoens.work b.goals.goals → AreLet b b.counts.last_goal m
@@ -216,14 +272,13 @@ shifts_enabled b m n i kept work same s a =
     by_case : (c : Bool) → m.shifts ≡ c → AreEnabled m.shoens.shoens m.shoens.work (if c then shifted_by s.shifts m.goals.goals else m.goals.goals)
     by_case true q =
         rights_shifted m.shoens s.shifts m.goals.goals (s.right q)
-        (each_both (λ g. g.number ≤ m.counts.last_goal) (IsLet b m.counts.last_goal m) (IsRightBut m.shoens s.shifts) (λ g up l. ⊎_elim (λ (late : b.counts.last_goal < g.number) free. l.1 late up) (λ (early : g.number ≤ b.counts.last_goal). since (s.right q) g l.0 early) (cases_lt b.counts.last_goal g.number))
+        (each_both (λ g. g.number ≤ m.counts.last_goal) (IsLet b m.counts.last_goal m) (IsRightBut m.shoens s.shifts) (λ g up l. either b.counts.last_goal g.number (λ early. since (s.right q) g l.0 early) (λ late free. l.1 late up))
         m.goals.goals i.last a)
     by_case false q =
         each_both (λ g. g.number ≤ m.counts.last_goal) (IsLet b m.counts.last_goal m) (IsEnabled m.shoens.shoens m.shoens.work) (λ g up l.
-        ⊎_elim
-        (λ (late : b.counts.last_goal < g.number). l.1 late up)
-        (λ (early : g.number ≤ b.counts.last_goal). let w = l.0 early in let high = w.0.high in w.1 ∙ ap (λ c. is_monitor g || c) (sym (same q g.shoen (omega (arith, high)))))
-        (cases_lt b.counts.last_goal g.number))
+        either b.counts.last_goal g.number
+        (λ early. let w = l.0 early in let high = w.0.high in w.1 ∙ ap (λ c. is_monitor g || c) (sym (same q g.shoen (omega (arith, high)))))
+        (λ late. l.1 late up))
         m.goals.goals
         i.last a
 
@@ -295,3 +350,11 @@ turns_rescheduled change b m n p r ms =
           ∙ ap (λ (x : Machine). worked f s m.store.held (made x)) (sym r.rest)
           ∙ ap H (sym r.held);
     }
+
+-- and no name is new if none was
+pub turned_rescheduled : (change : Reading → State → State) (b m n : Machine) → TurnsAs change b m → Reschedules m n → TurnsAs change b n
+turned_rescheduled change b m n p r = record {
+  turns = turns_rescheduled change b m n p.turns r;
+  machine = r.machine;
+  named = record { name = ap (λ (x : Machine). x.name) r.rest ∙ p.named.name; spelled = ap (λ (x : Machine). x.spelled) r.rest ∙ p.named.spelled };
+}

@@ -1,13 +1,43 @@
 -- Goals of a machine that came, and are looked at in order of number.
-use Rattle.kl1_machine.proofs.Words.{◌≡◌, ℕ, suc, ◌≤◌, ◌==◌, ◌||◌, Bool, false, if◌then◌else◌, List, [], ◌∷◌, map, refl, sym, ap, ◌∙◌, arith, subst, ⊎_elim, Option, None, find, AllByRecursion, ne_eqb, eq-eqb, cases_eq, ltb-false, le-ltb, CellName, Kept, Held, Goal, Task, is_monitor, is_monitor_task, looked_at, is_enabled_at, Program, IsSettled, Machine, unlooked, IsLet, Schedules}
-use Rattle.std.proofs.Common.{nat_lt}
-use Rattle.kl1_goals.specs.Lists.{has_number}
+use Rattle.std.proofs.Common.{◌≡◌, ℕ, suc, ◌≤◌, ◌==◌, ◌||◌, Bool, true, false, if◌then◌else◌, List, [], ◌∷◌, map, refl, sym, ap, ◌∙◌, arith, subst, ⊎_elim, nat_lt}
+use Rattle.std.specs.Prelude.{Option, None, find}
+use Rattle.std.specs.List.{AllByRecursion}
+use Rattle.std.proofs.lemmas.Bool.{ne_eqb, eq-eqb, cases_eq, ltb-true, ltb-false}
+use Rattle.kl1_text.specs.declared.cell_name.CellName.{CellName}
+use Rattle.kl1_store.specs.Hooks.{Kept}
+use Rattle.kl1_store.specs.Held.{Held}
+use Rattle.kl1_goals.specs.declared.goal.Goal.{Goal}
+use Rattle.kl1_goals.specs.declared.task.Task.{Task}
+use Rattle.kl1_goals.specs.Lists.{has_number, is_monitor, is_monitor_task, looked_at}
+use Rattle.kl1_shoen.specs.Shoens.{is_enabled_at}
+use Rattle.kl1_codes.specs.Shelves.{Program}
+use Rattle.kl1_user_effects.specs.Settled.{IsSettled}
+use Rattle.kl1_machine.specs.declared.machine.Machine.{Machine}
+use Rattle.kl1_machine.specs.Rescheduling.{unlooked, IsLet, Schedules}
 use Rattle.kl1_machine.proofs.Sincing.{each_so, each_both}
-use Rattle.kl1_machine.proofs.Looking.{each_changed, looks_same, looks_then, IsFor, IsLook, look_ready, one_of, none_of, one_settled, settled_but_more, settled_but_none}
+use Rattle.kl1_machine.proofs.Looking.{each_changed, looks_same, looks_then, IsFor, IsLook, one_of, none_of, one_settled, settled_but_more, settled_but_none}
+
+-- a number that isn't less is at least as great
+pub not_less : (a b : ℕ) → b ≤ a → nat_lt a b ≡ false
+not_less a b le = here (nat_lt a b) refl
+  where
+    here : (c : Bool) → nat_lt a b ≡ c → nat_lt a b ≡ false
+    here true e = let lt = ltb-true a b e in absurd (omega (arith, lt, le))
+    here false e = e
 
 -- one number more
 one_later : (n m : ℕ) → m ≡ suc n → (k : ℕ) → nat_lt m k ≡ false → (k ≡ m → ⊥) → nat_lt n k ≡ false
-one_later n m next k e other = le-ltb n k (let le = ltb-false m k e in omega (arith, le, next, other))
+one_later n m next k e other = not_less n k (let le = ltb-false m k e in below k le other)
+  where
+    below : (k : ℕ) → k ≤ m → (k ≡ m → ⊥) → k ≤ n
+    below k le other = here (nat_lt n k) refl
+      where
+        here : (c : Bool) → nat_lt n k ≡ c → k ≤ n
+        here true e = let lt = ltb-true n k e in absurd (other (omega (arith, lt, le, next)))
+        here false e = ltb-false n k e
+
+up_to_other : (n m k : ℕ) → m ≡ suc n → k ≤ m → (k ≡ m → ⊥) → k ≤ n
+up_to_other n m k next le other = ltb-false n k (one_later n m next k (not_less m k le) other)
 
 looked_unlooked : (n : ℕ) (o : Option ℕ) (b : Bool) (gs : List (Goal CellName)) → map unlooked (map (looked_at n o b) gs) ≡ map unlooked gs
 looked_unlooked n o b [] = refl
@@ -24,7 +54,7 @@ schedules_one program m k n number goal o may next look lets =
           let H : Held CellName → Type 0 = λ h. AllByRecursion (λ g. nat_lt number g.number ≡ false → IsSettled f k.hooks h program m.shoens.shoens g) (map (looked_at number o may) m.goals.goals) in
           subst H (sym look.held)
           (each_changed (IsFor number goal) (λ g. nat_lt n g.number ≡ false → IsSettled f m.store.hooks m.store.held program m.shoens.shoens g) (λ g. nat_lt number g.number ≡ false → IsSettled f k.hooks m.store.held program m.shoens.shoens g) (looked_at number o may) m.goals.goals
-          (λ g is s e. one_settled f program m k (record goal { number = number }) o look.grown ((look_ready program m k number goal o look).settled f knows) g (if g.number == number then may else g.is_enabled) is (λ other. s (one_later n number next g.number e other)))
+          (λ g is s e. one_settled f program m k (record goal { number = number }) o look.grown (look.ready.settled f knows) g (if g.number == number then may else g.is_enabled) is (λ other. s (one_later n number next g.number e other)))
           for all);
       flags = λ b low all. each_changed (IsFor number goal) (IsLet b n m) (IsLet b number m) (looked_at number o may) m.goals.goals (let_one b low) for all;
     }
@@ -44,7 +74,7 @@ schedules_one program m k n number goal o may next look lets =
           ∙ lets
           ∙ ap (λ (x : Task CellName). is_monitor_task x || is_enabled_at m.shoens.shoens m.shoens.work goal.shoen) (sym for.1)
           ∙ ap (λ (k : ℕ). is_monitor g || is_enabled_at m.shoens.shoens m.shoens.work k) (sym for.0))
-          (λ (other : g.number ≡ number → ⊥). ap (λ (c : Bool). if c then may else g.is_enabled) (ne_eqb g.number number other) ∙ was.1 late (omega (arith, up, next, other)))
+          (λ (other : g.number ≡ number → ⊥). ap (λ (c : Bool). if c then may else g.is_enabled) (ne_eqb g.number number other) ∙ was.1 late (up_to_other n number g.number next up other))
           (cases_eq g.number number),
     )
 
@@ -54,7 +84,7 @@ schedules_none program m n number next e = record {
   looks = looks_same m;
   settles = λ f knows all. settled_but_none f program m number (nat_lt n) (nat_lt number) e (one_later n number next) all;
   flags = λ b low all.
-      each_both (λ g. g.number ≡ number → ⊥) (IsLet b n m) (IsLet b number m) (λ g other was. (was.0, (λ late up. was.1 late (omega (arith, up, next, other)))))
+      each_both (λ g. g.number ≡ number → ⊥) (IsLet b n m) (IsLet b number m) (λ g other was. (was.0, (λ late up. was.1 late (up_to_other n number g.number next up other))))
       m.goals.goals
       (none_of number m.goals.goals e) all;
 }
@@ -75,6 +105,6 @@ schedules_then program i j k m u v le p q = record {
 pub schedules_less : (program : Program) (i j k : ℕ) (m u : Machine) → k ≤ j → Schedules program i j m u → Schedules program i k m u
 schedules_less program i j k m u le p = record {
   looks = p.looks;
-  settles = λ f knows all. settled_but_more f program u (nat_lt j) (nat_lt k) (λ n e. le-ltb j n (let a = ltb-false k n e in omega (arith, a, le))) (p.settles f knows all);
+  settles = λ f knows all. settled_but_more f program u (nat_lt j) (nat_lt k) (λ n e. not_less j n (let a = ltb-false k n e in omega (arith, a, le))) (p.settles f knows all);
   flags = λ b low all. each_so (IsLet b j u) (IsLet b k u) (λ g was. (was.0, (λ late up. was.1 late (omega (arith, up, le))))) u.goals.goals (p.flags b low all);
 }

@@ -1,5 +1,25 @@
 -- Goals that are let to step, or held back, where that may be other than when an event began.
-use Rattle.kl1_machine.proofs.Words.{◌≡◌, ℕ, ◌==◌, ◌||◌, ◌&&◌, not, Bool, true, false, if◌then◌else◌, List, [], ◌∷◌, length, map, refl, sym, ap, ◌∙◌, arith, AllByRecursion, eqb-true, recursion_from_All, is_among, CellName, Hook, Held, Goal, is_monitor, enabled_in, Shoen, Tree, is_enabled_at, shoens_of, AreShifts, Shift, Program, Reading, IsOwned, IsEnabled, AreEnabled, AreSettled, shifted_by, or_true, unlooked, among_contains}
+use Rattle.std.proofs.Common.{◌≡◌, ℕ, ◌==◌, ◌||◌, ◌&&◌, not, Bool, true, false, if◌then◌else◌, List, [], ◌∷◌, length, map, refl, sym, ap, ◌∙◌, arith}
+use Rattle.std.specs.List.{AllByRecursion}
+use Rattle.std.proofs.lemmas.Bool.{eqb-true}
+use Rattle.std.proofs.lemmas.List.Elements.{recursion_from_All}
+use Rattle.kl1_model.specs.Module.{is_among}
+use Rattle.kl1_text.specs.declared.cell_name.CellName.{CellName}
+use Rattle.kl1_store.specs.Hooks.{Hook}
+use Rattle.kl1_store.specs.Held.{Held}
+use Rattle.kl1_goals.specs.declared.goal.Goal.{Goal}
+use Rattle.kl1_goals.specs.Lists.{is_monitor, enabled_in}
+use Rattle.kl1_shoen_paths.specs.declared.shoen.Shoen.{Shoen}
+use Rattle.kl1_shoen.specs.Shoens.{Tree, is_enabled_at}
+use Rattle.kl1_shoen.specs.Shifts.{shoens_of, AreShifts}
+use Rattle.kl1_shoen.specs.declared.shift.Shift.{Shift}
+use Rattle.kl1_codes.specs.Shelves.{Program}
+use Rattle.kl1_user_effects.specs.Fitting.{Reading}
+use Rattle.kl1_user_effects.specs.Kept.{IsOwned}
+use Rattle.kl1_user_effects.specs.Settled.{IsEnabled, AreEnabled, AreSettled}
+use Rattle.kl1_user_effects.specs.Installing.{shifted_by}
+use Rattle.kl1_user_effects.proofs.Below.{or_true, among_contained}
+use Rattle.kl1_machine.specs.Rescheduling.{unlooked}
 use Rattle.kl1_machine.proofs.Sincing.{each_so}
 
 -- ---- shifts change nothing but whether goals may step
@@ -65,4 +85,4 @@ right_since tree shifts g s o e = by_case (is_monitor g) (is_shifted g.shoen shi
     by_case : (m c : Bool) → is_monitor g ≡ m → is_shifted g.shoen shifts ≡ c → (m || not c) ≡ true → IsEnabled tree.shoens tree.work g
     by_case true c p q u = e ∙ ap (λ x. x || is_enabled_at tree.kept tree.kept_work g.shoen) p ∙ ap (λ x. x || is_enabled_at tree.shoens tree.work g.shoen) (sym p)
     by_case false true p q u = absurd (cc)
-    by_case false false p q u = let high = o.high in e ∙ ap (λ x. is_monitor g || x) (sym (s.whole g.shoen o.low (omega (arith, high)) (λ c. let f = among_contains g.shoen (shoens_of shifts) c in cc)))
+    by_case false false p q u = let high = o.high in e ∙ ap (λ x. is_monitor g || x) (sym (s.whole g.shoen o.low (omega (arith, high)) (λ c. let f = among_contained g.shoen (shoens_of shifts) c in cc)))

@@ -1,8 +1,22 @@
 -- What stays since an event began, whatever is done.
-use Rattle.kl1_machine.proofs.Words.{rules, ◌≡◌, ℕ, suc, ◌<◌, ◌&&◌, Bool, true, false, if◌then◌else◌, List, [], ◌∷◌, ◌++◌, length, refl, sym, ap, ◌∙◌, arith, subst, append_assoc, OnOk, Result, Ok, Err, filter, AllByRecursion, on_ok_weaker, CellName, Kept, Task, Goal, Tabled, Spelled, filter_append, filter_in, filter_owned, filter_up_to, Machine, IsMachine, Keeps, goal_at, Becomes, Puts, with_goal, having_goals, HasCome, KeepsControl, Since, StillSince}
-use Rattle.std.proofs.Common.{Option, Some}
+use Rattle.std.proofs.Common.{◌≡◌, ℕ, suc, ◌<◌, ◌≤◌, ◌&&◌, Bool, true, false, if◌then◌else◌, Option, Some, List, [], ◌∷◌, ◌++◌, length, refl, sym, ap, ◌∙◌, arith, subst, append_assoc}
+use Rattle.std.specs.List.{filter, AllByRecursion}
 use Rattle.std.proofs.lemmas.List.{append-nil}
-use Rattle.kl1_machine.proofs.Keeping.{Grows, keeps_same, keeps_then, keeps_store, keeps_back, keeps_goals}
+use Rattle.kl1_model.specs.Module.{is_among}
+use Rattle.kl1_text.specs.declared.cell_name.CellName.{CellName}
+use Rattle.kl1_store.specs.Hooks.{Kept}
+use Rattle.kl1_goals.specs.declared.task.Task.{Task}
+use Rattle.kl1_goals.specs.declared.goal.Goal.{Goal}
+use Rattle.kl1_goals.specs.Lists.{is_monitor}
+use Rattle.kl1_goals.specs.Rows.{Rowed}
+use Rattle.kl1_user_effects.specs.declared.spelled.Spelled.{Spelled}
+use Rattle.kl1_user_effects.specs.Settled.{control_at}
+use Rattle.kl1_user_effects.proofs.Goals.{filter_append, filter_in, filter_owned, filter_up_to}
+use Rattle.kl1_machine.specs.declared.machine.Machine.{Machine}
+use Rattle.kl1_machine.specs.Machines.{IsMachine}
+use Rattle.kl1_machine.specs.Effects.{Becomes, Puts, goal_at, with_goal, having_goals}
+use Rattle.kl1_machine.specs.Since.{HasCome, KeepsControl, Since}
+use Rattle.kl1_machine.proofs.Keeping.{Grows, keeps_same, keeps_then, keeps_store, keeps_back}
 
 -- ---- lists
 
@@ -70,15 +84,6 @@ since_same b = record { keeps = keeps_same b; hooks = refl; come = come_same b; 
     same [] = tt
     same (g ∷ gs) = (λ le monitor told. refl, same gs)
 
--- what was when a call began is kept, by another call after it too
-pub kept_after : (m v n : Machine) → (Since m m → Since m v) → Keeps v n → Keeps m n
-kept_after m v n since keeps = keeps_then m v n (since (since_same m)).keeps keeps
-
--- if what an event has done is this, then a call may be refused or not
-pub still : {T E : Type 0} (r : Result T E) (b n : Machine) → Since b n → StillSince r b n
-still (Ok x) b n s = s
-still (Err x) b n s = s.keeps
-
 -- a store that grows, by no hook, changes nothing of it
 pub since_store : (b m : Machine) (k : Kept CellName) → Grows m k → Since b m → Since b (record m { store = k })
 since_store b m k g s = record {
@@ -93,7 +98,15 @@ since_store b m k g s = record {
 
 -- nor do more variables, structures and reports that are counted
 pub since_counts : (b m : Machine) (variables nodes reports : ℕ) → Since b m → Since b (record m { counts = record m.counts { variables = variables; nodes = nodes; reports = reports } })
-since_counts b m variables nodes reports s = search rules
+since_counts b m variables nodes reports s = record {
+  keeps = record { grown = s.keeps.grown; trail = s.keeps.trail };
+  hooks = s.hooks;
+  come = record { left = s.come.left; added = s.come.added; goals = s.come.goals; above = s.come.above; last = s.come.last };
+  shoens = s.shoens;
+  controls = s.controls;
+  flags = s.flags;
+  work = s.work;
+}
 
 -- goals that go
 pub since_fewer : (b m : Machine) (p : Goal CellName → Bool) → Since b m → Since b (having_goals (filter p m.goals.goals) m)
@@ -134,6 +147,23 @@ since_back b m n k held hooks s t = record {
   work = t.work;
 }
 
+-- ---- what is left of the goals that were there
+
+-- of each goal that was there and is left a fact holds that holds of the goals that are there now with numbers up to the last that was
+pub left_hold : (P : Goal CellName → Type 0) (b n : Machine) → IsMachine b → (h : HasCome b n) → AllByRecursion (λ g. g.number ≤ b.counts.last_goal → P g) n.goals.goals → AllByRecursion P (filter h.left b.goals.goals)
+left_hold P b n i h a =
+    let Q : Goal CellName → Type 0 = λ g. g.number ≤ b.counts.last_goal → P g in
+    let A : List (Goal CellName) → Type 0 = λ gs. AllByRecursion Q gs in
+    each_both Q (λ g. g.number ≤ b.counts.last_goal) P (λ g q le. q le) (filter h.left b.goals.goals) (first (filter h.left b.goals.goals) h.added (subst A h.goals a)) (filter_up_to b.counts.last_goal h.left b.goals.goals i.last)
+  where
+    first : (gs hs : List (Goal CellName)) → AllByRecursion (λ g. g.number ≤ b.counts.last_goal → P g) (gs ++ hs) → AllByRecursion (λ g. g.number ≤ b.counts.last_goal → P g) gs
+    first [] hs c = tt
+    first (g ∷ gs) hs c = (c.0, first gs hs c.1)
+
+-- each monitor that was there and is left has the control stream before it that it had, if it isn't told
+pub controls_left : (b n : Machine) → IsMachine b → (s : Since b n) → AllByRecursion (λ g. is_monitor g ≡ true → is_among g.number n.told.items ≡ false → control_at n.shoens.shoens g.shoen ≡ control_at b.shoens.shoens g.shoen) (filter s.come.left b.goals.goals)
+controls_left b n i s = left_hold (λ g. is_monitor g ≡ true → is_among g.number n.told.items ≡ false → control_at n.shoens.shoens g.shoen ≡ control_at b.shoens.shoens g.shoen) b n i s.come s.controls
+
 -- ---- a table of goals of which some have gone
 
 fewer_machine : (m : Machine) (p : Goal CellName → Bool) → IsMachine m → IsMachine (having_goals (filter p m.goals.goals) m)
@@ -142,31 +172,47 @@ fewer_machine m p i =
     record {
       inside = record { some = w.some; goals = filter_in m.store.held p m.goals.goals w.goals; shoens = w.shoens; owned = filter_owned (length m.shoens.shoens) p m.goals.goals w.owned };
       last = filter_up_to m.counts.last_goal p m.goals.goals i.last;
-      placed = i.placed;
       known = i.known;
     }
 
--- a table of which only the goals are others
-pub goals_are : (r s : Tabled CellName) (gs : List (Goal CellName)) → s ≡ record r { goals = s.goals } → s.goals ≡ gs → s ≡ record r { goals = gs }
-goals_are r s gs rest is = rest ∙ ap (λ (hs : List (Goal CellName)). let z : Tabled CellName = record r { goals = hs } in z) is
+goals_are : (r s : Rowed CellName) (gs : List (Goal CellName)) → s ≡ record r { goals = s.goals } → s.goals ≡ gs → s ≡ record r { goals = gs }
+goals_are r s gs rest is = rest ∙ ap (λ (hs : List (Goal CellName)). let z : Rowed CellName = record r { goals = hs } in z) is
 
-pub fewer_becomes : {T E : Type 0} (r : Result T E) (m : Machine) (t : Tabled CellName) (p : Goal CellName → Bool) → IsMachine m → t ≡ record m.goals { goals = t.goals } → OnOk r (t.goals ≡ filter p m.goals.goals) → OnOk r (Becomes (having_goals (filter p m.goals.goals) m) (record m { goals = t }))
-fewer_becomes r m t p i rest =
-    let P : Tabled CellName → Type 0 = λ s. Becomes (having_goals (filter p m.goals.goals) m) (record m { goals = s }) in
-    on_ok_weaker r (λ (is : t.goals ≡ filter p m.goals.goals). subst P (sym (goals_are m.goals t (filter p m.goals.goals) rest is)) (record { is = refl; machine = fewer_machine m p i }))
+pub fewer_becomes : (m : Machine) (r : Rowed CellName) (p : Goal CellName → Bool) → IsMachine m → r ≡ record m.goals { goals = r.goals } → r.goals ≡ filter p m.goals.goals → Becomes (having_goals (filter p m.goals.goals) m) (record m { goals = r })
+fewer_becomes m r p i rest is =
+    let P : Rowed CellName → Type 0 = λ s. Becomes (having_goals (filter p m.goals.goals) m) (record m { goals = s }) in
+    subst P (sym (goals_are m.goals r (filter p m.goals.goals) rest is)) (record { is = refl; machine = fewer_machine m p i })
 
-pub fewer_since : {T E : Type 0} (r : Result T E) (b m : Machine) (t : Tabled CellName) (p : Goal CellName → Bool) → t ≡ record m.goals { goals = t.goals } → OnOk r (t.goals ≡ filter p m.goals.goals) → Since b m → StillSince r b (record m { goals = t })
-fewer_since (Ok x) b m t p rest is s =
-    let P : Tabled CellName → Type 0 = λ q. Since b (record m { goals = q }) in
-    subst P (sym (goals_are m.goals t (filter p m.goals.goals) rest is)) (since_fewer b m p s)
-fewer_since (Err x) b m t p rest ok s = keeps_then b m (record m { goals = t }) s.keeps (keeps_goals m t m.counts rest)
+pub fewer_since : (b m : Machine) (r : Rowed CellName) (p : Goal CellName → Bool) → r ≡ record m.goals { goals = r.goals } → r.goals ≡ filter p m.goals.goals → Since b m → Since b (record m { goals = r })
+fewer_since b m r p rest is s =
+    let P : Rowed CellName → Type 0 = λ q. Since b (record m { goals = q }) in
+    subst P (sym (goals_are m.goals r (filter p m.goals.goals) rest is)) (since_fewer b m p s)
 
 -- ---- a new name
 
 pub named_machine : (m : Machine) (text : List ℕ) → IsMachine m → Becomes (record m { name = Some text }) (record m { name = Some text })
-named_machine m text i = record { is = refl; machine = search rules }
+named_machine m text i = record { is = refl; machine = let w = i.inside in record { inside = record { some = w.some; goals = w.goals; shoens = w.shoens; owned = w.owned }; last = i.last; known = i.known } }
+
+pub since_named : (b m : Machine) (text : List ℕ) → Since b m → Since b (record m { name = Some text })
+since_named b m text s = record {
+  keeps = record { grown = s.keeps.grown; trail = s.keeps.trail };
+  hooks = s.hooks;
+  come = record { left = s.come.left; added = s.come.added; goals = s.come.goals; above = s.come.above; last = s.come.last };
+  shoens = s.shoens;
+  controls = s.controls;
+  flags = s.flags;
+  work = s.work;
+}
 
 -- ---- the variable that becomes it
 
 pub since_spelled : (b m : Machine) (o : Option Spelled) → Since b m → Since b (record m { spelled = o })
-since_spelled b m o s = search rules
+since_spelled b m o s = record {
+  keeps = record { grown = s.keeps.grown; trail = s.keeps.trail };
+  hooks = s.hooks;
+  come = record { left = s.come.left; added = s.come.added; goals = s.come.goals; above = s.come.above; last = s.come.last };
+  shoens = s.shoens;
+  controls = s.controls;
+  flags = s.flags;
+  work = s.work;
+}

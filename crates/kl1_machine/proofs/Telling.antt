@@ -1,10 +1,34 @@
 -- What a report leaves of a machine.
-use Rattle.kl1_machine.proofs.Words.{◌≡◌, ℕ, suc, ◌-◌, not, ◌&&◌, ◌||◌, Bool, true, false, if◌then◌else◌, List, [], refl, sym, ap, ◌∙◌, subst, find, Option, Some, None, is_some, option_map, Term, variable, integer, atom, structure, State, report, is_reported, close, is_reported_at, is_reported_of, close_of, Reads, CellName, Cell, Kept, Grown-same, Told, Dropped, Broken, Sent, Breaks, ToldAs, Shoen, Tree, has_number, changed, Numbered, Reading, built, meaning, shoen_with, unheard, worked, found_in, changed_count, torn, tailed, last_made, after_report, report_turns, no_report_turns, turns_none, finds, same_free, sent_free, Counts, Machine, made, IsMachine, Tells, TurnsAs, Since}
+use Rattle.std.proofs.Common.{◌≡◌, ℕ, suc, ◌-◌, not, ◌&&◌, ◌||◌, Bool, true, false, if◌then◌else◌, List, [], refl, sym, ap, ◌∙◌, subst}
+use Rattle.std.specs.Prelude.{find, Option, Some, None, is_some, option_map}
+use Rattle.kl1_model.specs.Term.{Term, variable, integer, atom, structure}
 use Rattle.kl1_model.specs.State as model
-use Rattle.kl1_user_effects.specs.Works.{Turns}
-use Rattle.kl1_machine.proofs.Keeping.{Grows, grown_machine}
-use Rattle.kl1_machine.proofs.Sincing.{since_store}
-use Rattle.kl1_machine.proofs.Shoens.{IsTree, IsQuiet, since_changed}
+use Rattle.kl1_model.specs.State.{State}
+use Rattle.kl1_model.specs.Report.{report, is_reported, close}
+use Rattle.kl1_model.specs.code.Steps.{is_reported_at, is_reported_of, close_of}
+use Rattle.kl1_text.specs.Reading.{Reads}
+use Rattle.kl1_text.specs.declared.cell_name.CellName.{CellName}
+use Rattle.kl1_store.specs.declared.cell.Cell.{Cell}
+use Rattle.kl1_store.specs.Hooks.{Kept}
+use Rattle.kl1_store.proofs.Grows.{Grown-same}
+use Rattle.kl1_stream.specs.declared.told.Told.{Told}
+use Rattle.kl1_stream.specs.declared.told.Told.TheVariants.{Dropped, Broken, Sent}
+use Rattle.kl1_stream.specs.Reports.{Breaks, ToldAs}
+use Rattle.kl1_shoen_paths.specs.declared.shoen.Shoen.{Shoen}
+use Rattle.kl1_shoen.specs.Shoens.{Tree, has_number, changed}
+use Rattle.kl1_codes.specs.Numbered.{Numbered}
+use Rattle.kl1_user_effects.specs.Fitting.{Reading, built}
+use Rattle.kl1_user_effects.specs.Account.{meaning, shoen_with}
+use Rattle.kl1_user_effects.specs.Reports.{unheard}
+use Rattle.kl1_user_effects.specs.Works.{worked, Turns}
+use Rattle.kl1_user_effects.proofs.States.{found_in, changed_count}
+use Rattle.kl1_user_effects.proofs.Works.{torn, tailed, last_made, after_report, report_turns, no_report_turns, turns_none, finds}
+use Rattle.kl1_user_effects.proofs.LateFree.{same_free, sent_free}
+use Rattle.kl1_machine.specs.declared.counts.Counts.{Counts}
+use Rattle.kl1_machine.specs.declared.machine.Machine.{Machine}
+use Rattle.kl1_machine.specs.Machines.{made, IsMachine}
+use Rattle.kl1_machine.specs.Effects.{Tells, TurnsAs}
+use Rattle.kl1_machine.proofs.Keeping.{Grows}
 
 -- ---- whether a report is made
 
@@ -84,7 +108,7 @@ tells m k n x sh Dropped a =
       told_is = told_as m k n x sh Dropped a;
       dropped = λ b. ap (with_shoens m k) (unheard_same n m.shoens sh a.found d.0);
       keeps = same_free m.store.held k.held m.shoens.shoens n d.1;
-      machine = record { inside = (heard_turns m k n x sh Dropped a []).inside; last = a.machine.last; placed = a.machine.placed; known = a.machine.known };
+      machine = record { inside = (heard_turns m k n x sh Dropped a []).inside; last = a.machine.last; known = a.machine.known };
       named = record { name = refl; spelled = refl };
       grown = a.grows.grown;
       count = refl;
@@ -97,7 +121,7 @@ tells m k n x sh Broken a =
       told_is = told_as m k n x sh Broken a;
       dropped = λ b. ap (with_shoens m k) (unheard_torn n m.shoens sh a.found d.whole);
       keeps = same_free m.store.held k.held m.shoens.shoens n d.same;
-      machine = record { inside = (heard_turns m k n x sh Broken a []).inside; last = a.machine.last; placed = a.machine.placed; known = a.machine.known ∙ sym count };
+      machine = record { inside = (heard_turns m k n x sh Broken a []).inside; last = a.machine.last; known = a.machine.known ∙ sym count };
       named = record { name = refl; spelled = refl };
       grown = a.grows.grown;
       count = count;
@@ -110,7 +134,7 @@ tells m k n x sh (Sent next) a =
       told_is = told_as m k n x sh (Sent next) a;
       dropped = λ b. absurd (cc);
       keeps = sent_free m.store.held k.held m.shoens.shoens n sh (last_made m.rules m.counts.reports) x next a.found d;
-      machine = record { inside = (heard_turns m k n x sh (Sent next) a []).inside; last = a.machine.last; placed = a.machine.placed; known = a.machine.known ∙ sym count };
+      machine = record { inside = (heard_turns m k n x sh (Sent next) a []).inside; last = a.machine.last; known = a.machine.known ∙ sym count };
       named = record { name = refl; spelled = refl };
       grown = a.grows.grown;
       count = count;
@@ -119,21 +143,6 @@ tells m k n x sh (Sent next) a =
 -- with the tree and the count that the code has
 pub tells_by : (m : Machine) (k : Kept CellName) (n : ℕ) (x : Cell CellName) (sh : Shoen CellName) (told : Told) (t : Tree CellName) → t ≡ told_tree n told m.shoens → Hears m k n x sh told → Tells n x m (record (told_machine m k n told) { shoens = t }) (is_sent told)
 tells_by m k n x sh told t e a = let P : Tree CellName → Type 0 = λ u. Tells n x m (record (told_machine m k n told) { shoens = u }) (is_sent told) in subst P (sym e) (tells m k n x sh told a)
-
--- what an event has done
-pub since_heard : (b m : Machine) (k : Kept CellName) (n : ℕ) (x : Cell CellName) (sh : Shoen CellName) (told : Told) (t : Tree CellName) → t ≡ told_tree n told m.shoens → Hears m k n x sh told → IsTree m.shoens → Since b m → Since b (record (told_machine m k n told) { shoens = t })
-since_heard b m k n x sh told t e a tree s = let P : Tree CellName → Type 0 = λ u. Since b (record (told_machine m k n told) { shoens = u }) in subst P (sym e) (by_case told)
-  where
-    grown : Machine
-    grown = record m { store = k }
-
-    changes : (reports : ℕ) (f : Shoen CellName → Shoen CellName) → IsQuiet f → Since b (record grown { shoens = record m.shoens { shoens = changed n f m.shoens.shoens }; counts = record m.counts { reports = reports } })
-    changes reports f q = since_changed b grown n reports f q tree (grown_machine m k a.grows a.machine) (since_store b m k a.grows s)
-
-    by_case : (d : Told) → Since b (told_machine m k n d)
-    by_case Dropped = since_store b m k a.grows s
-    by_case Broken = changes m.counts.reports torn (record { outlines = λ h. refl; plains = λ h. refl })
-    by_case (Sent next) = changes (suc m.counts.reports) (tailed next) (record { outlines = λ h. refl; plains = λ h. refl })
 
 -- a report of a shoen that isn't there
 pub tells_none : (m : Machine) (n : ℕ) (x : Cell CellName) → IsMachine m → find (has_number n) m.shoens.shoens ≡ None → Tells n x m m false

@@ -1,6 +1,24 @@
 -- Unifications for goals, and exceptions of those that fail.
-use Rattle.kl1_machine.proofs.Words.{◌≡◌, refl, sym, subst, failure, raised, CellName, Cell, Qualified, Bound, Clash, Held, Kept, Grown, Grown-same, Goal, built, meaning, goal_with, aim, solved_turns, clash_turns, Machine, made, IsMachine, TurnsAs, UnifiesAs}
+use Rattle.std.proofs.Common.{◌≡◌, refl, sym, subst}
+use Rattle.kl1_model.specs.Report.{failure}
+use Rattle.kl1_model.specs.Reduction.{raised}
+use Rattle.kl1_text.specs.declared.cell_name.CellName.{CellName}
+use Rattle.kl1_store.specs.declared.cell.Cell.{Cell}
+use Rattle.kl1_store.specs.declared.qualified.Qualified.{Qualified}
+use Rattle.kl1_store.specs.declared.unified.Unified.TheVariants.{Bound, Clash}
+use Rattle.kl1_store.specs.Held.{Held}
+use Rattle.kl1_store.specs.Hooks.{Kept}
+use Rattle.kl1_store.specs.Sound.{Grown}
 use Rattle.kl1_store.specs.Unification as store
+use Rattle.kl1_store.proofs.Grows.{Grown-same}
+use Rattle.kl1_goals.specs.declared.goal.Goal.{Goal}
+use Rattle.kl1_user_effects.specs.Fitting.{built}
+use Rattle.kl1_user_effects.specs.Account.{meaning, goal_with, aim}
+use Rattle.kl1_user_effects.proofs.Streams.{solved_turns, clash_turns}
+use Rattle.kl1_machine.specs.declared.machine.Machine.{Machine}
+use Rattle.kl1_machine.specs.Machines.{made, IsMachine}
+use Rattle.kl1_machine.specs.Effects.{TurnsAs}
+use Rattle.kl1_machine.specs.Moving.{UnifiesAs}
 use Rattle.kl1_machine.proofs.Keeping.{Grows, grown_machine}
 
 -- a store that holds what it held

@@ -1,8 +1,22 @@
 -- Goals of a machine that are woken, one number after another.
-use Rattle.kl1_machine.proofs.Words.{◌≡◌, ℕ, ◌+◌, ◌<◌, ◌≤◌, ◌==◌, ◌||◌, Bool, true, false, List, [], ◌∷◌, ◌++◌, length, map, take, get_or, refl, sym, ap, ◌∙◌, subst, Option, None, find, OnOk, Result, on_ok_weaker, AllByRecursion, ne_eqb, take_more, take_all, list_any-append, is_among, CellName, Kept, Held, Tabled, Goal, stood_by, Program, IsSettled, Machine, unready, unlooked, Wakes}
-use Rattle.kl1_goals.specs.Lists.{has_number}
-use Rattle.kl1_machine.proofs.Sincing.{goals_are}
-use Rattle.kl1_machine.proofs.Looking.{each_changed, looks_same, looks_then, IsFor, IsLook, look_ready, one_of, one_settled, settled_but_more, settled_but_none}
+use Rattle.std.proofs.Common.{◌≡◌, ℕ, ◌+◌, ◌<◌, ◌≤◌, ◌==◌, ◌||◌, Bool, true, false, List, [], ◌∷◌, ◌++◌, length, map, take, get_or, refl, sym, ap, ◌∙◌, subst}
+use Rattle.std.specs.Prelude.{Option, None, find}
+use Rattle.std.specs.List.{AllByRecursion}
+use Rattle.std.proofs.lemmas.Bool.{ne_eqb}
+use Rattle.std.proofs.lemmas.List.{take_more, take_all}
+use Rattle.std.proofs.lemmas.List.Folds.{list_any-append}
+use Rattle.kl1_model.specs.Module.{is_among}
+use Rattle.kl1_text.specs.declared.cell_name.CellName.{CellName}
+use Rattle.kl1_store.specs.Hooks.{Kept}
+use Rattle.kl1_store.specs.Held.{Held}
+use Rattle.kl1_goals.specs.Rows.{Rowed}
+use Rattle.kl1_goals.specs.declared.goal.Goal.{Goal}
+use Rattle.kl1_goals.specs.Lists.{has_number, stood_by}
+use Rattle.kl1_codes.specs.Shelves.{Program}
+use Rattle.kl1_user_effects.specs.Settled.{IsSettled}
+use Rattle.kl1_machine.specs.declared.machine.Machine.{Machine}
+use Rattle.kl1_machine.specs.Rescheduling.{unready, unlooked, Wakes}
+use Rattle.kl1_machine.proofs.Looking.{each_changed, looks_same, looks_then, IsFor, IsLook, one_of, one_settled, settled_but_more, settled_but_none}
 
 stood_unready : (n : ℕ) (o : Option ℕ) (gs : List (Goal CellName)) → map unready (map (stood_by n o) gs) ≡ map unready gs
 stood_unready n o [] = refl
@@ -17,14 +31,10 @@ one_less : (n : ℕ) (q : ℕ → Bool) (k : ℕ) → q k ≡ false → (k ≡ n
 one_less n q k e other = ap (λ b. (b || false) || q k) (ne_eqb k n other) ∙ e
 
 -- the goal of a number was looked at
-pub wakes_one : {T E : Type 0} (done : Result T E) (program : Program) (m : Machine) (k : Kept CellName) (r : Tabled CellName) (n : ℕ) (goal : Goal CellName) (o : Option ℕ) → IsLook program m k n goal o → r ≡ record m.goals { goals = r.goals } → OnOk done (r.goals ≡ map (stood_by n o) m.goals.goals) →
-    OnOk done (Wakes program (n ∷ []) m (record m { store = k; goals = r }))
-wakes_one done program m k r n goal o look rest =
-    let W : Tabled CellName → Type 0 = λ x. Wakes program (n ∷ []) m (record m { store = k; goals = x }) in
-    on_ok_weaker done (λ (is : r.goals ≡ map (stood_by n o) m.goals.goals). subst W (sym (goals_are m.goals r (map (stood_by n o) m.goals.goals) rest is)) stands)
-  where
-    stands : Wakes program (n ∷ []) m (record m { store = k; goals = record m.goals { goals = map (stood_by n o) m.goals.goals } })
-    stands = record {
+pub wakes_one : (program : Program) (m : Machine) (k : Kept CellName) (r : Rowed CellName) (n : ℕ) (goal : Goal CellName) (o : Option ℕ) → IsLook program m k n goal o → r ≡ record m.goals { goals = map (stood_by n o) m.goals.goals } → Wakes program (n ∷ []) m (record m { store = k; goals = r })
+wakes_one program m k r n goal o look row =
+    let W : Rowed CellName → Type 0 = λ x. Wakes program (n ∷ []) m (record m { store = k; goals = x }) in
+    subst W (sym row) (record {
       looks = record { goals = stood_unlooked n o m.goals.goals; held = look.held; grown = look.grown; rest = refl };
       flags = stood_unready n o m.goals.goals;
       settles = λ f knows q all.
@@ -32,9 +42,9 @@ wakes_one done program m k r n goal o look rest =
           let was : ℕ → Bool = λ i. is_among i (n ∷ []) || q i in
           subst H (sym look.held)
           (each_changed (IsFor n goal) (λ g. was g.number ≡ false → IsSettled f m.store.hooks m.store.held program m.shoens.shoens g) (λ g. q g.number ≡ false → IsSettled f k.hooks m.store.held program m.shoens.shoens g) (stood_by n o) m.goals.goals
-          (λ g is s e. one_settled f program m k (record goal { number = n }) o look.grown ((look_ready program m k n goal o look).settled f knows) g g.is_enabled is (λ other. s (one_less n q g.number e other)))
+          (λ g is s e. one_settled f program m k (record goal { number = n }) o look.grown (look.ready.settled f knows) g g.is_enabled is (λ other. s (one_less n q g.number e other)))
           (one_of n 0 m.goals.goals goal look.order look.found) all);
-    }
+    })
 
 -- a number that no goal has
 pub wakes_none : (program : Program) (m : Machine) (n : ℕ) → None ≡ find (has_number n) m.goals.goals → Wakes program (n ∷ []) m m

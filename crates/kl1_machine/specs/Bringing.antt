@@ -1,70 +1,20 @@
 -- Goals that the console brings, with numbers for their names of which some are spare ones, and what is so when these are published.
-use Rattle.std.specs.Prelude.{◌≡◌, ℕ, ◌+◌, ◌<◌, ◌≤◌, ◌^◌, true, IsTrue, List, [], length, None}
-use Rattle.kl1_model.specs.declared.limits.TheConstants.{MONITOR_PRIORITY}
+use Rattle.std.specs.Prelude.{◌≡◌, List, [], None}
 use Rattle.kl1_model.specs.Term.{Term}
-use Rattle.kl1_model.specs.Answering.{answered}
-use Rattle.kl1_model.specs.Goal.{is_goal}
-use Rattle.kl1_model.specs.Meaning.{highest, is_numbered}
-use Rattle.kl1_model.specs.Nodes.{goal_nodes, structures_of}
-use Rattle.kl1_model.specs.Opening.{start_goal}
 use Rattle.kl1_model.specs.State.{State, names_of, with_names}
 use Rattle.kl1_text.specs.Reading.{Reads}
 use Rattle.kl1_text.specs.declared.cell_name.CellName.{CellName}
-use Rattle.kl1_clause.specs.NameList.{with_texts, IsNameList}
-use Rattle.kl1_store.specs.Held.{Held}
-use Rattle.kl1_store.specs.Unbound.{IsUnbound}
-use Rattle.kl1_atoms.specs.Names.{AreNames}
-use Rattle.kl1_user_effects.specs.Fitting.{Reading, Fits, built}
-use Rattle.kl1_user_effects.specs.Account.{texts_of}
-use Rattle.kl1_user_effects.specs.Exchanging.{held_exchanged, AreSpared}
-use Rattle.kl1_user_effects.specs.Naming.{AreSmall, AreNumbersOf}
+use Rattle.kl1_clause.specs.NameList.{IsNameList}
+use Rattle.kl1_user_effects.specs.Fitting.{Reading, built}
+use Rattle.kl1_user_effects.specs.Naming.{AreSmall}
 use Rattle.kl1_user_effects.specs.Works.{worked}
 use Rattle.kl1_machine.specs.declared.machine.Machine.{Machine}
-use Rattle.kl1_machine.specs.declared.machine.answering.Answer.{Answer}
-use Rattle.kl1_machine.specs.declared.machine.bringing.Brought.{Brought}
-use Rattle.kl1_machine.specs.declared.machine.bringing.Brought.TheVariants as brought
-use Rattle.kl1_machine.specs.declared.machine.starting.Start.{Start}
 use Rattle.kl1_machine.specs.Machines.{made, IsMachine, Keeps}
 use Rattle.kl1_machine.specs.Effects.{KeepsName}
 use Rattle.kl1_machine.specs.Starting.{ReadsNames, naming}
 use Rattle.kl1_machine.specs.Reducing.{ReadsAlike}
 use Rattle.kl1_machine.specs.Plain.{ArePlain}
-
--- the goal that the console brings
-abbrev pub goal_of : Brought → Term
-goal_of (brought.Starts s) = s.code.now
-goal_of (brought.Answers a) = a.code.now
-
--- what comes of it by the definitions
-abbrev pub change_of : Brought → State → State
-change_of (brought.Starts s) = λ z. start_goal z s.allowance s.low s.high s.code.now
-change_of (brought.Answers a) = answered a.variable a.code.now
-
--- a goal may be started with these numbers for its names, if this many variables and structures are counted
-pub record CanStart (variables nodes : ℕ) (numbers : List CellName) (s : Start) : Type 0 where
-  pub goal : is_goal s.code.now ≡ true
-  pub numbered : IsTrue (is_numbered s.code.now)
-  pub variables_are : s.variables ≡ highest s.code.now
-  pub numbers_are : length numbers ≡ length (with_names [] (names_of s.code.now))
-  pub low : s.low ≤ MONITOR_PRIORITY
-  pub high : s.high ≤ MONITOR_PRIORITY
-  pub few : variables + (s.variables + 2) < 2 ^ 64
-  pub small : nodes + goal_nodes s.code.now < 2 ^ 64
-
--- a goal may come in the place of a variable of a store, as an answer
-pub record CanAnswer (h : Held CellName) (variables nodes : ℕ) (numbers : List CellName) (a : Answer) : Type 0 where
-  pub goal : is_goal a.code.now ≡ true
-  pub numbered : IsTrue (is_numbered a.code.now)
-  pub variables_are : a.variables ≡ highest a.code.now
-  pub nodes_are : a.nodes ≡ structures_of a.code.now
-  pub numbers_are : length numbers ≡ length (with_names [] (names_of a.code.now))
-  pub unbound : IsUnbound h a.variable
-  pub few : variables + a.variables < 2 ^ 64
-  pub small : nodes + a.nodes < 2 ^ 64
-
-abbrev pub CanBring : Held CellName → ℕ → ℕ → List CellName → Brought → Type 0
-CanBring h variables nodes numbers (brought.Starts s) = CanStart variables nodes numbers s
-CanBring h variables nodes numbers (brought.Answers a) = CanAnswer h variables nodes numbers a
+use Rattle.kl1_machine.specs.Exchanging.{AreSpared, PublishesNames}
 
 -- a machine has come on by a change of states that brings a goal, with these numbers for its names, which aren't used as yet: with them
 -- there is what there is by the definitions, no name of the goal stands by itself in a goal or a shoen, and nothing was charged
@@ -74,17 +24,6 @@ pub record Brings (change : State → State) (goal : Term) (numbers : List CellN
   pub machine : IsMachine n
   pub named : KeepsName m n
   pub work : n.shoens.work ≡ m.shoens.work
-
--- names have their numbers in place of spare ones; nothing else of a machine has changed
-pub record PublishesNames (texts : List (List ℕ)) (spares numbers : List CellName) (m n : Machine) : Type 0 where
-  pub texts_are : texts_of n.names.names ≡ with_texts (texts_of m.names.names) texts
-  pub numbers_are : AreNumbersOf n.names.names texts numbers
-  pub fits : (f : Reading) → Fits n.names.names f → Fits m.names.names f
-  pub one : AreNames n.names.names
-  pub small : AreSmall n.names.names
-  pub held : n.store.held ≡ held_exchanged spares numbers m.store.held
-  pub hooks : n.store.hooks ≡ m.store.hooks
-  pub rest : n ≡ record m { store = n.store; names = n.names }
 
 -- a machine `m` has come on to `r` by a goal that was brought, with spare numbers for those of its names that are new, and these names
 -- were published then

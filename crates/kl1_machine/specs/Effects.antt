@@ -1,5 +1,5 @@
 -- What goals do to a machine.
-use Rattle.std.specs.Prelude.{◌≡◌, ℕ, suc, ◌+◌, ◌||◌, Bool, true, false, List, [], ◌∷◌, ◌++◌, length, find}
+use Rattle.std.specs.Prelude.{◌≡◌, ℕ, suc, ◌+◌, ◌||◌, Bool, true, false, List, [], ◌∷◌, ◌++◌, length, find, None}
 use Rattle.std.specs.List.{list_any}
 use Rattle.kl1_model.specs.State.{State}
 use Rattle.kl1_model.specs.Match.{Candidate}
@@ -26,13 +26,16 @@ use Rattle.kl1_user_effects.specs.Works.{Knows, worked}
 use Rattle.kl1_user_effects.specs.Works as works
 use Rattle.kl1_user_effects.specs.Late.{KeepsFree}
 use Rattle.kl1_user_effects.specs.Reports.{unheard}
-use Rattle.kl1_user_effects.specs.Drafts.{goal_at}
 use Rattle.kl1_machine.specs.declared.machine.Machine.{Machine}
 use Rattle.kl1_machine.specs.Machines.{made, IsMachine}
 
 -- a machine has come on by this change of states
 abbrev pub Turns : (Reading → State → State) → Machine → Machine → Type 0
 Turns change m n = (ms : List Numbered) → works.Turns ms change m.store.held n.store.held (made m) (made n)
+
+-- a goal of a shoen with this number, priority and task, which can't step as yet
+abbrev pub goal_at : ℕ → ℕ → ℕ → Task CellName → Goal CellName
+goal_at n shoen priority task = record { number = n; task = task; shoen = shoen; priority = priority; standing = None; is_enabled = false }
 
 -- a machine with these goals
 abbrev pub having_goals : List (Goal CellName) → Machine → Machine
@@ -68,17 +71,13 @@ pub record Charges (n : ℕ) (m u : Machine) (reached : Bool) : Type 0 where
 
 -- a machine with a goal more, after the others
 abbrev pub with_goal : Goal CellName → Machine → Machine
-with_goal g m = record m { goals = record m.goals { goals = m.goals.goals ++ g ∷ []; last = g.number }; counts = record m.counts { last_goal = g.number } }
+with_goal g m = record m { goals = record m.goals { goals = m.goals.goals ++ g ∷ [] }; counts = record m.counts { last_goal = g.number } }
 
 -- goals more for these cells, each with its priority
 abbrev pub with_goals : ℕ → List ℕ → List (Qualified CellName) → Machine → Machine
 with_goals shoen ps [] m = m
 with_goals shoen [] (x ∷ xs) m = m
 with_goals shoen (p ∷ ps) (x ∷ xs) m = with_goals shoen ps xs (with_goal (goal_at (suc m.counts.last_goal) shoen p (Reduces x)) m)
-
--- a machine that has counted these variables and structures
-abbrev pub counting : ℕ → ℕ → Machine → Machine
-counting variables nodes m = record m { counts = record m.counts { variables = variables; nodes = nodes } }
 
 -- one goal more is there, with the number after the last
 pub record Puts (shoen priority : ℕ) (task : Task CellName) (m n : Machine) : Type 0 where

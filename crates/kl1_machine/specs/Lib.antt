@@ -3,8 +3,11 @@ pub mod Effects
 pub mod Since
 pub mod Ending
 pub mod Rested
+pub mod Serving
+pub mod Ready
 pub mod Rescheduling
 pub mod Moving
+pub mod Exchanging
 pub mod Naming
 pub mod Reducing
 pub mod Sending

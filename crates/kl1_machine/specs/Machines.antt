@@ -1,5 +1,5 @@
 -- What holds of a machine, and what its calls keep.
-use Rattle.std.specs.Prelude.{◌≡◌, ◌≤◌, ℕ, false, None, List, [], length}
+use Rattle.std.specs.Prelude.{◌≡◌, ℕ, false, None, List, [], length}
 use Rattle.kl1_model.specs.declared.rules.Rules.{Rules}
 use Rattle.kl1_text.specs.declared.cell_name.CellName.{CellName}
 use Rattle.kl1_store.specs.declared.point.Point.{Point}
@@ -30,11 +30,10 @@ made m = record {
 }
 
 -- what always holds of an account's parts: they have the store's cells, goals are of shoens that are there, none has a number above the
--- last, none was put with one, and the table of goals knows the shoens
+-- last, and the table of goals knows the shoens
 pub record IsMachine (m : Machine) : Type 0 where
   pub inside : IsMadeIn m.store.held (made m)
   pub last : AreUpTo m.counts.last_goal m.goals.goals
-  pub placed : m.goals.last ≤ m.counts.last_goal
   pub known : m.goals.shoens ≡ length m.shoens.shoens
 
 -- what no event touches before it ends: what the machine goes back to, the rules, and the names that the account had
@@ -44,7 +43,6 @@ pub record Trail : Type 0 where
   pub begun : Counts
   pub goals : List (Goal CellName)
   pub goal_shoens : ℕ
-  pub goal_last : ℕ
   pub shoens : List (Shoen CellName)
   pub work : List ℕ
   pub names : NameShelf
@@ -56,7 +54,6 @@ trail_of m = record {
   begun = m.begun;
   goals = m.goals.begun;
   goal_shoens = m.goals.begun_shoens;
-  goal_last = m.goals.begun_last;
   shoens = m.shoens.kept;
   work = m.shoens.kept_work;
   names = m.names;
@@ -73,7 +70,6 @@ pub record IsBegun (b : Machine) : Type 0 where
   pub mark : b.mark ≡ point_of b.store
   pub goals : b.goals.begun ≡ b.goals.goals
   pub goal_shoens : b.goals.begun_shoens ≡ b.goals.shoens
-  pub goal_last : b.goals.begun_last ≡ b.goals.last
   pub shoens : b.shoens.kept ≡ b.shoens.shoens
   pub work : b.shoens.kept_work ≡ b.shoens.work
   pub counts : b.begun ≡ b.counts

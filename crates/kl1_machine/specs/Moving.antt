@@ -1,6 +1,9 @@
 -- What a goal's move does to a machine.
 use Rattle.std.specs.Prelude.{◌≡◌, ℕ, List, Some}
+use Rattle.kl1_model.specs.State.{State}
 use Rattle.kl1_model.specs.Unify.{mgu}
+use Rattle.kl1_model.specs.Tree.{charge}
+use Rattle.kl1_model.specs.Ending.{after_reduction}
 use Rattle.kl1_model.specs.Opening.{with_shoen, open_shoen}
 use Rattle.kl1_model.specs.Reduction as model
 use Rattle.kl1_model.specs.Reduction.{equation, unified, opens, moved}
@@ -20,6 +23,7 @@ use Rattle.kl1_user_effects.specs.Fitting.{Reading}
 use Rattle.kl1_user_effects.specs.Account.{meaning, goal_with, shoen_with, aim}
 use Rattle.kl1_user_effects.specs.Works.{Knows}
 use Rattle.kl1_user_effects.specs.Works as works
+use Rattle.kl1_user_effects.specs.Moving.{ReadsMove, name_for}
 use Rattle.kl1_machine.specs.declared.machine.Machine.{Machine}
 use Rattle.kl1_machine.specs.Machines.{made, IsMachine}
 use Rattle.kl1_machine.specs.Effects.{Turns, KeepsName, TurnsAs}
@@ -61,8 +65,23 @@ pub record Making : Type 0 where
 abbrev pub IsMade : Making → List Numbered → Machine → (Reading → model.Move) → Type 0
 IsMade a ms m k = (f : Reading) → Knows ms f → IsMove f m.store.held (Some (k f)) a.predicate a.places a.text (Some a.move)
 
--- a goal that is cell `x` and has been removed has made a move that uses no name, or has raised an exception if the move would pass a limit
+-- a machine has come on by a change that depends on the move, if each reading reads the number of a name that the move uses
+abbrev pub TurnsBy : Making → (Reading → model.Move → State → State) → Machine → Machine → Type 0
+TurnsBy a change m n =
+    (ms : List Numbered) (k : Reading → model.Move) → ReadsMove a.move ms m.store.held m.names.names a.text → IsMade a ms m k →
+    works.Turns ms (λ f. change f (k f)) m.store.held n.store.held (made m) (made n)
+
+-- a goal that is cell `x` and has been removed has made a move, or has raised an exception if the move would pass a limit; a name that is new
+-- has been used
 pub record MovesAs (a : Making) (goal : Goal CellName) (x : Qualified CellName) (m n : Machine) : Type 0 where
-  pub turns : (ms : List Numbered) (k : Reading → model.Move) → IsMade a ms m k → works.Turns ms (λ f. moved (goal_with (meaning f m.store.held) goal) (aim f m.store.held x) (k f)) m.store.held n.store.held (made m) (made n)
+  pub turns : TurnsBy a (λ f k. moved (goal_with (meaning f m.store.held) goal) (aim f m.store.held x) k) m n
   pub machine : IsMachine n
-  pub named : KeepsName m n
+  pub name : n.name ≡ name_for a.move m.names.names a.text
+  pub spelled : n.spelled ≡ m.spelled
+
+-- the same after a charge of its shoen; then shoens of its path have reported that they are exhausted, or have terminated
+pub record RunsAs (a : Making) (goal : Goal CellName) (x : Qualified CellName) (m n : Machine) : Type 0 where
+  pub turns : TurnsBy a (λ f k s. after_reduction goal.shoen (moved (goal_with (meaning f m.store.held) goal) (aim f m.store.held x) k (charge goal.shoen s))) m n
+  pub machine : IsMachine n
+  pub name : n.name ≡ name_for a.move m.names.names a.text
+  pub spelled : n.spelled ≡ m.spelled

@@ -2,41 +2,39 @@
 -- published.
 use Rattle.std.specs.Prelude.{◌≡◌, ℕ, ◌<◌, true, false, List, Option, Some, None, IsTrue}
 use Rattle.kl1_model.specs.Text.{is_text}
-use Rattle.kl1_model.specs.Term.{Term, atom, variable}
-use Rattle.kl1_model.specs.State.{Goal, State, with_name}
-use Rattle.kl1_model.specs.Reduction as model
-use Rattle.kl1_model.specs.Reduction.{moved}
+use Rattle.kl1_model.specs.Term.{atom, variable}
+use Rattle.kl1_model.specs.Unify.{mgu}
+use Rattle.kl1_model.specs.State.{State, replace_in_state, with_name}
+use Rattle.kl1_model.specs.Tree.{charge}
+use Rattle.kl1_model.specs.Ending.{after_reduction}
+use Rattle.kl1_model.specs.Reduction.{equation, names, moved}
 use Rattle.kl1_text.specs.Reading.{Reads}
 use Rattle.kl1_text.specs.declared.cell_name.CellName.{CellName}
 use Rattle.kl1_atoms.specs.declared.known.Known.{Known}
 use Rattle.kl1_atoms.specs.Names.{number_by}
 use Rattle.kl1_store.specs.declared.cell.Cell.{Cell}
 use Rattle.kl1_store.specs.declared.cell.Cell.TheVariants.{Variable, Atom}
+use Rattle.kl1_store.specs.declared.qualified.Qualified.{Qualified}
 use Rattle.kl1_store.specs.declared.point.Point.{Point}
 use Rattle.kl1_store.specs.Held.{Held, IsIn, is_bound, sizes_of, with_binding}
 use Rattle.kl1_store.specs.Sound.{IsFormed}
 use Rattle.kl1_store.specs.Constants.{HasJustBound, Rebinds}
-use Rattle.kl1_clause.specs.declared.predicate.Predicate.{Predicate}
-use Rattle.kl1_match.specs.declared.place.Place.{Place}
-use Rattle.kl1_goals_moves.specs.Moves.{MoveIn}
 use Rattle.kl1_goals_moves.specs.declared.moves.Move.{Move}
 use Rattle.kl1_goals_moves.specs.declared.moves.Move.TheVariants as move
+use Rattle.kl1_goals.specs.declared.goal.Goal.{Goal}
 use Rattle.kl1_codes.specs.Numbered.{Numbered}
 use Rattle.kl1_user_effects.specs.declared.spelled.Spelled.{Spelled}
 use Rattle.kl1_user_effects.specs.Fitting.{Reading, Fits, built}
-use Rattle.kl1_user_effects.specs.Account.{texts_of, meaning}
-use Rattle.kl1_user_effects.specs.Works.{Knows, worked}
+use Rattle.kl1_user_effects.specs.Account.{texts_of, meaning, goal_with, aim}
+use Rattle.kl1_user_effects.specs.Works.{Knows}
+use Rattle.kl1_user_effects.specs.Works as works
 use Rattle.kl1_user_effects.specs.Drafts.{names_with}
 use Rattle.kl1_user_effects.specs.Naming.{AreSmall}
-use Rattle.kl1_user_effects.specs.Calling.{spare, keeps_names, IsNewName}
-use Rattle.kl1_user_effects.specs.Moving.{name_for}
+use Rattle.kl1_user_effects.specs.Calling.{spare, keeps_names, name_of, IsNewName, ReadsName}
 use Rattle.kl1_user_effects.specs.Late.{StaysFree}
 use Rattle.kl1_machine.specs.declared.machine.Machine.{Machine}
 use Rattle.kl1_machine.specs.Machines.{made, IsMachine}
-use Rattle.kl1_machine.specs.declared.machine.naming.Named.{Named}
-use Rattle.kl1_machine.specs.declared.machine.naming.Named.TheVariants as named
 use Rattle.kl1_machine.specs.Effects.{Turns, KeepsName}
-use Rattle.kl1_machine.specs.Moving.{Making, IsMade}
 
 -- ---- which variable becomes a name
 
@@ -49,13 +47,39 @@ pub record CanBecome (h : Held CellName) (known : List Known) (text : List ℕ) 
   pub unbound : is_bound v h.bindings ≡ false
   pub means : (f : Reading) → meaning f h a ≡ variable v
 
--- what a move uses as a name, if it does that, is a text, and the term is of a store
-abbrev pub NamesIn : Move CellName → Held CellName → List ℕ → Type 0
-NamesIn y h text = (a : Cell CellName) → y ≡ move.Names a → IsTrue (is_text text) × IsIn h a
+-- a text that an account with these names knows or may not use, or a cell that can't become the name, unless it is it
+abbrev pub CannotBecome : Held CellName → List Known → List ℕ → Cell CellName → Type 0
+CannotBecome h known text a = number_by known text ≡ None → keeps_names known text ≡ true → (f : Reading) → Reads built f → (meaning f h a ≡ atom text → ⊥) → mgu (equation (meaning f h a) (atom text)) ≡ None
 
--- a move uses no name
-abbrev pub IsNameless : Move CellName → Type 0
-IsNameless y = (a : Cell CellName) → y ≡ move.Names a → ⊥
+-- what a move uses as a name is a text, and the term is of a store
+abbrev pub NamesIn : Move CellName → Held CellName → List ℕ → Type 0
+NamesIn (move.Commits place) h text = Unit {0}
+NamesIn (move.Raises b) h text = Unit {0}
+NamesIn (move.Unifies a b) h text = Unit {0}
+NamesIn (move.Names a) h text = IsTrue (is_text text) × IsIn h a
+NamesIn (move.Opens s) h text = Unit {0}
+NamesIn move.Goes h text = Unit {0}
+NamesIn move.GivesWay h text = Unit {0}
+
+-- by a move this variable becomes a name that is new
+abbrev pub BindsName : Move CellName → Held CellName → List Known → List ℕ → ℕ → Type 0
+BindsName (move.Commits place) h known text v = ⊥
+BindsName (move.Raises b) h known text v = ⊥
+BindsName (move.Unifies a b) h known text v = ⊥
+BindsName (move.Names a) h known text v = CanBecome h known text a v
+BindsName (move.Opens s) h known text v = ⊥
+BindsName move.Goes h known text v = ⊥
+BindsName move.GivesWay h known text v = ⊥
+
+-- by a move no variable does
+abbrev pub BindsNone : Move CellName → Held CellName → List Known → List ℕ → Type 0
+BindsNone (move.Commits place) h known text = Unit {0}
+BindsNone (move.Raises b) h known text = Unit {0}
+BindsNone (move.Unifies a b) h known text = Unit {0}
+BindsNone (move.Names a) h known text = CannotBecome h known text a
+BindsNone (move.Opens s) h known text = Unit {0}
+BindsNone move.Goes h known text = Unit {0}
+BindsNone move.GivesWay h known text = Unit {0}
 
 -- ---- texts that are used
 
@@ -63,39 +87,14 @@ IsNameless y = (a : Cell CellName) → y ≡ move.Names a → ⊥
 abbrev pub with_text : List ℕ → State → State
 with_text text s = record s { names = with_name s.names text }
 
--- a reading reads a number by which an account knows a text as this text; if the account knows it by none and may use it, it reads the
--- number that the text gets as the text, and no other cell as it
-abbrev pub ReadsText : Reading → Held CellName → List Known → List ℕ → Cell CellName → CellName → Option ℕ → Type 0
-ReadsText f h known text a k None = keeps_names known text ≡ true → (f k ≡ text) × (meaning f h a ≡ atom text → ⊥)
-ReadsText f h known text a k (Some n) = f (record { number = n }) ≡ text
-
--- if a move uses a text as a name, each reading that knows these modules does, if the name gets this number
-abbrev pub ReadsAll : Move CellName → List Numbered → Held CellName → List Known → List ℕ → CellName → Type 0
-ReadsAll y ms h known text k = (a : Cell CellName) → y ≡ move.Names a → (f : Reading) → Knows ms f → ReadsText f h known text a k (number_by known text)
-
--- a goal does by the move `b`, which uses no name, what it does by another move, whose name, if it uses one that is new, is used before it
-pub record StandsFor (b : Move CellName) (a : Making) (m n : Machine) : Type 0 where
-  pub is : n ≡ record m { name = name_for a.move m.names.names a.text }
+-- a goal that is cell `x` and has been removed has used a text as a name and unified a term with it, or has raised an exception if that
+-- would be a name too many; no variable becomes a name that is new
+pub record NamesAs (goal : Goal CellName) (text : List ℕ) (a : Cell CellName) (x : Qualified CellName) (m n : Machine) : Type 0 where
+  pub turns : (ms : List Numbered) → ReadsName ms m.store.held m.names.names text a →
+      works.Turns ms (λ f. moved (goal_with (meaning f m.store.held) goal) (aim f m.store.held x) (names text (meaning f m.store.held a))) m.store.held n.store.held (made m) (made n)
   pub machine : IsMachine n
-  pub nameless : IsNameless b
-  pub inside : MoveIn m.store.held a.predicate a.places a.text (Some a.move) → MoveIn n.store.held a.predicate a.places a.text (Some b)
-  pub by : (Reading → model.Move) → Reading → model.Move
-  pub made_by : (ms : List Numbered) (k : Reading → model.Move) → IsMade a ms m k → IsMade (record a { move = b }) ms n (by k)
-  pub does : (ms : List Numbered) (k : Reading → model.Move) (key : CellName) → ReadsAll a.move ms m.store.held m.names.names a.text key → IsMade a ms m k → (f : Reading) → Knows ms f → (g : Goal) (t : Term) (s : State) →
-      moved g t (k f) (worked f s m.store.held (made m)) ≡ moved g t (by k f) (worked f s m.store.held (made n))
-
--- a move uses a text as a name that is new, and unifies a term with it, which is the unbound variable `v`; the machine has the name
-pub record Spells (v : ℕ) (y : Move CellName) (text : List ℕ) (m n : Machine) : Type 0 where
-  pub target : Cell CellName
-  pub uses : y ≡ move.Names target
-  pub can : CanBecome m.store.held m.names.names text target v
-  pub is : n ≡ record m { name = Some text }
-  pub machine : IsMachine n
-
--- what comes of a move when the text that it uses as a name, if it does that, has been looked up
-abbrev pub UsesName : Move CellName → List ℕ → Machine → Machine → Named → Type 0
-UsesName y text m n (named.Does b) = (p : Predicate CellName) (places : List (Place CellName)) → StandsFor b (record { predicate = p; move = y; places = places; text = text }) m n
-UsesName y text m n (named.Becomes v) = Spells v y text m n
+  pub name : n.name ≡ name_of (number_by m.names.names text) (keeps_names m.names.names text) text
+  pub spelled : n.spelled ≡ m.spelled
 
 -- ---- what comes while the variable is still unbound
 
@@ -143,6 +142,17 @@ pub record SparesLast (v : ℕ) (m n : Machine) : Type 0 where
   pub hooks : n.store.hooks ≡ m.store.hooks
   pub rest : n ≡ record m { store = n.store; spelled = Some (record { variable = v; before = point }) }
   pub machine : IsMachine n
+
+-- a goal of shoen `n` has made variable `v` a name, which is this text and new to the account: whatever number the name gets, if the
+-- variable is bound to it, its shoen was charged, the variable was replaced, and shoens of its path have reported that they are
+-- exhausted, or have terminated; the spare number stands for the name as yet
+pub record MakesName (n : ℕ) (text : List ℕ) (v : ℕ) (m u : Machine) : Type 0 where
+  pub turns : (ms : List Numbered) (k : CellName) (last : Held CellName) → ((f : Reading) → Knows ms f → f k ≡ text) → Patches u.spelled k u.store.held last →
+      works.Turns ms (λ f s. after_reduction n (replace_in_state v (atom text) (with_text text (charge n s)))) m.store.held last (made m) (made u)
+  pub machine : IsMachine u
+  pub name : u.name ≡ Some text
+  pub last : IsBoundLast u.spelled u.store.held
+  pub spare_last : HoldsSpare u.spelled u.store.held
 
 -- ---- names that are published
 

@@ -1,5 +1,5 @@
 -- What an event has done to a machine since it began.
-use Rattle.std.specs.Prelude.{◌≡◌, ℕ, suc, ◌<◌, ◌≤◌, Bool, true, false, Result, Ok, Err, List, ◌++◌, length}
+use Rattle.std.specs.Prelude.{◌≡◌, ℕ, suc, ◌<◌, ◌≤◌, Bool, true, false, List, ◌++◌, length}
 use Rattle.std.specs.List.{filter, AllByRecursion}
 use Rattle.kl1_model.specs.Module.{is_among}
 use Rattle.kl1_text.specs.declared.cell_name.CellName.{CellName}
@@ -33,11 +33,6 @@ pub record Since (b n : Machine) : Type 0 where
   pub controls : AllByRecursion (KeepsControl b n) n.goals.goals
   pub flags : n.shifts ≡ false → SameFlags b.shoens n.shoens
   pub work : length n.shoens.work ≤ suc (length b.shoens.work)
-
--- after a call that isn't refused this is what an event has done since it began with `b`; after one that is, what was then is kept
-abbrev pub StillSince : {T E : Type 0} → Result T E → Machine → Machine → Type 0
-StillSince (Ok a) b n = Since b n
-StillSince (Err e) b n = Keeps b n
 
 -- no goal but this one is the monitor of a shoen
 abbrev pub IsOnlyMonitor : ℕ → ℕ → List (Goal CellName) → Type 0

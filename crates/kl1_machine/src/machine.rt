@@ -2,7 +2,6 @@
 
 mod answering;
 mod beginning;
-mod bringing;
 mod children;
 mod committing;
 mod effects;
@@ -12,6 +11,7 @@ mod late;
 mod loading;
 mod moving;
 mod naming;
+mod planning;
 mod publishing;
 mod reading;
 mod reducing;
@@ -20,15 +20,17 @@ mod rescheduling;
 mod sending;
 mod starting;
 mod stepping;
+mod unifying;
 
 use crate::counts::Counts;
 pub use answering::Answer;
-pub use bringing::Brought;
-use kl1_goals::{GoalTable, Rules};
+pub use ending::PathScan;
+use kl1_goals::{GoalRow, Rules};
 use kl1_shoen::ShoenTree;
 use kl1_store::{Point, Store};
 use kl1_text::{AtomText, CellName};
 use kl1_user_effects::{AccountNames, Spelled};
+pub use planning::Plan;
 pub use starting::Start;
 
 /// An account's parts. An event changes them in place, and they go back if memory is refused.
@@ -36,7 +38,7 @@ pub use starting::Start;
 pub struct Machine {
     pub rules: Rules,
     pub store: Store<CellName>,
-    pub goals: GoalTable<CellName>,
+    pub goals: GoalRow<CellName>,
     pub shoens: ShoenTree<CellName>,
     pub names: AccountNames,
     /// A name that is new to the account, and the variable that becomes it, if one does.

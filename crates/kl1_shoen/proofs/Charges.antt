@@ -1,15 +1,13 @@
 -- What shoens in order of number are charged.
-use Rattle.std.proofs.Common.{◌≡◌, ℕ, zero, suc, ◌+◌, ◌-◌, ◌<◌, ◌≤◌, ◌==◌, ◌||◌, Bool, true, false, if◌then◌else◌, List, [], ◌∷◌, ◌++◌, length, get_or, count_by, refl, sym, ap, ap₂, ◌∙◌, arith, subst}
+use Rattle.std.proofs.Common.{◌≡◌, ℕ, zero, suc, ◌+◌, ◌-◌, ◌<◌, ◌≤◌, Bool, false, if◌then◌else◌, List, [], ◌∷◌, ◌++◌, length, get_or, count_by, refl, sym, ap, ap₂, ◌∙◌, arith, subst}
 use Rattle.std.specs.Prelude.{cond}
-use Rattle.std.specs.List.{AllByRecursion, list_any}
-use Rattle.std.proofs.lemmas.Bool.{eq-eqb}
+use Rattle.std.specs.List.{AllByRecursion}
 use Rattle.std.proofs.lemmas.List.Sums.{sum_by-cons, count_by-le-length}
 use Rattle.kl1_model.specs.Module.{is_among}
 use Rattle.kl1_model.specs.Tree.{path_within}
 use Rattle.kl1_model.specs.laws.TreeLaws.{ParentsAreLower}
 use Rattle.kl1_shoen_paths.specs.declared.shoen.Shoen.{Shoen}
-use Rattle.kl1_shoen_paths.specs.Paths.{may_be_charged, reaches_in}
-use Rattle.kl1_shoen.specs.Shoens.{AreNumbered, AreLower, AreCharged, parents_in, path_in, is_on_path_in, charged_in, has_reached_in}
+use Rattle.kl1_shoen.specs.Shoens.{AreNumbered, AreLower, AreCharged, parents_in, is_on_path_in, charged_in}
 use Rattle.kl1_shoen.proofs.Numbered.{numbered_push}
 use Rattle.kl1_shoen.proofs.Paths.{zero_off_path, path_among}
 
@@ -126,29 +124,3 @@ pub charged_beyond : {N : Type 0} (ss : List (Shoen N)) (cs ws : List ℕ) (n : 
 charged_beyond ss cs ws n a lt le =
     let is : suc (n - 1) ≡ n = omega (arith, lt) in
     sym (get_beyond cs (n - 1) le) ∙ a.charged (n - 1) ∙ ap (charged_in ss ws) is
-
--- ---- shoens that reach their allowances
-
--- what is so of each number of a list is so of any
-any_on : (p q : ℕ → Bool) (ns : List ℕ) → ((k : ℕ) → is_among k ns ≡ true → p k ≡ q k) → list_any p ns ≡ list_any q ns
-any_on p q [] e = refl
-any_on p q (n ∷ ns) e =
-    ap₂ (λ b c. b || c) (e n (ap (λ b. b || is_among n ns) (eq-eqb n n refl))) (any_on p q ns (λ k on. e k (either (k == n) (is_among k ns) on)))
-  where
-    either : (b c : Bool) → c ≡ true → (b || c) ≡ true
-    either true c on = refl
-    either false c on = on
-
--- a shoen on the path of one that is charged reaches its allowance by one charge more if it has reached it then
-reached_one : {N : Type 0} (ss : List (Shoen N)) (cs ws : List ℕ) (n k : ℕ) → AreCharged ss cs ws → is_on_path_in ss k n ≡ true → reaches_in ss cs k ≡ has_reached_in ss (n ∷ ws) k
-reached_one ss cs ws n zero a on = absurd (let off = zero_off_path (parents_in ss) n n in cc)
-reached_one ss cs ws n (suc k) a on =
-    let one : charged_in ss (n ∷ ws) (suc k) ≡ 1 + charged_in ss ws (suc k) =
-    sum_by-cons (λ w. cond (is_on_path_in ss (suc k) w) 1 0) n ws ∙ ap (λ b. cond b 1 0 + charged_in ss ws (suc k)) on in
-    let is = a.charged k in
-    let place : suc k - 1 ≡ k = omega arith in
-    let next : get_or cs k 0 + 1 ≡ charged_in ss (n ∷ ws) (suc k) = omega (arith, one, is) in
-    ap (λ j. may_be_charged ss (suc k) (get_or cs j 0 + 1)) place ∙ ap (λ j. may_be_charged ss (suc k) j) next
-
-pub reached_is : {N : Type 0} (ss : List (Shoen N)) (cs ws : List ℕ) (n : ℕ) → AreCharged ss cs ws → list_any (reaches_in ss cs) (path_in ss n) ≡ list_any (has_reached_in ss (n ∷ ws)) (path_in ss n)
-reached_is ss cs ws n a = any_on (reaches_in ss cs) (has_reached_in ss (n ∷ ws)) (path_in ss n) (λ k on. reached_one ss cs ws n k a on)

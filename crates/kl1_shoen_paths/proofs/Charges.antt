@@ -1,11 +1,10 @@
 -- A reduction more for each shoen on a path.
 use Rattle.std.proofs.Common.{◌≡◌, ℕ, zero, suc, ◌+◌, ◌-◌, ◌<◌, ◌≤◌, Bool, true, false, ◌==◌, ◌||◌, if◌then◌else◌, List, [], ◌∷◌, length, get_or, set, refl, sym, ap, ◌∙◌, arith}
-use Rattle.std.specs.List.{list_any}
 use Rattle.std.proofs.lemmas.Bool.{false≢true, eq-eqb, eqb-true}
 use Rattle.std.proofs.lemmas.List.{get_or-set_same, get_or-set_other}
 use Rattle.kl1_model.specs.Module.{is_among}
 use Rattle.kl1_shoen_paths.specs.declared.shoen.Shoen.{Shoen}
-use Rattle.kl1_shoen_paths.specs.Paths.{AreLower, parents_in, path_in, is_on_path_in, reaches_in}
+use Rattle.kl1_shoen_paths.specs.Paths.{AreLower, parents_in, path_in, is_on_path_in}
 use Rattle.kl1_shoen_paths.proofs.Paths.{beyond_path}
 
 -- a path has a shoen at most once
@@ -40,23 +39,3 @@ pub length_set : {A : Type 0} (xs : List A) (i : ℕ) (a : A) → length (set xs
 length_set [] i a = refl
 length_set (x ∷ xs) zero a = refl
 length_set (x ∷ xs) (suc i) a = ap suc (length_set xs i a)
-
--- ---- shoens that reach their allowances
-
-pub or_none : (b : Bool) → (b || false) ≡ b
-or_none true = refl
-or_none false = refl
-
-or_between : (a b c : Bool) → ((a || b) || c) ≡ (a || (b || c))
-or_between true b c = refl
-or_between false b c = refl
-
--- a shoen of a path has been looked at, and its parent's path is left
-pub next_reaches : {N : Type 0} (ss : List (Shoen N)) (cs : List ℕ) (at up : ℕ) (before here after : Bool) → path_in ss at ≡ at ∷ path_in ss up → here ≡ reaches_in ss cs at → after ≡ (before || here) →
-    (after || list_any (reaches_in ss cs) (path_in ss up)) ≡ (before || list_any (reaches_in ss cs) (path_in ss at))
-next_reaches ss cs at up before here after path is so =
-    let left = list_any (reaches_in ss cs) (path_in ss up) in
-    ap (λ b. b || left) so
-    ∙ or_between before here left
-    ∙ ap (λ b. before || (b || left)) is
-    ∙ ap (λ (ns : List ℕ). before || list_any (reaches_in ss cs) ns) (sym path)

@@ -1,5 +1,5 @@
 -- Shoens in order of number: their parents and paths.
-use Rattle.std.specs.Prelude.{◌≡◌, ℕ, suc, ◌+◌, ◌-◌, ◌==◌, Bool, false, List, [], ◌∷◌, map, find, get_or, option_map, unwrap_or}
+use Rattle.std.specs.Prelude.{◌≡◌, ℕ, suc, ◌==◌, Bool, List, [], ◌∷◌, map}
 use Rattle.kl1_model.specs.Module.{is_among}
 use Rattle.kl1_model.specs.Tree.{path_within}
 use Rattle.kl1_model.specs.laws.TreeLaws.{ParentsAreLower}
@@ -29,11 +29,3 @@ path_in shoens n = path_within n (parents_in shoens) n
 -- whether a shoen is on the path of another
 abbrev pub is_on_path_in : {N : Type 0} → List (Shoen N) → ℕ → ℕ → Bool
 is_on_path_in shoens a n = is_among a (path_in shoens n)
-
--- whether a shoen may be charged just this
-abbrev pub may_be_charged : {N : Type 0} → List (Shoen N) → ℕ → ℕ → Bool
-may_be_charged shoens n charged = unwrap_or (option_map (λ h. h.allowance == charged) (find (has_number n) shoens)) false
-
--- whether shoen `n` reaches its allowance by one charge more than these, by place
-abbrev pub reaches_in : {N : Type 0} → List (Shoen N) → List ℕ → ℕ → Bool
-reaches_in shoens charges n = may_be_charged shoens n (get_or charges (n - 1) 0 + 1)

@@ -23,6 +23,34 @@ fn is_constant<N: NameValue>(cell: Cell<N>) -> bool
     }
 }
 
+/// Makes two cells of any kind mean the same term, if that can be.
+fn unify_any<N: NameValue>(
+    store: &mut Store<N>,
+    left: Cell<N>,
+    right: Cell<N>,
+) -> Result<Unified, AllocError>
+    requires left_in { IsIn store.old.held left }
+    requires right_in { IsIn store.old.held right }
+    ensures ok { IfOk result (UnifiesAs N.built store.old.held store.new.held left right) }
+    ensures err { OnErr result (store.new.held ≡ store.old.held) }
+    ensures spends { SpendsOnBindings store.old.held store.old.room store.new.held store.new.room }
+    ensures hooks { store.new.hooks ≡ store.old.hooks }
+    ensures hook_room { store.new.hook_room ≡ store.old.hook_room }
+{
+    let mark = store.mark();
+    match store.unify_cells(left, right) {
+        Ok(Unified::Bound) => Ok(Unified::Bound),
+        Ok(Unified::Clash) => {
+            store.back(mark);
+            Ok(Unified::Clash)
+        }
+        Err(error) => {
+            store.back(mark);
+            Err(error)
+        }
+    }
+}
+
 /// Makes two cells mean the same term, if that can be, by as few replacements as serve.
 pub fn unify<N: NameValue>(
     store: &mut Store<N>,
@@ -43,16 +71,5 @@ pub fn unify<N: NameValue>(
             return Ok(Unified::Bound);
         }
     }
-    let mark = store.mark();
-    match store.unify_cells(left, right) {
-        Ok(Unified::Bound) => Ok(Unified::Bound),
-        Ok(Unified::Clash) => {
-            store.back(mark);
-            Ok(Unified::Clash)
-        }
-        Err(error) => {
-            store.back(mark);
-            Err(error)
-        }
-    }
+    unify_any(store, left, right)
 }

@@ -1,6 +1,5 @@
 // Checks of the queue of places and the table of goals.
 
-mod back;
 mod checks;
 mod goals;
 mod queue;

@@ -38,9 +38,9 @@ leaves_names {E} r old other new event by was is names h =
     does_same r old other new event by was is (subst P (sym names) h)
 
 -- a reduction did this to an account, and its reply tells it, said of the same account and event under other names
-pub reduces_same : (refused : Option Refusal) (reply : Reply) (old other new : Account) (event by : model.Event) → other ≡ old → event ≡ by → reply_of reply ≡ reduced_or refused →
-    ((f : Reading) → Fits new.names f → step (state_of f other) event ≡ record { state = state_of f new; reply = reduced_or refused }) →
+pub reduces_same : (refused : Option Refusal) (reply : Reply) (old other new : Account) (goal clause : ℕ) (by : model.Event) → other ≡ old → model.reduce goal clause ≡ by → reply_of reply ≡ reduced_or refused →
+    ((f : Reading) → Fits new.names f → step (state_of f other) (model.reduce goal clause) ≡ record { state = state_of f new; reply = reduced_or refused }) →
     (f : Reading) → Fits new.names f → step (state_of f old) by ≡ record { state = state_of f new; reply = reply_of reply }
-reduces_same refused reply old other new event by was is told does = λ f fits.
-    let P : Account → Type 0 = λ a. step (state_of f a) event ≡ record { state = state_of f new; reply = reduced_or refused } in
+reduces_same refused reply old other new goal clause by was is told does f fits =
+    let P : Account → Type 0 = λ a. step (state_of f a) (model.reduce goal clause) ≡ record { state = state_of f new; reply = reduced_or refused } in
     ap (step (state_of f old)) (sym is) ∙ subst P was (does f fits) ∙ ap (λ r. record { state = state_of f new; reply = r }) (sym told)

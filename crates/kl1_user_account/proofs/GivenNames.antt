@@ -1,5 +1,12 @@
 -- Names that an account is given before anything happens.
-use Rattle.kl1_user_account.proofs.Words.{◌≡◌, ℕ, zero, suc, ◌+◌, ◌<◌, ◌≤◌, List, [], length, take, get_or, add-one, sym, ap, ◌∙◌, subst, arith, get_or_default, take_all, Known, with_text, with_texts, IsNameList, with_none, texts_of, next_take, next_text, not_before, not_there}
+use Rattle.std.proofs.Common.{◌≡◌, ℕ, zero, suc, ◌+◌, ◌<◌, ◌≤◌, List, [], length, take, get_or, add-one, sym, ap, ◌∙◌, subst, arith}
+use Rattle.std.proofs.lemmas.List.{get_or_default, take_all}
+use Rattle.kl1_atoms.specs.declared.known.Known.{Known}
+use Rattle.kl1_clause.specs.NameList.{with_text, with_texts, IsNameList}
+use Rattle.kl1_clause.proofs.Growth.{with_none}
+use Rattle.kl1_user_effects.specs.Account.{texts_of}
+use Rattle.kl1_user_effects.proofs.KnownTexts.{next_take, next_text, not_before}
+use Rattle.kl1_user_effects.proofs.ModuleNames.{not_there}
 
 -- the first of a list of names, put to none, are these
 first_names : (texts : List (List ℕ)) → IsNameList texts → (i : ℕ) → i ≤ length texts → with_texts [] (take i texts) ≡ take i texts

@@ -7,6 +7,7 @@ pub mod Choosing
 pub mod StartLines
 pub mod PrintLengths
 pub mod Begun
+pub mod NamesOnce
 pub mod StartChecks
 pub mod StartSteps
 pub mod Statuses
@@ -26,4 +27,5 @@ mod Messages
 mod Bringing
 mod Loaded
 mod Started
-pub mod Words
+mod Answered
+pub mod NameRows

@@ -1,7 +1,36 @@
 -- Loads, by the definition of the step.
-use Rattle.kl1_user_account.proofs.Words.{◌≡◌, ℕ, ◌<◌, ◌≤◌, suc, Bool, true, false, List, [], ◌∷◌, ◌++◌, length, not, refl, sym, ap, ap₂, ◌∙◌, subst, arith, nat_lt, is_some, le-leb, lt-ltb, ltb-true, ltb-false, map-append, MOST_NAMES, MOST_MODULES, MOST_SOURCE_BYTES, Module, read_module, good, module_of, State, names_of_module, with_names, limits_of, Transition, load, loaded, unless, are_too_many, is_full, exists, too_many_names, limit_passed, journal_full, with_entry, step, load_module, with_module, Reads, AtomNo, CellName, Known, AreNames, reading, text_or_mark, is_reading, with_texts, Numbered, own_names, number_of, IsRead, AreRead, contents, is_numbered, TellsModule, number_reads, Loading, Refused, Drafted, Reading, Fits, built, Account, texts_of, state_of, ReadsDraft, AreNumbersOf, HasModules, IsDraft, IsDraftOf, LoadsAs, StandsIn, of_module}
+use Rattle.std.proofs.Common.{◌≡◌, ℕ, ◌<◌, ◌≤◌, suc, Bool, true, false, List, [], ◌∷◌, ◌++◌, length, not, refl, sym, ap, ◌∙◌, subst, arith, nat_lt}
+use Rattle.std.specs.Prelude.{Some, is_some}
+use Rattle.std.proofs.lemmas.Bool.{le-leb, lt-leb, lt-ltb, le-ltb, ltb-true, ltb-false}
+use Rattle.std.proofs.lemmas.List.{map-append}
+use Rattle.kl1_model.specs.declared.limits.TheConstants.{MOST_NAMES, MOST_MODULES, MOST_SOURCE_BYTES}
+use Rattle.kl1_model.specs.Module.{Module, read_module, good}
+use Rattle.kl1_model.specs.Match.{module_of}
+use Rattle.kl1_model.specs.State.{State, names_of_module, with_names}
+use Rattle.kl1_model.specs.Rules.{limits_of}
+use Rattle.kl1_model.specs.Event.{load, loaded, refuse, is_full}
+use Rattle.kl1_model.specs.Step.{step, load_module}
+use Rattle.kl1_text.specs.Reading.{Reads}
+use Rattle.kl1_text.specs.declared.atom_no.AtomNo.{AtomNo}
+use Rattle.kl1_text.specs.declared.cell_name.CellName.{CellName}
+use Rattle.kl1_atoms.specs.declared.known.Known.{Known}
+use Rattle.kl1_atoms.specs.Names.{AreNames, reading, text_or_mark}
+use Rattle.kl1_atoms.specs.Knowing.{is_reading}
+use Rattle.kl1_clause.specs.NameList.{with_texts}
+use Rattle.kl1_codes.specs.Numbered.{Numbered, own_names, number_of, IsRead, AreRead}
+use Rattle.kl1_codes.specs.Finding.{contents, is_numbered, TellsModule}
+use Rattle.kl1_codes.proofs.Names.{number_reads}
 use Rattle.kl1_codes.proofs.Shelving.{tells}
-use Rattle.kl1_user_account.proofs.StartSteps.{many_is}
+use Rattle.kl1_user_account.specs.declared.loading.Loading.{Loading}
+use Rattle.kl1_user_account.specs.declared.loading.Loading.TheVariants.{Refused, Drafted}
+use Rattle.kl1_user_events.specs.declared.refusal.Refusal.{Refusal}
+use Rattle.kl1_user_events.specs.Views.{refusal_of}
+use Rattle.kl1_user_events.specs.declared.refusal.Refusal.TheVariants.{Exists, Names, Limit, Journal}
+use Rattle.kl1_user_effects.specs.Fitting.{Reading, Fits, built}
+use Rattle.kl1_user_effects.specs.Account.{Account, texts_of, state_of}
+use Rattle.kl1_user_effects.specs.Naming.{ReadsDraft, AreNumbersOf}
+use Rattle.kl1_user_account.specs.Loadings.{IsDraft, DraftsAs, IsDraftOf, LoadsAs, StandsIn}
+use Rattle.kl1_user_effects.proofs.ModuleNames.{of_module}
 
 -- ---- whether a drafted module may be loaded
 
@@ -11,37 +40,67 @@ tells_name ms names d n b r rows is t =
     let f = r.reading in
     sym (t f r.fits.reads (rows f r.fits) ∙ ap (λ x. is_some (module_of (contents ms) x)) (ap f is ∙ number_reads f r.fits.reads d r.reads))
 
+-- a number that isn't found is none of those that are there
+pub is_free : (ms : List Numbered) (d : Numbered) (n : CellName) (b : Bool) → b ≡ is_numbered ms n → n ≡ number_of d → is_numbered ms (number_of d) ≡ b
+is_free ms d n b e is = sym (e ∙ ap (is_numbered ms) is)
+
+-- whether the names of a module are too many
+pub crowds_is : (names : List Known) (d : Numbered) (code : Module) (texts : List (List ℕ)) (b : Bool) → b ≡ nat_lt MOST_NAMES (length (with_texts (texts_of names) texts)) → texts ≡ own_names code → code ≡ d.content →
+    nat_lt MOST_NAMES (length (with_texts (texts_of names) (own_names d.content))) ≡ b
+crowds_is names d code texts b e are is = sym (e ∙ ap (λ (xs : List (List ℕ)). nat_lt MOST_NAMES (length (with_texts (texts_of names) xs))) (are ∙ ap own_names is))
+
+-- a module whose name is taken
+pub draft_exists : (ms : List Numbered) (names : List Known) (full : Bool) (d : Numbered) → is_some (module_of (contents ms) d.content.name) ≡ true → DraftsAs ms names full d (Some Exists)
+draft_exists ms names full d there = λ s at. rw (at.modules_are, there) refl
+
+-- names that would be too many
+pub draft_crowds : (ms : List Numbered) (names : List Known) (full : Bool) (d : Numbered) → is_some (module_of (contents ms) d.content.name) ≡ false → nat_lt MOST_NAMES (length (with_texts (texts_of names) (own_names d.content))) ≡ true → DraftsAs ms names full d (Some Names)
+draft_crowds ms names full d absent many = λ s at.
+    let n = length (with_names (texts_of names) (names_of_module d.content)) in
+    let is : length (with_texts (texts_of names) (own_names d.content)) ≡ n = ap length (of_module (texts_of names) d.content) in
+    let lt : MOST_NAMES < n = ltb-true MOST_NAMES n (ap (nat_lt MOST_NAMES) (sym is) ∙ many) in
+    rw (at.modules_are, absent, at.names_are, lt-leb n MOST_NAMES lt) refl
+
+few_names : (names : List Known) (m : Module) → nat_lt MOST_NAMES (length (with_texts (texts_of names) (own_names m))) ≡ false → length (with_names (texts_of names) (names_of_module m)) ≤ MOST_NAMES
+few_names names m e =
+    let n = length (with_names (texts_of names) (names_of_module m)) in
+    let is : nat_lt MOST_NAMES n ≡ false = ap (λ (xs : List (List ℕ)). nat_lt MOST_NAMES (length xs)) (sym (of_module (texts_of names) m)) ∙ e in
+    ltb-false MOST_NAMES n is
+
 -- modules are as many as their contents
 modules_count : (ms : List Numbered) → length (contents ms) ≡ length ms
 modules_count [] = refl
 modules_count (m ∷ ms) = ap suc (modules_count ms)
 
--- what comes of a module, by whether one of its name is there, its names are too many, there is room for it, and the journal is full
-pub load_by : (ms : List Numbered) (names : List Known) (full : Bool) (m : Module) (there many room blocked : Bool) → is_some (module_of (contents ms) m.name) ≡ there → nat_lt MOST_NAMES (length (with_texts (texts_of names) (own_names m))) ≡ many → nat_lt (length ms) MOST_MODULES ≡ room → full ≡ blocked →
-    (s : State) → HasModules s ms names full → load_module s (good m) ≡ unless s ((there, exists) ∷ (many, too_many_names) ∷ (not room, limit_passed) ∷ (blocked, journal_full) ∷ []) (record { state = with_entry (with_module s m); reply = loaded m.name })
-load_by ms names full m there many room blocked absent few less free = λ s at.
-    let done : Transition = record { state = with_entry (with_module s m); reply = loaded m.name } in
-    let U : Bool → List (List ℕ) → Bool → Bool → Transition = λ p ns r f. unless s ((p, exists) ∷ (are_too_many ns, too_many_names) ∷ (not r, limit_passed) ∷ (f, journal_full) ∷ []) done in
-    let V : Bool → Transition = λ q. unless s ((there, exists) ∷ (q, too_many_names) ∷ (not room, limit_passed) ∷ (blocked, journal_full) ∷ []) done in
-    let mine = names_of_module m in
-    ap (λ (xs : List Module). U (is_some (module_of xs m.name)) (with_names s.names mine) (nat_lt (length xs) MOST_MODULES) (is_full s)) at.modules_are
-    ∙ ap (λ (ns : List (List ℕ)). U (is_some (module_of (contents ms) m.name)) (with_names ns mine) (nat_lt (length (contents ms)) MOST_MODULES) (is_full s)) at.names_are
-    ∙ ap₂ (λ p r. U p (with_names (texts_of names) mine) r (is_full s)) absent (ap (λ n. nat_lt n MOST_MODULES) (modules_count ms) ∙ less)
-    ∙ ap (U there (with_names (texts_of names) mine) room) (at.full_is ∙ free)
-    ∙ ap V (ap are_too_many (sym (of_module (texts_of names) m)) ∙ many_is (length (with_texts (texts_of names) (own_names m))) ∙ few)
+-- as many modules as there may be
+pub draft_limit : (ms : List Numbered) (names : List Known) (full : Bool) (d : Numbered) → is_some (module_of (contents ms) d.content.name) ≡ false → nat_lt MOST_NAMES (length (with_texts (texts_of names) (own_names d.content))) ≡ false → MOST_MODULES ≤ length ms → DraftsAs ms names full d (Some Limit)
+draft_limit ms names full d absent few many = λ s at.
+    let n = length (with_names (texts_of names) (names_of_module d.content)) in
+    rw (at.modules_are, absent, at.names_are, le-leb n MOST_NAMES (few_names names d.content few), modules_count ms, le-ltb (length ms) MOST_MODULES many) refl
+
+-- a full journal
+pub draft_full : (ms : List Numbered) (names : List Known) (full : Bool) (d : Numbered) → is_some (module_of (contents ms) d.content.name) ≡ false → nat_lt MOST_NAMES (length (with_texts (texts_of names) (own_names d.content))) ≡ false → length ms < MOST_MODULES → full ≡ true →
+    DraftsAs ms names full d (Some Journal)
+draft_full ms names full d absent few less none = λ s at.
+    let n = length (with_names (texts_of names) (names_of_module d.content)) in
+    rw (at.modules_are, absent, at.names_are, le-leb n MOST_NAMES (few_names names d.content few), modules_count ms, lt-ltb (length ms) MOST_MODULES less, at.full_is, none) refl
 
 -- a module that may be loaded
 pub draft_loads : (ms : List Numbered) (names : List Known) (full : Bool) (d : Numbered) → ReadsDraft names (own_names d.content) d.row → is_numbered ms (number_of d) ≡ false → is_some (module_of (contents ms) d.content.name) ≡ false →
     nat_lt MOST_NAMES (length (with_texts (texts_of names) (own_names d.content))) ≡ false → length ms < MOST_MODULES → full ≡ false → IsDraft ms names full d
-draft_loads ms names full d reads new absent few less room = record {
-  reads = reads;
-  new = new;
-  absent = absent;
-  few = ltb-false MOST_NAMES (length (with_texts (texts_of names) (own_names d.content))) few;
-  modules_few = less;
-  room = room;
-  loads = load_by ms names full d.content false false true false absent few (lt-ltb (length ms) MOST_MODULES less) room;
-}
+draft_loads ms names full d reads new absent few less room =
+    let n = length (with_names (texts_of names) (names_of_module d.content)) in
+    let le = few_names names d.content few in
+    let is : length (with_texts (texts_of names) (own_names d.content)) ≡ n = ap length (of_module (texts_of names) d.content) in
+    record {
+      reads = reads;
+      new = new;
+      absent = absent;
+      few = omega arith;
+      modules_few = less;
+      room = room;
+      loads = λ s at. rw (at.modules_are, absent, at.names_are, le-leb n MOST_NAMES le, modules_count ms, lt-ltb (length ms) MOST_MODULES less, at.full_is, room) refl;
+    }
 
 -- ---- sources
 
@@ -102,12 +161,25 @@ more_entry entries most = by (nat_lt entries most) refl
     by true e r = ltb-true entries most e
     by false e r = absurd (cc)
 
+-- a module that was drafted
+pub drafted_at : {C R : Type 0} (ms : List Numbered) (names : List Known) (full : Bool) (source : List ℕ) (l : Loading C R) (d : Numbered) → LoadsAs ms names full source l → l ≡ Drafted d → IsDraftOf ms names full source d
+drafted_at {C} {R} ms names full source l d is e = let P : Loading C R → Type 0 = λ x. LoadsAs ms names full source x in subst P e is
+
+-- as was found by whether the journal is full
+pub drafted_in : {C R : Type 0} (a : Account) (full : Bool) (source : List ℕ) (l : Loading C R) (d : Numbered) → full ≡ has_no_room a → LoadsAs a.modules a.names full source l → l ≡ Drafted d → IsDraftOf a.modules a.names (has_no_room a) source d
+drafted_in {C} {R} a full source l d room loads is = drafted_at a.modules a.names (has_no_room a) source l d (subst (λ b. LoadsAs a.modules a.names b source l) room loads) is
+
 -- its code stands where the loading says
 pub stands_at : {C R : Type 0} (has : ℕ × ℕ → Type 0) (l : Loading C R) (d : Numbered) → StandsIn has l → l ≡ Drafted d → has d.place
 stands_at {C} {R} has l d is e = let P : Loading C R → Type 0 = λ x. StandsIn has x in subst P e is
 
--- what comes of a source, as was found of an account by what it keeps and whether its journal is full
-pub loads_by : {C R : Type 0} (a b : Account) (full : Bool) (source : List ℕ) (l k : Loading C R) → a ≡ b → ((f : Reading) → full ≡ is_full (state_of f b)) → LoadsAs a.modules a.names full source l → l ≡ k → LoadsAs b.modules b.names (has_no_room b) source k
-loads_by {C} {R} a b full source l k view is loads e =
-    let L : Account → Bool → Loading C R → Type 0 = λ z v x. LoadsAs z.modules z.names v source x in
-    subst (L b (has_no_room b)) e (subst (λ v. L b v l) (is (λ c. [])) (subst (λ z. L z full l) view loads))
+-- whether its journal is full, as was found of an account
+pub full_of : (a b : Account) (full : Bool) → a ≡ b → ((f : Reading) → full ≡ is_full (state_of f b)) → full ≡ has_no_room a
+full_of a b full view is = is (λ c. []) ∙ ap has_no_room (sym view)
+
+-- an account refuses a load as was found by its modules, its names and its entries
+pub refused_load : {C R : Type 0} (a b : Account) (full : Bool) (source : List ℕ) (l : Loading C R) (r : Refusal) → l ≡ Refused r → full ≡ has_no_room a → LoadsAs a.modules a.names full source l → a ≡ b → (f : Reading) → step (state_of f b) (load source) ≡ refuse (state_of f b) (refusal_of r)
+refused_load {C} {R} a b full source l r e room loads view f =
+    let L : Loading C R → Type 0 = λ z. LoadsAs a.modules a.names (has_no_room a) source z in
+    let P : Account → Type 0 = λ z. step (state_of f z) (load source) ≡ refuse (state_of f z) (refusal_of r) in
+    subst P view (subst L e (subst (λ b. LoadsAs a.modules a.names b source l) room loads) (state_of f a) (record { modules_are = refl; names_are = refl; full_is = refl }))

@@ -1,6 +1,27 @@
 -- An account and its machine: what always holds of the one, and what holds of the other between events.
-use Rattle.kl1_user_account.proofs.Words.{◌≡◌, ℕ, suc, ◌≤◌, false, List, [], length, refl, sym, ap, ◌∙◌, subst, Rules, limits_of, State, point_of, Known, Numbered, Program, Reading, Fits, Account, texts_of, state_of, NameShelf, AreSmall, names_with, worked, Machine, made, IsBegun, IsRested, ReadsAlike, Inside, IsKept, CountsWork}
-use Rattle.std.proofs.Common.{Option, None}
+use Rattle.std.proofs.Common.{◌≡◌, ℕ, ◌≤◌, false, List, [], length, Option, None, refl, sym, ap, ◌∙◌, subst}
+use Rattle.kl1_model.specs.declared.rules.Rules.{Rules}
+use Rattle.kl1_model.specs.Rules.{limits_of}
+use Rattle.kl1_model.specs.State.{State}
+use Rattle.kl1_store.specs.Held.{Held}
+use Rattle.kl1_store.specs.Hooks.{Hook, point_of}
+use Rattle.kl1_goals.specs.Rows.{Rowed}
+use Rattle.kl1_text.specs.declared.cell_name.CellName.{CellName}
+use Rattle.kl1_atoms.specs.declared.known.Known.{Known}
+use Rattle.kl1_shoen_paths.specs.declared.shoen.Shoen.{Shoen}
+use Rattle.kl1_codes.specs.Numbered.{Numbered}
+use Rattle.kl1_codes.specs.Finding.{contents}
+use Rattle.kl1_codes.specs.Shelves.{Program}
+use Rattle.kl1_user_effects.specs.Fitting.{Reading, Fits}
+use Rattle.kl1_user_effects.specs.Account.{Account, texts_of, state_of}
+use Rattle.kl1_user_effects.specs.Naming.{NameShelf, AreSmall}
+use Rattle.kl1_user_effects.specs.Drafts.{names_with}
+use Rattle.kl1_user_effects.specs.Works.{worked}
+use Rattle.kl1_machine.specs.declared.machine.Machine.{Machine}
+use Rattle.kl1_machine.specs.Machines.{made, IsBegun, IsBack, Keeps, IsUnder}
+use Rattle.kl1_machine.specs.Rested.{IsRested}
+use Rattle.kl1_machine.specs.Reducing.{ReadsAlike}
+use Rattle.kl1_user_account.specs.Keeping.{IsKept, CountsWork}
 
 -- what an account has besides its machine
 pub record Aside : Type 0 where
@@ -9,9 +30,6 @@ pub record Aside : Type 0 where
   pub entries : ℕ
   pub run : ℕ
   pub sessions : ℕ
-
-abbrev pub aside_of : {C R : Type 0} → Inside C R → Aside
-aside_of u = record { own_name = u.name; modules = u.modules.loaded; entries = u.entries; run = u.run; sessions = u.sessions }
 
 -- the account with a machine
 abbrev pub account_of : Aside → Machine → Account
@@ -37,78 +55,114 @@ account_of x m = record {
 abbrev pub program_in : Aside → Machine → Program
 program_in x m = record { rules = m.rules; loaded = x.modules }
 
--- a state that has what is beside the machine
-abbrev pub state_aside : Aside → Machine → State
-state_aside x m = state_of (λ c. []) (account_of x m)
+-- the state of the account but for what its machine makes of it
+abbrev pub state_aside : Aside → Rules → State
+state_aside x rules = record {
+  own_name = x.own_name;
+  rules = rules;
+  goals = [];
+  shoens = [];
+  work = [];
+  modules = contents x.modules;
+  names = [];
+  last_variable = 0;
+  last_goal = 0;
+  last_shoen = 0;
+  variables = 0;
+  nodes = 0;
+  reports = 0;
+  entries = x.entries;
+  run = x.run;
+  sessions = x.sessions;
+}
 
 -- the state of an account is what its machine makes, if it has no new name
-pub state_is : (f : Reading) (x : Aside) (m : Machine) → m.name ≡ None → state_of f (account_of x m) ≡ worked f (state_aside x m) m.store.held (made m)
-state_is f x m none = ap (λ (o : Option (List ℕ)). worked f (state_aside x m) m.store.held (record (made m) { names = names_with (texts_of m.names.names) o })) (sym none)
+pub state_is : (f : Reading) (x : Aside) (m : Machine) → m.name ≡ None → state_of f (account_of x m) ≡ worked f (state_aside x m.rules) m.store.held (made m)
+state_is f x m none = ap (λ (o : Option (List ℕ)). worked f (state_aside x m.rules) m.store.held (record (made m) { names = names_with (texts_of m.names.names) o })) (sym none)
 
 -- ---- what holds of the one holds of the other
 
--- what always holds of an account with a machine
-abbrev pub Holds : Aside → Machine → Type 0
-Holds x m = IsKept (account_of x m) m.store.hooks m.goals.shoens m.goals.last × CountsWork (length m.shoens.work) x.entries x.run
-
 -- the machine of an account rests
-pub kept_rested : (x : Aside) (m : Machine) → Holds x m → IsRested (program_in x m) m
-kept_rested x m h =
-    let k = h.0 in
-    record {
-      machine = record { inside = record { some = k.some; goals = k.goals; shoens = k.shoens; owned = k.owned }; last = k.last; placed = k.placed; known = k.count };
-      rules = refl;
-      first = k.first;
-      rows = k.rows;
-      settled = k.settled;
-      enabled = k.enabled;
-    }
+pub kept_rested : (x : Aside) (m : Machine) → IsKept (account_of x m) m.store.hooks m.goals.shoens → IsRested (program_in x m) m
+kept_rested x m k = record {
+  machine = record { inside = record { some = k.some; goals = k.goals; shoens = k.shoens; owned = k.owned }; last = k.last; known = k.count };
+  rules = refl;
+  first = k.first;
+  rows = k.rows;
+  settled = k.settled;
+  enabled = k.enabled;
+}
 
 -- readings of the names read the same of it
-pub kept_alike : (x : Aside) (m : Machine) → Holds x m → ReadsAlike m
-kept_alike x m h = λ f g one two s.
-    ap (λ (z : State). let y : State = record (worked f s m.store.held (made m)) { goals = z.goals; shoens = z.shoens } in y) (h.0.named f g one two)
+pub kept_alike : (x : Aside) (m : Machine) → IsKept (account_of x m) m.store.hooks m.goals.shoens → ReadsAlike m
+kept_alike x m k = λ f g one two s.
+    ap (λ (z : State). let y : State = record (worked f s m.store.held (made m)) { goals = z.goals; shoens = z.shoens } in y) (k.named f g one two)
 
--- what an event has left of an account whose machine rests: readings of its names read the same, and its journal has room and counts
-pub record Leaves (y : Aside) (m : Machine) : Type 0 where
-  pub rested : IsRested (program_in y m) m
-  pub most : y.entries ≤ (limits_of m.rules).entries
-  pub small : AreSmall m.names.names
-  pub named : (f g : Reading) → Fits m.names.names f → Fits m.names.names g → state_of f (account_of y m) ≡ state_of g (account_of y m)
-  pub counts : CountsWork (length m.shoens.work) y.entries y.run
+-- a machine rests by a program that is the same
+pub rested_by : (p q : Program) (m : Machine) → p ≡ q → IsRested p m → IsRested q m
+rested_by p q m e r = subst (λ (z : Program). IsRested z m) e r
 
--- what always holds holds of it, by whatever name what is beside the machine goes
-pub left_holds : (x y : Aside) (m : Machine) → x ≡ y → Leaves y m → Holds x m
-left_holds x y m same l =
-    let r = l.rested in
-    let H : Aside → Type 0 = λ z. Holds z m in
-    subst H (sym same) (
-      record {
-        some = r.machine.inside.some;
-        goals = r.machine.inside.goals;
-        owned = r.machine.inside.owned;
-        shoens = r.machine.inside.shoens;
-        count = r.machine.known;
-        first = r.first;
-        last = r.machine.last;
-        placed = r.machine.placed;
-        most = l.most;
-        settled = r.settled;
-        enabled = r.enabled;
-        rows = r.rows;
-        named = l.named;
-        small = l.small;
-      },
-      l.counts,
-    )
+-- what always holds holds of an account whose machine rests
+pub rested_kept : (x : Aside) (m : Machine) → IsRested (program_in x m) m → x.entries ≤ (limits_of m.rules).entries → AreSmall m.names.names → ((f g : Reading) → Fits m.names.names f → Fits m.names.names g → state_of f (account_of x m) ≡ state_of g (account_of x m)) → IsKept (account_of x m) m.store.hooks m.goals.shoens
+rested_kept x m r most small named = record {
+  some = r.machine.inside.some;
+  goals = r.machine.inside.goals;
+  owned = r.machine.inside.owned;
+  shoens = r.machine.inside.shoens;
+  count = r.machine.known;
+  first = r.first;
+  last = r.machine.last;
+  most = most;
+  settled = r.settled;
+  enabled = r.enabled;
+  rows = r.rows;
+  named = named;
+  small = small;
+}
 
--- ---- an event that begins
+-- ---- machines that are the same to an account
+
+-- two machines are the same to an account
+pub record IsSame (m b : Machine) : Type 0 where
+  pub account : (x : Aside) → account_of x b ≡ account_of x m
+  pub hooks : b.store.hooks ≡ m.store.hooks
+  pub known : b.goals.shoens ≡ m.goals.shoens
+
+pub same_self : (m : Machine) → IsSame m m
+same_self m = record { account = λ x. refl; hooks = refl; known = refl }
+
+pub same_then : (m b c : Machine) → IsSame m b → IsSame b c → IsSame m c
+same_then m b c one two = record { account = λ x. two.account x ∙ one.account x; hooks = two.hooks ∙ one.hooks; known = two.known ∙ one.known }
+
+-- what always holds stays
+pub same_kept : (x : Aside) (m b : Machine) → IsSame m b → IsKept (account_of x m) m.store.hooks m.goals.shoens → IsKept (account_of x b) b.store.hooks b.goals.shoens
+same_kept x m b s k =
+    let A : Account → Type 0 = λ z. IsKept z m.store.hooks m.goals.shoens in
+    let H : List Hook → Type 0 = λ hs. IsKept (account_of x b) hs m.goals.shoens in
+    let N : ℕ → Type 0 = λ n. IsKept (account_of x b) b.store.hooks n in
+    subst N (sym s.known) (subst H (sym s.hooks) (subst A (sym (s.account x)) k))
+
+-- the charged work is counted as before
+pub same_counts : (x : Aside) (m b : Machine) → IsSame m b → CountsWork (length m.shoens.work) x.entries x.run → CountsWork (length b.shoens.work) x.entries x.run
+same_counts x m b s c = subst (λ n. CountsWork n x.entries x.run) (sym (ap (λ (a : Account). length a.work) (s.account x))) c
+
+-- all that always holds of an account
+pub same_both : (x : Aside) (m b : Machine) → IsSame m b → IsKept (account_of x m) m.store.hooks m.goals.shoens × CountsWork (length m.shoens.work) x.entries x.run → IsKept (account_of x b) b.store.hooks b.goals.shoens × CountsWork (length b.shoens.work) x.entries x.run
+same_both x m b s k = (same_kept x m b s k.0, same_counts x m b s k.1)
+
+-- a machine that has room for more names is the same
+pub roomed_same : (m b : Machine) → b ≡ record m { names = b.names } → b.names.names ≡ m.names.names → IsSame m b
+roomed_same m b is names = record {
+  account = λ x. ap (account_of x) is ∙ ap (λ (ks : List Known). let a : Account = record (account_of x m) { names = ks } in a) names;
+  hooks = ap (λ (z : Machine). z.store.hooks) is;
+  known = ap (λ (z : Machine). z.goals.shoens) is;
+}
 
 -- a machine with which an event has begun
-abbrev begun_from : Machine → Machine → Machine
+abbrev pub begun_from : Machine → Machine → Machine
 begun_from m b = record m {
   mark = point_of m.store;
-  goals = record m.goals { begun = m.goals.goals; begun_shoens = m.goals.shoens; begun_last = m.goals.last };
+  goals = record m.goals { begun = m.goals.goals; begun_shoens = m.goals.shoens };
   shoens = record m.shoens { kept = m.shoens.shoens; kept_work = m.shoens.work };
   begun = m.counts;
   name = None;
@@ -117,56 +171,54 @@ begun_from m b = record m {
   shifts = false;
 }
 
--- an event has begun with the machine of an account, which may have got room for names before, and is lent its modules
-pub record Began : Type 0 where
-  pub aside : Aside
-  pub machine : Machine
-  pub account : Account
-  pub program : Program
-  pub begun : IsBegun machine
-  pub holds : Holds aside machine
-  pub is : account_of aside machine ≡ account
-  pub lent : program ≡ program_in aside machine
+pub begun_same : (m b : Machine) → b ≡ begun_from m b → IsSame m b
+begun_same m b is = record { account = λ x. ap (account_of x) is; hooks = ap (λ (z : Machine). z.store.hooks) is; known = ap (λ (z : Machine). z.goals.shoens) is }
 
-abbrev pub began : (x : Aside) (m b : Machine) (names : NameShelf) (a : Account) (program : Program) → names.names ≡ m.names.names → b ≡ begun_from (record m { names = names }) b → IsBegun b → account_of x m ≡ a → program ≡ program_in x m → Holds x m → Began
-began x m b names a program same is begun view lent h =
-    let A : List Known → Account = λ ks. record (account_of x m) { names = ks } in
-    let H : List Known → Type 0 = λ ks. IsKept (A ks) m.store.hooks m.goals.shoens m.goals.last × CountsWork (length m.shoens.work) x.entries x.run in
-    record {
-      aside = x;
-      machine = b;
-      account = a;
-      program = program;
-      begun = begun;
-      holds = (let K : Machine → Type 0 = λ z. Holds x z in subst K (sym is) (subst H (sym same) h));
-      is = ap (account_of x) is ∙ ap A same ∙ view;
-      lent = lent ∙ sym (ap (program_in x) is);
-    }
+-- a machine that went back is the same as the event began with
+pub back_same : (b m : Machine) → IsBack b m → IsSame b m
+back_same b m i = record {
+  account = λ x.
+      ap (account_of x) i.rest
+      ∙ ap (λ (h : Held CellName). let a : Account = record (account_of x m) { rules = b.rules; held = h; names = b.names.names; last_goal = b.counts.last_goal; variables = b.counts.variables; nodes = b.counts.nodes; reports = b.counts.reports } in a) i.held
+      ∙ ap (λ (r : Rowed CellName). let a : Account = record (account_of x b) { goals = r.goals; shoens = m.shoens.shoens; work = m.shoens.work } in a) i.goals
+      ∙ ap (λ (ss : List (Shoen CellName)). let a : Account = record (account_of x b) { shoens = ss; work = m.shoens.work } in a) i.shoens
+      ∙ ap (λ (ws : List ℕ). let a : Account = record (account_of x b) { work = ws } in a) i.work;
+  hooks = i.hooks;
+  known = ap (λ (r : Rowed CellName). r.shoens) i.goals;
+}
 
--- the machine rests by the modules that are lent
-pub began_rested : (e : Began) → IsRested e.program e.machine
-began_rested e = subst (λ (p : Program). IsRested p e.machine) (sym e.lent) (kept_rested e.aside e.machine e.holds)
+-- what is there to go back to, if an event that began with this machine has kept it
+pub under : (b m : Machine) → IsBegun b → Keeps b m → IsUnder m
+under b m is keeps = record { begun = b; is = is; keeps = keeps }
 
--- the state is what the machine makes of what is beside it
-pub began_state : (e : Began) (f : Reading) → state_of f e.account ≡ worked f (state_aside e.aside e.machine) e.machine.store.held (made e.machine)
-began_state e f = ap (state_of f) (sym e.is) ∙ state_is f e.aside e.machine e.begun.name
+-- ---- an event that begins
 
--- ---- an event that ends
+-- an event has begun with an account's machine, which may have got room for names before
+pub record Begins (x : Aside) (m b : Machine) : Type 0 where
+  pub same : IsSame m b
+  pub begun : IsBegun b
+  pub kept : IsKept (account_of x b) b.store.hooks b.goals.shoens
+  pub counted : CountsWork (length b.shoens.work) x.entries x.run
 
--- a machine that rests by the modules that were lent has the rules that there were, and rests by the account's modules
-pub rules_after : (e : Began) (v : Machine) → IsRested e.program v → v.rules ≡ e.machine.rules
-rules_after e v r = sym r.rules ∙ ap (λ (p : Program). p.rules) e.lent
+pub begins : (x : Aside) (m b : Machine) (names : NameShelf) → names.names ≡ m.names.names → b ≡ begun_from (record m { names = names }) b → IsBegun b → IsKept (account_of x m) m.store.hooks m.goals.shoens × CountsWork (length m.shoens.work) x.entries x.run → Begins x m b
+begins x m b names same is begun k =
+    let s = same_then m (record m { names = names }) b (roomed_same m (record m { names = names }) refl same) (begun_same (record m { names = names }) b is) in
+    record { same = s; begun = begun; kept = same_kept x m b s k.0; counted = same_counts x m b s k.1 }
 
-pub rested_after : (e : Began) (v : Machine) → IsRested e.program v → IsRested (program_in e.aside v) v
-rested_after e v r =
-    let Q : Rules → Program = λ k. record { rules = k; loaded = e.aside.modules } in
-    subst (λ (p : Program). IsRested p v) (e.lent ∙ ap Q (sym (rules_after e v r))) r
+-- its machine rests by the modules that are lent
+pub begun_rested : (x : Aside) (m b : Machine) (program : Program) → Begins x m b → program ≡ program_in x b → IsRested program b
+begun_rested x m b program g is = rested_by (program_in x b) program b (sym is) (kept_rested x b g.kept)
 
--- what is beside the machine with one entry more, which is no run
-abbrev pub noted : Aside → Aside
-noted x = record x { entries = suc x.entries; run = 0 }
+-- what always holds of an account whose machine went back
+pub back_both : (x : Aside) (m b n : Machine) → Begins x m b → IsBack b n → IsKept (account_of x n) n.store.hooks n.goals.shoens × CountsWork (length n.shoens.work) x.entries x.run
+back_both x m b n g i = same_both x b n (back_same b n i) (g.kept, g.counted)
 
--- an event has left an account with machine `v`, by states of which this is so
-pub record Ends (a : Account) (Steps : State → State → Type 0) (y : Aside) (v : Machine) : Type 0 where
-  pub holds : Holds y v
-  pub states : (f : Reading) → Fits v.names.names f → Steps (state_of f a) (state_of f (account_of y v))
+-- and it is what it was
+pub back_account : (x : Aside) (m b n : Machine) → Begins x m b → IsBack b n → account_of x n ≡ account_of x m
+back_account x m b n g i = (back_same b n i).account x ∙ g.same.account x
+
+-- what always holds of an account whose machine is as when the event began
+pub still_both : (x : Aside) (m b n : Machine) → Begins x m b → n ≡ b → IsKept (account_of x n) n.store.hooks n.goals.shoens × CountsWork (length n.shoens.work) x.entries x.run
+still_both x m b n g is =
+    let P : Machine → Type 0 = λ z. IsKept (account_of x z) z.store.hooks z.goals.shoens × CountsWork (length z.shoens.work) x.entries x.run in
+    subst P (sym is) (g.kept, g.counted)

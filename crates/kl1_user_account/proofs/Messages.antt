@@ -1,53 +1,74 @@
 -- A message to a shoen of an account, which its machine is sent.
-use Rattle.kl1_user_account.proofs.Words.{◌≡◌, ℕ, suc, ◌≤◌, List, length, refl, sym, ap, ◌∙◌, subst, arith, Message, control, sent, refused, Transition, limits_of, State, step, Reads, Refusal, refusal_of, Reading, Fits, built, Account, state_of, NameShelf, AreSmall, Machine, Trail, Keeps, Sends, IsRefusedMessage, refused_as, CountsWork}
+use Rattle.std.proofs.Common.{◌≡◌, ℕ, suc, ◌≤◌, List, length, None, refl, sym, ap, ◌∙◌, subst, arith}
+use Rattle.kl1_model.specs.declared.rules.Rules.{Rules}
+use Rattle.kl1_model.specs.declared.message.Message.{Message}
+use Rattle.kl1_model.specs.Event.{control, sent, refused, Transition}
+use Rattle.kl1_model.specs.Rules.{limits_of}
+use Rattle.kl1_model.specs.State.{State}
+use Rattle.kl1_model.specs.Step.{step}
+use Rattle.kl1_text.specs.Reading.{Reads}
+use Rattle.kl1_codes.specs.Shelves.{Program}
+use Rattle.kl1_user_events.specs.declared.refusal.Refusal.{Refusal}
+use Rattle.kl1_user_events.specs.Views.{refusal_of}
+use Rattle.kl1_user_effects.specs.Fitting.{Reading, Fits, built}
+use Rattle.kl1_user_effects.specs.Account.{Account, state_of}
+use Rattle.kl1_user_effects.specs.Naming.{NameShelf, AreSmall}
+use Rattle.kl1_machine.specs.declared.machine.Machine.{Machine}
+use Rattle.kl1_machine.specs.Machines.{Trail, Keeps}
+use Rattle.kl1_machine.specs.Sending.{Sends, IsRefusedMessage}
+use Rattle.kl1_machine.proofs.Sending.{refused_as}
+use Rattle.kl1_user_account.specs.Keeping.{IsKept, CountsWork}
 use Rattle.kl1_user_account.proofs.Counting.{counts_entry}
-use Rattle.kl1_user_account.proofs.Machines.{Aside, account_of, state_aside, state_is, Holds, Leaves, left_holds, Began, began_state, rules_after, rested_after, noted}
+use Rattle.kl1_user_account.proofs.Machines.{Aside, account_of, program_in, state_aside, state_is, rested_by, rested_kept}
 
-module _ (e : Began) (n : ℕ) (message : Message) (u : Machine) (y : Aside) (s : Sends e.program e.aside.entries n message e.machine u) (keeps : Keeps e.machine u) (beside : y ≡ noted e.aside) where
-  abbrev m : Machine
-  m = e.machine
+-- what is beside the machine with one entry more in the journal, which is no run
+abbrev pub entered : Aside → Aside
+entered x = record x { entries = suc x.entries; run = 0 }
 
-  abbrev z : Aside
-  z = noted e.aside
+-- the step is the message
+sent_steps : (x : Aside) (program : Program) (m u : Machine) (n : ℕ) (message : Message) → m.name ≡ None → Sends program x.entries n message m u → (f : Reading) → Reads built f →
+    step (state_of f (account_of x m)) (control n message) ≡ record { state = state_of f (account_of (entered x) u); reply = sent }
+sent_steps x program m u n message none s f reads =
+    let T : State → Transition = λ z. record { state = z; reply = sent } in
+    ap (λ (z : State). step z (control n message)) (state_is f x m none)
+    ∙ s.steps f reads (state_aside x m.rules) refl
+    ∙ ap T (sym (state_is f (entered x) u (s.named.name ∙ none)))
 
-  -- the step is the message
-  steps : (f : Reading) → Reads built f → step (state_of f e.account) (control n message) ≡ record { state = state_of f (account_of z u); reply = sent }
-  steps f reads =
-      let T : State → Transition = λ t. record { state = t; reply = sent } in
-      ap (λ (t : State). step t (control n message)) (began_state e f)
-      ∙ s.steps f reads (state_aside e.aside m) refl
-      ∙ ap T (sym (state_is f z u (s.named.name ∙ e.begun.name)))
+pub sent_step : (x y : Aside) (program : Program) (m u : Machine) (a : Account) (n : ℕ) (message : Message) → account_of x m ≡ a → m.name ≡ None → Sends program x.entries n message m u → y ≡ entered x → (f : Reading) → Reads built f →
+    step (state_of f a) (control n message) ≡ record { state = state_of f (account_of y u); reply = sent }
+sent_step x y program m u a n message is none s same f reads =
+    let T : State → Transition = λ z. record { state = z; reply = sent } in
+    ap (λ (b : Account). step (state_of f b) (control n message)) (sym is) ∙ sent_steps x program m u n message none s f reads ∙ ap (λ (z : Aside). T (state_of f (account_of z u))) (sym same)
 
-  -- what always holds of the account after it
-  left : Leaves z u
-  left =
-      let names : u.names ≡ m.names = ap (λ (t : Trail). t.names) keeps.trail in
-      let S : NameShelf → Type 0 = λ k. AreSmall k.names in
-      let F : Reading → NameShelf → Type 0 = λ f k. Fits k.names f in
-      let T : Transition → State = λ t. t.state in
-      let j = s.journal in
-      record {
-        rested = rested_after e u s.rested;
-        most = subst (λ r. suc e.aside.entries ≤ (limits_of r).entries) (sym (rules_after e u s.rested)) (omega (arith, j));
-        small = subst S (sym names) e.holds.0.small;
-        named = λ f g one two.
-            ap T (sym (steps f one.reads))
-            ∙ ap (λ (a : Account). (step (state_of f a) (control n message)).state) (sym e.is)
-            ∙ ap (λ (t : State). (step t (control n message)).state) (e.holds.0.named f g (subst (F f) names one) (subst (F g) names two))
-            ∙ ap (λ (a : Account). (step (state_of g a) (control n message)).state) e.is
-            ∙ ap T (steps g two.reads);
-        counts = subst (λ (ws : List ℕ). CountsWork (length ws) (suc e.aside.entries) 0) (sym s.work) (counts_entry (length m.shoens.work) e.aside.entries e.aside.run e.holds.1);
-      }
+-- all that always holds of an account holds after it
+pub sent_kept : (x y : Aside) (program : Program) (m u : Machine) (n : ℕ) (message : Message) → program ≡ program_in x m → m.name ≡ None → Keeps m u → Sends program x.entries n message m u → y ≡ entered x → IsKept (account_of x m) m.store.hooks m.goals.shoens →
+    IsKept (account_of y u) u.store.hooks u.goals.shoens
+sent_kept x y program m u n message is none keeps s same k =
+    let K : Aside → Type 0 = λ z. IsKept (account_of z u) u.store.hooks u.goals.shoens in
+    let names : u.names ≡ m.names = ap (λ (t : Trail). t.names) keeps.trail in
+    let rules : u.rules ≡ m.rules = ap (λ (t : Trail). t.rules) keeps.trail in
+    let at : program ≡ program_in (entered x) u = is ∙ ap (λ (r : Rules). let p : Program = record { rules = r; loaded = x.modules } in p) (sym rules) in
+    let S : NameShelf → Type 0 = λ z. AreSmall z.names in
+    subst K (sym same) (rested_kept (entered x) u (rested_by program (program_in (entered x) u) u at s.rested) (subst (λ r. suc x.entries ≤ (limits_of r).entries) (sym rules) (let j = s.journal in omega (arith, j))) (subst S (sym names) k.small) (λ f g one two.
+    let F : NameShelf → Type 0 = λ z. Fits z.names f in
+    let G : NameShelf → Type 0 = λ z. Fits z.names g in
+    ap (λ (t : Transition). t.state) (sym (sent_steps x program m u n message none s f one.reads))
+    ∙ ap (λ (z : State). (step z (control n message)).state) (k.named f g (subst F names one) (subst G names two))
+    ∙ ap (λ (t : Transition). t.state) (sent_steps x program m u n message none s g two.reads)))
 
-  pub sent_ends : Holds y u × ((f : Reading) → Reads built f → step (state_of f e.account) (control n message) ≡ record { state = state_of f (account_of y u); reply = sent })
-  sent_ends = (left_holds y z u beside left, λ f reads. steps f reads ∙ ap (λ (k : Aside). let t : Transition = record { state = state_of f (account_of k u); reply = sent } in t) (sym beside))
+-- and the charged reductions are counted
+pub sent_counts : (x y : Aside) (program : Program) (m u : Machine) (n : ℕ) (message : Message) → Sends program x.entries n message m u → y ≡ entered x → CountsWork (length m.shoens.work) x.entries x.run → CountsWork (length u.shoens.work) y.entries y.run
+sent_counts x y program m u n message s same w =
+    let C : Aside → Type 0 = λ z. CountsWork (length u.shoens.work) z.entries z.run in
+    subst C (sym same) (subst (λ (ws : List ℕ). CountsWork (length ws) (suc x.entries) 0) (sym s.work) (counts_entry (length m.shoens.work) x.entries x.run w))
 
 -- the step is refused
-pub refused_message : (e : Began) (u : Machine) (n : ℕ) (message : Message) (r : Refusal) → IsRefusedMessage e.aside.entries n message e.machine u r → (f : Reading) →
-    step (state_of f e.account) (control n message) ≡ record { state = state_of f (account_of e.aside u); reply = refused (refusal_of r) }
-refused_message e u n message r i f =
+pub refused_message : (x : Aside) (m u : Machine) (a : Account) (n : ℕ) (message : Message) (r : Refusal) → account_of x m ≡ a → m.name ≡ None → IsRefusedMessage x.entries n message m u r → (f : Reading) →
+    step (state_of f a) (control n message) ≡ record { state = state_of f (account_of x u); reply = refused (refusal_of r) }
+refused_message x m u a n message r is none i f =
     let T : State → Transition = λ z. record { state = z; reply = refused (refusal_of r) } in
-    ap (λ (z : State). step z (control n message)) (began_state e f)
-    ∙ refused_as e.machine e.aside.entries n message r i.refuses f (state_aside e.aside e.machine) refl
-    ∙ ap T (sym (state_is f e.aside e.machine e.begun.name))
-    ∙ ap (λ (z : Machine). T (state_of f (account_of e.aside z))) (sym i.same)
+    ap (λ (b : Account). step (state_of f b) (control n message)) (sym is)
+    ∙ ap (λ (z : State). step z (control n message)) (state_is f x m none)
+    ∙ refused_as m x.entries n message r i.refuses f (state_aside x m.rules) refl
+    ∙ ap T (sym (state_is f x m none))
+    ∙ ap (λ (z : Machine). T (state_of f (account_of x z))) (sym i.same)

@@ -1,12 +1,26 @@
 -- The name of an account is a name.
-use Rattle.kl1_user_account.proofs.Words.{◌≡◌, ℕ, suc, ◌≤◌, ◌&&◌, ◌||◌, true, List, [], ◌∷◌, length, IsTrue, refl, arith, inl, inr, list_all, false≢true, and_parts, and_from, or_cases, leb-true, le-leb, nat_tests, is_small_letter, is_text, is_name_byte, is_digit, MOST_ACCOUNT_NAME_BYTES, MOST_NAME_BYTES, is_account_name}
-use Rattle.std.proofs.Common.{nat_le}
+use Rattle.std.proofs.Common.{◌≡◌, ℕ, suc, ◌≤◌, nat_le, ◌&&◌, ◌||◌, true, List, [], ◌∷◌, length, IsTrue, refl, arith, inl, inr}
+use Rattle.std.specs.List.{list_all}
+use Rattle.std.proofs.lemmas.Bool.{false≢true, and_parts, and_from, or_cases, leb-true, le-leb}
+use Rattle.kl1_model.specs.Name.{is_small_letter}
+use Rattle.kl1_model.specs.Text.{is_text, is_name_byte}
+use Rattle.kl1_model.specs.Token.{is_digit}
+use Rattle.kl1_model.specs.declared.limits.TheConstants.{MOST_ACCOUNT_NAME_BYTES, MOST_NAME_BYTES}
+use Rattle.kl1_model.specs.AccountName.{is_account_name}
 
 letter_in_text : (b : ℕ) → is_small_letter b ≡ true → is_name_byte b ≡ true
-letter_in_text b h = grind (arith, nat_tests)
+letter_in_text b h =
+    let p = and_parts _ _ h in
+    let low = leb-true 97 b p.0 in
+    let high = leb-true b 122 p.1 in
+    and_from (nat_le 32 b) (nat_le b 126) (le-leb 32 b (omega arith)) (le-leb b 126 (omega arith))
 
 digit_in_text : (b : ℕ) → is_digit b ≡ true → is_name_byte b ≡ true
-digit_in_text b h = grind (arith, nat_tests)
+digit_in_text b h =
+    let p = and_parts _ _ h in
+    let low = leb-true 48 b p.0 in
+    let high = leb-true b 57 p.1 in
+    and_from (nat_le 32 b) (nat_le b 126) (le-leb 32 b (omega arith)) (le-leb b 126 (omega arith))
 
 bytes_in_text : (bs : List ℕ) → list_all (λ c. is_small_letter c || is_digit c) bs ≡ true → list_all is_name_byte bs ≡ true
 bytes_in_text [] h = refl

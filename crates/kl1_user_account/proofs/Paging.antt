@@ -1,11 +1,35 @@
 -- What is shown of shoens and goals, one after another from a number on.
-use Rattle.kl1_user_account.proofs.Words.{◌≡◌, ◌⊎◌, inl, inr, ℕ, zero, suc, ◌+◌, ◌-◌, ◌<◌, ◌≤◌, nat_lt, Bool, true, false, if◌then◌else◌, List, [], ◌∷◌, ◌++◌, map, take, drop, refl, sym, ap, ap₂, subst, ◌∙◌, arith, append_assoc, append-nil, Some, None, filter, find, slice_get, is_some, AllByRecursion, cases_lt, lt-ltb, le-ltb, le-leb, lt-leb, take-map, drop_more, drop_all, slice_get_within, get_or_from_slice_get, nat_tests, State, CellName, Hook, Task, Monitor, Reduces, Substitutes, Goal, is_after, Ascend, Shoen, found_at, AreNumbered, ShoenView, TaskKind, GoalView, shoen_view, shoen_page, kind_of, goal_view, goal_page, Reading, Fits, Account, Means, meaning, task_with, goal_with, shoen_with, state_of, IsKept, shoen_shown, kind_shown, goal_shown, same_goal}
-use Rattle.std.proofs.Common.{nat_le}
+use Rattle.std.proofs.Common.{◌≡◌, ◌⊎◌, inl, inr, ℕ, zero, suc, ◌+◌, ◌-◌, ◌<◌, ◌≤◌, ◌==◌, ◌&&◌, nat_lt, nat_le, not, Bool, true, false, if◌then◌else◌, List, [], ◌∷◌, ◌++◌, map, take, drop, length, count_by, refl, sym, ap, ap₂, ◌∙◌, arith, append_assoc, eq-eqb}
+use Rattle.std.specs.Prelude.{Option, Some, None, filter, find, cond, option_map, is_some}
+use Rattle.std.specs.List.{AllByRecursion}
+use Rattle.std.proofs.lemmas.Bool.{cases_lt, lt-ltb, le-ltb, le-leb, lt-leb, ne_eqb}
+use Rattle.std.proofs.lemmas.List.{take-map}
+use Rattle.std.proofs.lemmas.List.Sums.{sum_by-cons}
 use Rattle.kl1_model.specs.State as model
-use Rattle.kl1_goals.specs.Lists.{number_of}
-use Rattle.kl1_shoen.specs.Shoens.{has_number}
-use Rattle.kl1_user_account.proofs.Statuses.{shoen_read}
-use Rattle.kl1_user_account.proofs.Choosing.{AreStanding, IsStanding, stands_is, all_stand}
+use Rattle.kl1_model.specs.State.{State}
+use Rattle.kl1_model.specs.Tree.{charged_of}
+use Rattle.kl1_model.specs.Asking.{condition_of}
+use Rattle.kl1_text.specs.declared.cell_name.CellName.{CellName}
+use Rattle.kl1_store.specs.Hooks.{Hook}
+use Rattle.kl1_goals.specs.declared.task.Task.{Task}
+use Rattle.kl1_goals.specs.declared.task.Task.TheVariants.{Monitor, Reduces, Substitutes}
+use Rattle.kl1_goals.specs.declared.goal.Goal.{Goal}
+use Rattle.kl1_goals.specs.Lists.{number_of, is_after, is_goal_of, is_monitor}
+use Rattle.kl1_goals.specs.Readies.{stands}
+use Rattle.kl1_goals.specs.Tables.{Ascend}
+use Rattle.kl1_shoen_paths.specs.declared.shoen.Shoen.{Shoen}
+use Rattle.kl1_shoen.specs.Shoens.{has_number, AreNumbered, charged_in}
+use Rattle.kl1_user_events.specs.declared.shoen_view.ShoenView.{ShoenView}
+use Rattle.kl1_user_events.specs.declared.goal_view.TaskKind.{TaskKind}
+use Rattle.kl1_user_events.specs.declared.goal_view.GoalView.{GoalView}
+use Rattle.kl1_user_events.specs.Viewing.{parent_shown, is_goal_in, goals_in, shoen_view, shoen_page, kind_of, goal_view, goal_page}
+use Rattle.kl1_user_effects.specs.Fitting.{Reading}
+use Rattle.kl1_user_effects.specs.Account.{Account, Means, meaning, task_with, goal_with, shoen_with, state_of}
+use Rattle.kl1_user_effects.specs.Settled.{AreSettled, AreEnabled}
+use Rattle.kl1_user_effects.specs.Account.{program_of}
+use Rattle.kl1_user_account.specs.Viewed.{shoen_shown, kind_shown, goal_shown}
+use Rattle.kl1_user_account.proofs.Statuses.{charged_read, condition_read, monitor_read}
+use Rattle.kl1_user_account.proofs.Choosing.{AreStanding, IsStanding, stands_is, stand_in}
 
 -- ---- one more of a list
 
@@ -20,13 +44,21 @@ one_more f shown after all (suc left) x xs ys some e is more =
     ∙ ap (λ (zs : List _). shown ++ map f (take (suc left) zs)) (sym e)
     ∙ is
 
-take_nil : {A : Type 0} (n : ℕ) → ◌≡◌ {A = List A} (take n []) []
+-- nothing is left
+pub no_more : {A B : Type 0} (f : A → B) (shown all : List B) (left : ℕ) (ys : List A) → take left ys ≡ [] → shown ++ map f (take left ys) ≡ all → shown ≡ all
+no_more f shown all left ys none is = sym (append_nil shown) ∙ ap (λ (zs : List _). shown ++ map f zs) (sym none) ∙ is
+  where
+    append_nil : {B : Type 0} (bs : List B) → bs ++ [] ≡ bs
+    append_nil [] = refl
+    append_nil (b ∷ bs) = ap (λ (cs : List _). b ∷ cs) (append_nil bs)
+
+pub take_nil : {A : Type 0} (n : ℕ) → ◌≡◌ {A = List A} (take n []) []
 take_nil zero = refl
 take_nil (suc n) = refl
 
--- nothing is left
-pub no_more : {A B : Type 0} (f : A → B) (shown all : List B) (left : ℕ) (ys : List A) → ys ≡ [] → shown ++ map f (take left ys) ≡ all → shown ≡ all
-no_more f shown all left ys none is = sym (append-nil shown) ∙ ap (λ (zs : List _). shown ++ map f zs) (sym (ap (take left) none ∙ take_nil left)) ∙ is
+pub take_zero : {A : Type 0} (n : ℕ) (xs : List A) → n ≤ 0 → take n xs ≡ []
+take_zero zero xs le = refl
+take_zero (suc n) xs le = absurd (omega arith)
 
 -- ---- goals after a number
 
@@ -38,31 +70,28 @@ all_after n low (g ∷ gs) less up =
     ap (λ b. if b then g ∷ filter (is_after n) gs else filter (is_after n) gs) (lt-ltb n g.number (omega arith))
     ∙ ap (λ (ks : List (Goal CellName)). g ∷ ks) (all_after n (suc g.number) gs (omega arith) up.1)
 
+same_goal : (a b : Goal CellName) → Some a ≡ Some b → a ≡ b
+same_goal a b e = cc
+
 -- the first goal after a number, and those after it
 pub first_after : (n low : ℕ) (gs : List (Goal CellName)) (g : Goal CellName) → Ascend low (map number_of gs) → n < g.number → Some g ≡ find (is_after n) gs → filter (is_after n) gs ≡ g ∷ filter (is_after g.number) gs
 first_after n low [] g up less e = absurd (cc)
-first_after n low (h ∷ gs) g up less e = by_case (cases_lt n h.number) e (first_after n (suc h.number) gs g up.1 less)
+first_after n low (h ∷ gs) g up less e = by_case (cases_lt n h.number) (first_after n (suc h.number) gs g up.1 less)
   where
-    others : ℕ → List (Goal CellName)
-    others m = filter (is_after m) gs
-
-    first : (m : ℕ) → m < h.number → (if nat_lt m h.number then h ∷ others m else others m) ≡ h ∷ gs
-    first m lt = ap (λ b. if b then h ∷ others m else others m) (lt-ltb m h.number lt) ∙ ap (λ (ks : List (Goal CellName)). h ∷ ks) (all_after m (suc h.number) gs (omega arith) up.1)
-
-    later : (m : ℕ) → h.number ≤ m → (if nat_lt m h.number then h ∷ others m else others m) ≡ others m
-    later m le = ap (λ b. if b then h ∷ others m else others m) (le-ltb m h.number le)
-
-    by_case : (n < h.number) ⊎ (h.number ≤ n) → Some g ≡ (if nat_lt n h.number then Some h else find (is_after n) gs) → (Some g ≡ find (is_after n) gs → others n ≡ g ∷ others g.number) →
-        (if nat_lt n h.number then h ∷ others n else others n) ≡ g ∷ (if nat_lt g.number h.number then h ∷ others g.number else others g.number)
-    by_case (inl lt) k next =
-        let is = same_goal g h (k ∙ ap (λ c. if c then Some h else find (is_after n) gs) (lt-ltb n h.number lt)) in
-        first n lt
-        ∙ ap (λ (ks : List (Goal CellName)). h ∷ ks) (sym (later h.number (omega arith) ∙ all_after h.number (suc h.number) gs (omega arith) up.1))
-        ∙ ap (λ (x : Goal CellName). x ∷ (if nat_lt x.number h.number then h ∷ others x.number else others x.number)) (sym is)
-    by_case (inr le) k next =
-        later n le
-        ∙ next (k ∙ ap (λ c. if c then Some h else find (is_after n) gs) (le-ltb n h.number le))
-        ∙ ap (λ (ks : List (Goal CellName)). g ∷ ks) (sym (later g.number (omega arith)))
+    by_case : (n < h.number) ⊎ (h.number ≤ n) → (Some g ≡ find (is_after n) gs → filter (is_after n) gs ≡ g ∷ filter (is_after g.number) gs) → filter (is_after n) (h ∷ gs) ≡ g ∷ filter (is_after g.number) (h ∷ gs)
+    by_case (inl lt) later =
+        let b = lt-ltb n h.number lt in
+        let is : g ≡ h = same_goal g h (e ∙ ap (λ c. if c then Some h else find (is_after n) gs) b) in
+        let here : filter (is_after n) (h ∷ gs) ≡ h ∷ gs =
+        ap (λ c. if c then h ∷ filter (is_after n) gs else filter (is_after n) gs) b ∙ ap (λ (ks : List (Goal CellName)). h ∷ ks) (all_after n (suc h.number) gs (omega arith) up.1) in
+        let rest : filter (is_after h.number) (h ∷ gs) ≡ gs =
+        ap (λ c. if c then h ∷ filter (is_after h.number) gs else filter (is_after h.number) gs) (le-ltb h.number h.number (omega arith)) ∙ all_after h.number (suc h.number) gs (omega arith) up.1 in
+        here ∙ ap (λ (ks : List (Goal CellName)). h ∷ ks) (sym rest) ∙ ap (λ (k : Goal CellName). k ∷ filter (is_after k.number) (h ∷ gs)) (sym is)
+    by_case (inr le) later =
+        let b = le-ltb n h.number le in
+        ap (λ c. if c then h ∷ filter (is_after n) gs else filter (is_after n) gs) b
+        ∙ later (e ∙ ap (λ c. if c then Some h else find (is_after n) gs) b)
+        ∙ ap (λ (ks : List (Goal CellName)). g ∷ ks) (sym (ap (λ c. if c then h ∷ filter (is_after g.number) gs else filter (is_after g.number) gs) (le-ltb g.number h.number (omega arith))))
 
 -- if none is found, none passes
 pub none_pass : {A : Type 0} (p : A → Bool) (xs : List A) → None ≡ find p xs → filter p xs ≡ []
@@ -75,103 +104,150 @@ none_pass p (x ∷ xs) e = by_case (p x) e (none_pass p xs)
 
 -- ---- shoens from a number on
 
+same_shoen : (a b : Shoen CellName) → Some a ≡ Some b → a ≡ b
+same_shoen a b e = cc
+
 -- the shoen that comes after `n` others, and those after it
+pub shoen_next : (ss : List (Shoen CellName)) (last n : ℕ) (h : Shoen CellName) → AreNumbered last ss → last ≤ n → Some h ≡ find (has_number (n + 1)) ss → drop (n - last) ss ≡ h ∷ drop (n + 1 - last) ss
+shoen_next [] last n h up le e = absurd (cc)
+shoen_next (s ∷ ss) last n h up le e = by_case (cases_lt last n) (shoen_next ss (suc last) n h up.1)
+  where
+    by_case : (last < n) ⊎ (n ≤ last) → (suc last ≤ n → Some h ≡ find (has_number (n + 1)) ss → drop (n - suc last) ss ≡ h ∷ drop (n + 1 - suc last) ss) → drop (n - last) (s ∷ ss) ≡ h ∷ drop (n + 1 - last) (s ∷ ss)
+    by_case (inl lt) later =
+        let other : (s.number == n + 1) ≡ false = ne_eqb s.number (n + 1) (λ k. let m = up.0 in omega arith) in
+        let one : n - last ≡ suc (n - suc last) = omega arith in
+        let two : n + 1 - last ≡ suc (n + 1 - suc last) = omega arith in
+        ap (λ k. drop k (s ∷ ss)) one
+        ∙ later (omega arith) (e ∙ ap (λ b. if b then Some s else find (has_number (n + 1)) ss) other)
+        ∙ ap (λ k. h ∷ drop k (s ∷ ss)) (sym two)
+    by_case (inr ge) later =
+        let here : (s.number == n + 1) ≡ true = eq-eqb s.number (n + 1) (let m = up.0 in omega arith) in
+        let is : h ≡ s = same_shoen h s (e ∙ ap (λ b. if b then Some s else find (has_number (n + 1)) ss) here) in
+        let one : n - last ≡ 0 = omega arith in
+        let two : n + 1 - last ≡ 1 = omega arith in
+        ap (λ k. drop k (s ∷ ss)) one ∙ ap (λ (k : Shoen CellName). k ∷ ss) (sym is) ∙ ap (λ k. h ∷ drop k (s ∷ ss)) (sym two)
+
 pub first_shoen : (ss : List (Shoen CellName)) (n : ℕ) (h : Shoen CellName) → AreNumbered 0 ss → Some h ≡ find (has_number (n + 1)) ss → drop n ss ≡ h ∷ drop (n + 1) ss
 first_shoen ss n h up e =
-    let P : ℕ → Type 0 = λ k. slice_get ss k ≡ Some h in
-    let at = subst P (omega arith) (sym (found_at (n + 1) ss up (omega arith)) ∙ sym e) in
-    drop_more ss n h (slice_get_within ss n h at) ∙ ap (λ (x : Shoen CellName). x ∷ drop (n + 1) ss) (get_or_from_slice_get ss n h h at)
+    let one : n - 0 ≡ n = omega arith in
+    let two : n + 1 - 0 ≡ n + 1 = omega arith in
+    ap (λ k. drop k ss) (sym one) ∙ shoen_next ss 0 n h up (omega arith) e ∙ ap (λ k. h ∷ drop k ss) two
+
+drop_nil : (n : ℕ) → ◌≡◌ {A = List (Shoen CellName)} (drop n []) []
+drop_nil zero = refl
+drop_nil (suc n) = refl
 
 -- no shoen comes after `n` others
-pub no_shoen : (ss : List (Shoen CellName)) (n : ℕ) → AreNumbered 0 ss → None ≡ find (has_number (n + 1)) ss → drop n ss ≡ []
-no_shoen ss n up e =
-    let P : ℕ → Type 0 = λ k. slice_get ss k ≡ None in
-    after ss n (subst P (omega arith) (sym (found_at (n + 1) ss up (omega arith)) ∙ sym e))
+none_next : (ss : List (Shoen CellName)) (last n : ℕ) → AreNumbered last ss → last ≤ n → None ≡ find (has_number (n + 1)) ss → drop (n - last) ss ≡ []
+none_next [] last n up le e = drop_nil (n - last)
+none_next (s ∷ ss) last n up le e = by_case (cases_lt last n) (none_next ss (suc last) n up.1)
   where
-    after : (hs : List (Shoen CellName)) (k : ℕ) → slice_get hs k ≡ None → drop k hs ≡ []
-    after [] zero e = refl
-    after [] (suc k) e = refl
-    after (h ∷ hs) zero e = absurd (cc)
-    after (h ∷ hs) (suc k) e = after hs k e
+    by_case : (last < n) ⊎ (n ≤ last) → (suc last ≤ n → None ≡ find (has_number (n + 1)) ss → drop (n - suc last) ss ≡ []) → drop (n - last) (s ∷ ss) ≡ []
+    by_case (inl lt) later =
+        let other : (s.number == n + 1) ≡ false = ne_eqb s.number (n + 1) (λ k. let m = up.0 in omega arith) in
+        let one : n - last ≡ suc (n - suc last) = omega arith in
+        ap (λ k. drop k (s ∷ ss)) one ∙ later (omega arith) (e ∙ ap (λ b. if b then Some s else find (has_number (n + 1)) ss) other)
+    by_case (inr ge) later =
+        let here : (s.number == n + 1) ≡ true = eq-eqb s.number (n + 1) (let m = up.0 in omega arith) in
+        let not_none : None ≡ Some s = e ∙ ap (λ b. if b then Some s else find (has_number (n + 1)) ss) here in
+        absurd (cc)
+
+pub no_shoen : (ss : List (Shoen CellName)) (n : ℕ) → AreNumbered 0 ss → None ≡ find (has_number (n + 1)) ss → drop n ss ≡ []
+no_shoen ss n up e = let one : n - 0 ≡ n = omega arith in ap (λ k. drop k ss) (sym one) ∙ none_next ss 0 n up (omega arith) e
 
 -- ---- what is shown
 
+goals_counted : (t : Means) (n : ℕ) (gs : List (Goal CellName)) → count_by (is_goal_in n) (map (goal_with t) gs) ≡ count_by (is_goal_of n) gs
+goals_counted t n [] = refl
+goals_counted t n (g ∷ gs) =
+    sum_by-cons (λ (k : model.Goal). cond (is_goal_in n k) 1 0) (goal_with t g) (map (goal_with t) gs)
+    ∙ ap₂ (λ (b : Bool) (m : ℕ). cond (g.shoen == n && not b) 1 0 + m) (monitor_read t g.task) (goals_counted t n gs)
+    ∙ sym (sum_by-cons (λ (k : Goal CellName). cond (is_goal_of n k) 1 0) g gs)
+
+-- a shoen is shown as it is kept
+shoen_read : (f : Reading) (a : Account) (h : Shoen CellName) → shoen_view (state_of f a) (shoen_with (meaning f a.held) h) ≡ shoen_shown a.shoens a.work a.goals h
+shoen_read f a h =
+    let s = state_of f a in
+    let t = meaning f a.held in
+    let charge : charged_of s h.number ≡ charged_in a.shoens a.work h.number = charged_read t s (a.held.variables - 1) a.goals a.shoens a.work h.number refl in
+    ap₂ (λ (c : ℕ) (n : ℕ). let v : ShoenView = record { number = record { 0 = h.number }; parent = parent_shown h.parent; condition = condition_of s (shoen_with t h); charged = c; allowance = h.allowance; alive = n } in v) charge (goals_counted t h.number a.goals)
+    ∙ ap (λ c. let v : ShoenView = record { number = record { 0 = h.number }; parent = parent_shown h.parent; condition = c; charged = charged_in a.shoens a.work h.number; allowance = h.allowance; alive = count_by (is_goal_of h.number) a.goals } in v)
+    (condition_read t s (a.held.variables - 1) a.goals a.shoens h h.life (charged_in a.shoens a.work h.number) charge)
+
 shoens_read : (f : Reading) (a : Account) (from last : ℕ) (ss : List (Shoen CellName)) → AreNumbered last ss →
     map (shoen_view (state_of f a)) (filter (λ (h : model.Shoen). nat_le from h.number) (map (shoen_with (meaning f a.held)) ss)) ≡ map (shoen_shown a.shoens a.work a.goals) (drop (from - 1 - last) ss)
-shoens_read f a from last [] up = sym (ap (map (shoen_shown a.shoens a.work a.goals)) (drop_all (from - 1 - last) [] (omega arith)))
+shoens_read f a from last [] up = sym (ap (map (shoen_shown a.shoens a.work a.goals)) (drop_nil (from - 1 - last)))
 shoens_read f a from last (h ∷ ss) up = by_case (cases_lt (suc last) from) (shoens_read f a from (suc last) ss up.1)
   where
-    view : List model.Shoen → List ShoenView
-    view hs = map (shoen_view (state_of f a)) hs
-
-    kept : ℕ → List (Shoen CellName) → List ShoenView
-    kept n hs = map (shoen_shown a.shoens a.work a.goals) (drop n hs)
-
     rest : List model.Shoen
     rest = filter (λ (k : model.Shoen). nat_le from k.number) (map (shoen_with (meaning f a.held)) ss)
 
     here : model.Shoen
     here = shoen_with (meaning f a.held) h
 
-    number : h.number ≡ suc last
-    number = up.0
-
-    by_case : (suc last < from) ⊎ (from ≤ suc last) → view rest ≡ kept (from - 1 - suc last) ss → view (if nat_le from h.number then here ∷ rest else rest) ≡ kept (from - 1 - last) (h ∷ ss)
+    by_case : (suc last < from) ⊎ (from ≤ suc last) → map (shoen_view (state_of f a)) rest ≡ map (shoen_shown a.shoens a.work a.goals) (drop (from - 1 - suc last) ss) → map (shoen_view (state_of f a)) (if nat_le from h.number then here ∷ rest else rest) ≡ map (shoen_shown a.shoens a.work a.goals) (drop (from - 1 - last) (h ∷ ss))
     by_case (inl lt) later =
         let one : from - 1 - last ≡ suc (from - 1 - suc last) = omega arith in
-        ap (λ b. view (if b then here ∷ rest else rest)) (lt-leb from h.number (omega (arith, number))) ∙ later ∙ ap (λ n. kept n (h ∷ ss)) (sym one)
+        let number = up.0 in
+        ap (λ b. map (shoen_view (state_of f a)) (if b then here ∷ rest else rest)) (lt-leb from h.number (omega arith))
+        ∙ later
+        ∙ ap (λ n. map (shoen_shown a.shoens a.work a.goals) (drop n (h ∷ ss))) (sym one)
     by_case (inr le) later =
         let none : from - 1 - last ≡ 0 = omega arith in
         let beyond : from - 1 - suc last ≡ 0 = omega arith in
-        ap (λ b. view (if b then here ∷ rest else rest)) (le-leb from h.number (omega (arith, number)))
-        ∙ ap₂ (λ (v : ShoenView) (vs : List ShoenView). v ∷ vs) (shoen_read f a h) (later ∙ ap (λ n. kept n ss) beyond)
-        ∙ ap (λ n. kept n (h ∷ ss)) (sym none)
+        let number = up.0 in
+        ap (λ b. map (shoen_view (state_of f a)) (if b then here ∷ rest else rest)) (le-leb from h.number (omega arith))
+        ∙ ap₂ (λ (v : ShoenView) (vs : List ShoenView). v ∷ vs) (shoen_read f a h) (later ∙ ap (λ n. map (shoen_shown a.shoens a.work a.goals) (drop n ss)) beyond)
+        ∙ ap (λ n. map (shoen_shown a.shoens a.work a.goals) (drop n (h ∷ ss))) (sym none)
 
 -- a page of shoens is shown as they are kept
-pub shoens_shown : (f : Reading) (a : Account) (from count : ℕ) (views : List ShoenView) → AreNumbered 0 a.shoens → views ≡ map (shoen_shown a.shoens a.work a.goals) (take count (drop (from - 1) a.shoens)) → views ≡ shoen_page (state_of f a) from count
-shoens_shown f a from count views up e =
+pub shoens_shown : (f : Reading) (a b : Account) (from count : ℕ) (views : List ShoenView) → a ≡ b → AreNumbered 0 a.shoens → views ≡ map (shoen_shown a.shoens a.work a.goals) (take count (drop (from - 1) a.shoens)) → views ≡ shoen_page (state_of f b) from count
+shoens_shown f a b from count views is up e =
+    let s = state_of f a in
     let all : from - 1 - 0 ≡ from - 1 = omega arith in
     e
     ∙ sym (take-map (shoen_shown a.shoens a.work a.goals) count (drop (from - 1) a.shoens))
     ∙ ap (λ n. take count (map (shoen_shown a.shoens a.work a.goals) (drop n a.shoens))) (sym all)
     ∙ ap (take count) (sym (shoens_read f a from 0 a.shoens up))
-    ∙ take-map (shoen_view (state_of f a)) count (filter (λ (h : model.Shoen). nat_le from h.number) (state_of f a).shoens)
+    ∙ take-map (shoen_view s) count (filter (λ (h : model.Shoen). nat_le from h.number) s.shoens)
+    ∙ ap (λ (z : Account). shoen_page (state_of f z) from count) is
+
+kind_read : (t : Means) (k : Task CellName) → kind_of (task_with t k) ≡ kind_shown k
+kind_read t Monitor = refl
+kind_read t (Reduces q) = refl
+kind_read t (Substitutes x) = refl
 
 -- a goal that stands as the definitions have it is shown as it is kept
 goal_read : (s : State) (t : Means) (g : Goal CellName) → IsStanding s t g → goal_view s (goal_with t g) ≡ goal_shown g
 goal_read s t g standing =
-    ap₂ (λ (k : TaskKind) (b : Bool). let v : GoalView = record { number = record { 0 = g.number }; shoen = record { 0 = g.shoen }; priority = g.priority; task = k; can_step = b } in v) (kind_read g.task) (ap is_some standing ∙ stands_is g)
-  where
-    kind_read : (k : Task CellName) → kind_of (task_with t k) ≡ kind_shown k
-    kind_read Monitor = refl
-    kind_read (Reduces q) = refl
-    kind_read (Substitutes x) = refl
+    ap₂ (λ (k : TaskKind) (b : Bool). let v : GoalView = record { number = record { 0 = g.number }; shoen = record { 0 = g.shoen }; priority = g.priority; task = k; can_step = b } in v) (kind_read t g.task) (ap is_some standing ∙ stands_is g)
 
 from_after : (from n : ℕ) → 0 < n → nat_le from n ≡ nat_lt (from - 1) n
-from_after from n some = grind (arith, nat_tests)
+from_after from n some = by_case (cases_lt n from)
+  where
+    by_case : (n < from) ⊎ (from ≤ n) → nat_le from n ≡ nat_lt (from - 1) n
+    by_case (inl lt) = lt-leb from n lt ∙ sym (le-ltb (from - 1) n (omega arith))
+    by_case (inr le) = le-leb from n le ∙ sym (lt-ltb (from - 1) n (omega arith))
 
 goals_read : (s : State) (t : Means) (from : ℕ) (gs : List (Goal CellName)) → AreStanding s t gs → AllByRecursion (λ g. 0 < g.number) gs →
     map (goal_view s) (filter (λ (g : model.Goal). nat_le from g.number) (map (goal_with t) gs)) ≡ map goal_shown (filter (is_after (from - 1)) gs)
 goals_read s t from [] standing some = refl
-goals_read s t from (g ∷ gs) standing some = ap (λ b. view (if b then goal_with t g ∷ rest else rest)) (from_after from g.number some.0) ∙ by_case (nat_lt (from - 1) g.number) (goals_read s t from gs standing.1 some.1)
+goals_read s t from (g ∷ gs) standing some =
+    ap (λ b. map (goal_view s) (if b then goal_with t g ∷ filter (λ (k : model.Goal). nat_le from k.number) (map (goal_with t) gs) else filter (λ (k : model.Goal). nat_le from k.number) (map (goal_with t) gs))) (from_after from g.number some.0)
+    ∙ by_case (nat_lt (from - 1) g.number) (goals_read s t from gs standing.1 some.1)
   where
-    view : List model.Goal → List GoalView
-    view ks = map (goal_view s) ks
-
-    rest : List model.Goal
-    rest = filter (λ (k : model.Goal). nat_le from k.number) (map (goal_with t) gs)
-
-    kept : List (Goal CellName)
-    kept = filter (is_after (from - 1)) gs
-
-    by_case : (b : Bool) → view rest ≡ map goal_shown kept → view (if b then goal_with t g ∷ rest else rest) ≡ map goal_shown (if b then g ∷ kept else kept)
+    by_case : (b : Bool) → map (goal_view s) (filter (λ (k : model.Goal). nat_le from k.number) (map (goal_with t) gs)) ≡ map goal_shown (filter (is_after (from - 1)) gs) →
+        map (goal_view s) (if b then goal_with t g ∷ filter (λ (k : model.Goal). nat_le from k.number) (map (goal_with t) gs) else filter (λ (k : model.Goal). nat_le from k.number) (map (goal_with t) gs)) ≡ map goal_shown (if b then g ∷ filter (is_after (from - 1)) gs else filter (is_after (from - 1)) gs)
     by_case true later = ap₂ (λ (v : GoalView) (vs : List GoalView). v ∷ vs) (goal_read s t g standing.0) later
     by_case false later = later
 
 -- a page of goals is shown as they are kept
-pub goals_shown : {hooks : List Hook} {known put : ℕ} (f : Reading) (a : Account) (from count : ℕ) (views : List GoalView) → IsKept a hooks known put → Fits a.names f → views ≡ map goal_shown (take count (filter (is_after (from - 1)) a.goals)) → views ≡ goal_page (state_of f a) from count
-goals_shown f a from count views i fits e =
+pub goals_shown : (f : Reading) (a b : Account) (hooks : List Hook) (from count : ℕ) (views : List GoalView) → a ≡ b → AreSettled f hooks a.held (program_of a) a.shoens a.goals → AreEnabled a.shoens a.work a.goals → AllByRecursion (λ g. 0 < g.number) a.goals →
+    views ≡ map goal_shown (take count (filter (is_after (from - 1)) a.goals)) → views ≡ goal_page (state_of f b) from count
+goals_shown f a b hooks from count views is settled enabled some e =
+    let s = state_of f a in
     e
     ∙ sym (take-map goal_shown count (filter (is_after (from - 1)) a.goals))
-    ∙ ap (take count) (sym (goals_read (state_of f a) (meaning f a.held) from a.goals (all_stand f a i fits) i.first))
-    ∙ take-map (goal_view (state_of f a)) count (filter (λ (g : model.Goal). nat_le from g.number) (state_of f a).goals)
+    ∙ ap (take count) (sym (goals_read s (meaning f a.held) from a.goals (stand_in f a hooks settled enabled) some))
+    ∙ take-map (goal_view s) count (filter (λ (g : model.Goal). nat_le from g.number) s.goals)
+    ∙ ap (λ (z : Account). goal_page (state_of f z) from count) is

@@ -1,7 +1,33 @@
 -- Whether a variable is in the terms of cells on a stack.
-use Rattle.kl1_user_account.proofs.Words.{◌≡◌, ℕ, zero, suc, ◌+◌, ◌-◌, ◌<◌, ◌≤◌, ◌==◌, ◌||◌, Bool, true, false, if◌then◌else◌, List, [], ◌∷◌, ◌++◌, length, take, reverse, refl, sym, ap, subst, ◌∙◌, arith, inl, inr, append_assoc, append-nil, Option, Some, None, codes, list_any, true≢false, length-reverse, list_any-append, list_any_kept, Term, variable, integer, atom, structure, Terms, none, more, occurs, occurs_in, count_of, NodeCode, nodes_of, nodes_of_all, front_of, behind, code_of, with_node, CellName, Cell, Atom, Qualified, Held, AreIn, term_list, term_of-Atom, Presence, Present, Absent, Unknown, is_variable_part, IsLookedAt, IsPresence, Reading, meaning, aim, told_in, Top, node_with, count_at, stacked_terms, Takes, is_variable_top, IsPresenceIn}
+use Rattle.std.proofs.Common.{◌≡◌, ℕ, zero, suc, ◌+◌, ◌-◌, ◌<◌, ◌≤◌, ◌==◌, ◌||◌, Bool, true, false, if◌then◌else◌, List, [], ◌∷◌, ◌++◌, length, take, reverse, refl, sym, ap, subst, ◌∙◌, arith, inl, inr, append_assoc, append-nil}
+use Rattle.std.specs.Prelude.{Option, Some, None, option_and_then, codes}
+use Rattle.std.specs.List.{list_any, find}
+use Rattle.std.proofs.lemmas.Bool.{true≢false}
+use Rattle.std.proofs.lemmas.List.{length-reverse}
+use Rattle.std.proofs.lemmas.List.Folds.{list_any-append, list_any_kept}
+use Rattle.kl1_model.specs.Term.{Term, variable, integer, atom, structure, Terms, none, more, occurs, occurs_in, count_of}
+use Rattle.kl1_model.specs.code.TermCode.{NodeCode, nodes_of, nodes_of_all, front_of, behind}
 use Rattle.kl1_model.specs.State as model
+use Rattle.kl1_term.specs.Nodes.{code_of, with_node}
+use Rattle.kl1_text.specs.declared.cell_name.CellName.{CellName}
+use Rattle.kl1_store.specs.declared.cell.Cell.{Cell}
+use Rattle.kl1_store.specs.declared.cell.Cell.TheVariants.{Atom}
+use Rattle.kl1_store.specs.declared.qualified.Qualified.{Qualified}
+use Rattle.kl1_store.specs.Held.{Held, AreIn}
+use Rattle.kl1_store.specs.ComparesEach.{term_list}
+use Rattle.kl1_store.proofs.Terms.{term_of-Atom}
+use Rattle.kl1_goals.specs.declared.goal.Goal.{Goal}
+use Rattle.kl1_goals.specs.Lists.{has_number}
+use Rattle.kl1_user_events.specs.declared.goal_view.Presence.{Presence}
+use Rattle.kl1_user_events.specs.declared.goal_view.Presence.TheVariants.{Present, Absent, Unknown}
+use Rattle.kl1_user_events.specs.Viewing.{is_variable_part, IsLookedAt, IsPresence, goal_term, term_in}
+use Rattle.kl1_user_effects.specs.Fitting.{Reading}
+use Rattle.kl1_user_effects.specs.Account.{Account, meaning, aim, told_in, goal_with, task_with, state_of}
+use Rattle.kl1_user_account.specs.declared.top.Top.{Top}
 use Rattle.kl1_user_account.specs.declared.top.Top.TheVariants as top
+use Rattle.kl1_user_account.specs.Tops.{node_with, count_at, stacked_terms, Takes}
+use Rattle.kl1_user_account.specs.Viewed.{is_variable_top, IsPresenceIn}
+use Rattle.kl1_user_account.proofs.Goals.{finds_goal}
 
 -- what is known of a variable after at most `most` of these parts were looked at
 abbrev pub look : ℕ → List NodeCode → ℕ → Presence
@@ -9,10 +35,17 @@ look v [] most = Absent
 look v (c ∷ cs) zero = Unknown
 look v (c ∷ cs) (suc most) = if is_variable_part v c then Present else look v cs most
 
--- the first part is looked at
-look_on : (v : ℕ) (c : NodeCode) (cs : List NodeCode) (left : ℕ) → 0 < left → look v (c ∷ cs) left ≡ (if is_variable_part v c then Present else look v cs (left - 1))
-look_on v c cs zero some = absurd (omega arith)
-look_on v c cs (suc n) some = ap (λ k. if is_variable_part v c then Present else look v cs k) (let less : n ≡ suc n - 1 = omega arith in less)
+-- the first part isn't the variable
+look_passes : (v : ℕ) (c : NodeCode) (cs : List NodeCode) (left : ℕ) → 0 < left → is_variable_part v c ≡ false → look v (c ∷ cs) left ≡ look v cs (left - 1)
+look_passes v c cs zero some e = absurd (omega arith)
+look_passes v c cs (suc n) some e =
+    let less : n ≡ suc n - 1 = omega arith in
+    ap (λ b. if b then Present else look v cs n) e ∙ ap (look v cs) less
+
+-- the first part is the variable
+look_finds : (v : ℕ) (c : NodeCode) (cs : List NodeCode) (left : ℕ) → 0 < left → is_variable_part v c ≡ true → look v (c ∷ cs) left ≡ Present
+look_finds v c cs zero some e = absurd (omega arith)
+look_finds v c cs (suc n) some e = ap (λ b. if b then Present else look v cs n) e
 
 -- no part more may be looked at
 look_ends : (v : ℕ) (cs : List NodeCode) (left : ℕ) → left ≤ 0 → 0 < length cs → look v cs left ≡ Unknown
@@ -26,16 +59,21 @@ IsKnown v most cs Present = list_any (is_variable_part v) cs ≡ true
 IsKnown v most cs Absent = list_any (is_variable_part v) cs ≡ false
 IsKnown v most cs Unknown = (most < length cs) × (list_any (is_variable_part v) (take most cs) ≡ false)
 
+known_on : (v : ℕ) (c : NodeCode) (cs : List NodeCode) (n : ℕ) (p : Presence) → is_variable_part v c ≡ false → IsKnown v n cs p → IsKnown v (suc n) (c ∷ cs) p
+known_on v c cs n Present e k = ap (λ b. b || list_any (is_variable_part v) cs) e ∙ k
+known_on v c cs n Absent e k = ap (λ b. b || list_any (is_variable_part v) cs) e ∙ k
+known_on v c cs n Unknown e k =
+    let less = k.0 in
+    (omega (arith, less), ap (λ b. b || list_any (is_variable_part v) (take n cs)) e ∙ k.1)
+
+known_by : (v : ℕ) (c : NodeCode) (cs : List NodeCode) (n : ℕ) (b : Bool) → is_variable_part v c ≡ b → IsKnown v n cs (look v cs n) → IsKnown v (suc n) (c ∷ cs) (if b then Present else look v cs n)
+known_by v c cs n true e k = ap (λ b. b || list_any (is_variable_part v) cs) e
+known_by v c cs n false e k = known_on v c cs n (look v cs n) e k
+
 known : (v : ℕ) (cs : List NodeCode) (most : ℕ) → IsKnown v most cs (look v cs most)
 known v [] most = refl
 known v (c ∷ cs) zero = (omega arith, refl)
-known v (c ∷ cs) (suc n) = by_part (is_variable_part v c) (look v cs n) refl (known v cs n)
-  where
-    by_part : (b : Bool) (p : Presence) → is_variable_part v c ≡ b → IsKnown v n cs p → IsKnown v (suc n) (c ∷ cs) (if b then Present else p)
-    by_part true p e k = ap (λ b. b || list_any (is_variable_part v) cs) e
-    by_part false Present e k = ap (λ b. b || list_any (is_variable_part v) cs) e ∙ k
-    by_part false Absent e k = ap (λ b. b || list_any (is_variable_part v) cs) e ∙ k
-    by_part false Unknown e k = let less = k.0 in (omega (arith, less), ap (λ b. b || list_any (is_variable_part v) (take n cs)) e ∙ k.1)
+known v (c ∷ cs) (suc n) = known_by v c cs n (is_variable_part v c) refl (known v cs n)
 
 or_false : (b : Bool) → (b || false) ≡ b
 or_false true = refl
@@ -130,29 +168,32 @@ looking_begins h x v most stack inside e =
     subst P (sym e) (record { inside = inside; looks = λ f. ap (λ cs. look v cs most) (sym (append-nil (nodes_of (meaning f h x)))) })
 
 -- what is at the top is the first part that is looked at
-first_part : {h : Held CellName} {x : Cell CellName} {v most left : ℕ} {before after : List (Cell CellName)} (f : Reading) (t : Top) (b : Bool) → 0 < left → IsLooking h x v most left before → Takes h t before after → is_variable_top v t ≡ b →
-    look v (nodes_of (meaning f h x)) most ≡ (if b then Present else look v (nodes_each (stacked_terms f h after)) (left - 1))
-first_part {h = h} {v = v} {left = left} {before = before} {after = after} f t b some l takes is =
-    l.looks f
-    ∙ ap (λ cs. look v cs left) (taken_nodes f h t before after takes)
-    ∙ look_on v (code_of (node_with f t)) (nodes_each (stacked_terms f h after)) left some
-    ∙ ap (λ c. if c then Present else look v (nodes_each (stacked_terms f h after)) (left - 1)) (same_variable f v t ∙ is)
+first_part : (f : Reading) (h : Held CellName) (x : Cell CellName) (v most left : ℕ) (t : Top) (before after : List (Cell CellName)) → IsLooking h x v most left before → Takes h t before after →
+    look v (nodes_of (meaning f h x)) most ≡ look v (code_of (node_with f t) ∷ nodes_each (stacked_terms f h after)) left
+first_part f h x v most left t before after l takes = l.looks f ∙ ap (λ cs. look v cs left) (taken_nodes f h t before after takes)
 
 -- one part more is looked at
-pub looking_on : {h : Held CellName} {x : Cell CellName} {v most left : ℕ} {before after : List (Cell CellName)} (t : Top) → 0 < left → IsLooking h x v most left before → Takes h t before after → is_variable_top v t ≡ false → IsLooking h x v most (left - 1) after
-looking_on t some l takes other = record { inside = takes.inside; looks = λ f. first_part f t false some l takes other }
+pub looking_on : (h : Held CellName) (x : Cell CellName) (v most left : ℕ) (t : Top) (before after : List (Cell CellName)) → 0 < left → IsLooking h x v most left before → Takes h t before after → is_variable_top v t ≡ false → IsLooking h x v most (left - 1) after
+looking_on h x v most left t before after some l takes other =
+    record {
+      inside = takes.inside;
+      looks = λ f.
+          first_part f h x v most left t before after l takes ∙ look_passes v (code_of (node_with f t)) (nodes_each (stacked_terms f h after)) left some (same_variable f v t ∙ other);
+    }
 
 -- the part that is looked at is the variable
-pub is_present : {h : Held CellName} {x : Cell CellName} {v most left : ℕ} {before after : List (Cell CellName)} (t : Top) → 0 < left → IsLooking h x v most left before → Takes h t before after → is_variable_top v t ≡ true → IsPresenceIn h x v most Present
-is_present {h = h} {x = x} {v = v} {most = most} t some l takes same = λ f. settled v most (meaning f h x) Present (first_part f t true some l takes same)
+pub is_present : (h : Held CellName) (x : Cell CellName) (v most left : ℕ) (t : Top) (before after : List (Cell CellName)) → 0 < left → IsLooking h x v most left before → Takes h t before after → is_variable_top v t ≡ true → IsPresenceIn h x v most Present
+is_present h x v most left t before after some l takes same = λ f.
+    settled v most (meaning f h x) Present
+    (first_part f h x v most left t before after l takes ∙ look_finds v (code_of (node_with f t)) (nodes_each (stacked_terms f h after)) left some (same_variable f v t ∙ same))
 
 -- nothing is left to look at
-pub is_absent : {h : Held CellName} {x : Cell CellName} {v most left : ℕ} {stack : List (Cell CellName)} → IsLooking h x v most left stack → stack ≡ [] → IsPresenceIn h x v most Absent
-is_absent {h = h} {x = x} {v = v} {most = most} {left = left} l e = λ f. settled v most (meaning f h x) Absent (l.looks f ∙ ap (λ (xs : List (Cell CellName)). look v (nodes_each (stacked_terms f h xs)) left) e)
+pub is_absent : (h : Held CellName) (x : Cell CellName) (v most left : ℕ) (stack : List (Cell CellName)) → IsLooking h x v most left stack → stack ≡ [] → IsPresenceIn h x v most Absent
+is_absent h x v most left stack l e = λ f. settled v most (meaning f h x) Absent (l.looks f ∙ ap (λ (xs : List (Cell CellName)). look v (nodes_each (stacked_terms f h xs)) left) e)
 
 -- something is left to look at
-pub is_unknown : {h : Held CellName} {x : Cell CellName} {v most left : ℕ} {stack : List (Cell CellName)} → IsLooking h x v most left stack → left ≤ 0 → 0 < length stack → IsPresenceIn h x v most Unknown
-is_unknown {h = h} {x = x} {v = v} {most = most} {left = left} {stack = stack} l done some = λ f.
+pub is_unknown : (h : Held CellName) (x : Cell CellName) (v most left : ℕ) (stack : List (Cell CellName)) → IsLooking h x v most left stack → left ≤ 0 → 0 < length stack → IsPresenceIn h x v most Unknown
+is_unknown h x v most left stack l done some = λ f.
     let n = length_stacked f h stack in
     settled v most (meaning f h x) Unknown
     (l.looks f ∙ look_ends v (nodes_each (stacked_terms f h stack)) left done (some_nodes (stacked_terms f h stack) (omega (arith, n, some))))
@@ -206,3 +247,21 @@ called_presence h q v most p is f = by_case q.module_name (is f)
     by_case : (o : Option CellName) → IsPresence v most (Some (meaning f h q.cell)) p → IsPresence v most (Some (told_in (meaning f h) o (meaning f h q.cell))) p
     by_case None e = e
     by_case (Some m) e = by_kind m p e
+
+-- the term of a goal that may be there
+abbrev pub term_at : Option model.Goal → Option Term
+term_at o = option_and_then (λ g. term_in g.task) o
+
+-- no goal has the number
+pub no_term : (f : Reading) (a b : Account) (n v most : ℕ) → a ≡ b → find (has_number n) a.goals ≡ None → IsPresence v most (goal_term (state_of f b) n) Absent
+no_term f a b n v most is e =
+    let P : Account → Type 0 = λ z. IsPresence v most (goal_term (state_of f z) n) Absent in
+    let Q : Option Term → Type 0 = λ o. IsPresence v most o Absent in
+    subst P is (subst Q (sym (ap term_at (finds_goal f a n None e))) tt)
+
+-- what is known of the goal with the number
+pub some_term : (f : Reading) (a b : Account) (n v most : ℕ) (g : Goal CellName) (p : Presence) → a ≡ b → find (has_number n) a.goals ≡ Some g → IsPresence v most (term_in (task_with (meaning f a.held) g.task)) p → IsPresence v most (goal_term (state_of f b) n) p
+some_term f a b n v most g p is e k =
+    let P : Account → Type 0 = λ z. IsPresence v most (goal_term (state_of f z) n) p in
+    let Q : Option Term → Type 0 = λ o. IsPresence v most o p in
+    subst P is (subst Q (sym (ap term_at (finds_goal f a n (Some g) e))) k)

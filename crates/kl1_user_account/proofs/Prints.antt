@@ -1,6 +1,18 @@
 -- A cell's term printed node by node.
-use Rattle.kl1_user_account.proofs.Words.{◌≡◌, ℕ, List, length, sym, ap, ◌∙◌, Term, Printer, with_node, ListCell, Node, text_of, waits_of, CellName, Known, Cell, Held, AreIn, Reading, Fits, built, list_cell, stacked_terms}
+use Rattle.std.proofs.Common.{◌≡◌, ℕ, List, length, sym, ap, ◌∙◌}
+use Rattle.kl1_model.specs.Term.{Term}
+use Rattle.kl1_term.specs.declared.printer.Printer.{Printer}
+use Rattle.kl1_term.specs.Nodes.{with_node}
+use Rattle.kl1_model.specs.declared.built_in.BuiltIn.TheVariants.{ListCell}
+use Rattle.kl1_term.specs.declared.node.Node.{Node}
 use Rattle.kl1_term.specs.declared.node.Node.TheVariants.{Structure}
+use Rattle.kl1_term.specs.Printing.{text_of, waits_of}
+use Rattle.kl1_text.specs.declared.cell_name.CellName.{CellName}
+use Rattle.kl1_atoms.specs.declared.known.Known.{Known}
+use Rattle.kl1_store.specs.declared.cell.Cell.{Cell}
+use Rattle.kl1_store.specs.Held.{Held, AreIn}
+use Rattle.kl1_user_effects.specs.Fitting.{Reading, Fits, built}
+use Rattle.kl1_user_account.specs.Tops.{list_cell, stacked_terms}
 
 -- with the terms on the stack the printer makes what another made with others, for each reading of these names, and it waits for as
 -- many terms

@@ -1,6 +1,10 @@
 -- The lines of a journal for starts and answers.
-use Rattle.kl1_user_account.proofs.Words.{◌≡◌, ℕ, List, [], ◌∷◌, ◌++◌, ap, ◌∙◌, decimal, Term, print, start_line, answer_line}
-use Rattle.std.proofs.Common.{codes}
+use Rattle.std.proofs.Common.{◌≡◌, ℕ, List, [], ◌∷◌, ◌++◌, codes, ap, ◌∙◌}
+use Rattle.std.specs.Prelude.{decimal}
+use Rattle.kl1_model.specs.Term.{Term}
+use Rattle.kl1_model.specs.Print.{print}
+use Rattle.kl1_model.specs.Opening.{start_line}
+use Rattle.kl1_model.specs.Answering.{answer_line}
 
 -- the parts of the line, put one after another
 pub line_is : (allowance low high : ℕ) (goal : Term) (x y z w : List ℕ) →

@@ -1,95 +1,79 @@
--- A goal that the console brings to an account, if nothing refuses it.
-use Rattle.kl1_user_account.proofs.Words.{◌≡◌, ℕ, suc, ◌+◌, ◌≤◌, ◌&&◌, true, List, [], length, sym, ap, ◌∙◌, subst, arith, nat_le, and_parts, leb-true, Limits, MOST_NAMES, Term, is_goal, highest, goal_nodes, structures_of, names_of, with_names, with_texts, IsNameList, Reading, Account, state_of, texts_of, Answer, Starts, Answers, Start, Counted, Starting, Answering, HasNames, has_room_beside, IsFree, IsStartable, StartsAs, has_room_to_answer_beside, IsAnswerable, AnswersAs, MayBring}
-use Rattle.std.specs.Prelude.{nat_lt}
-use Rattle.kl1_model.specs.Meaning.{is_numbered}
+-- An account after a start.
+use Rattle.std.proofs.Common.{◌≡◌, ℕ, suc, ◌+◌, ◌<◌, ◌≤◌, ◌^◌, ◌&&◌, true, List, sym, ap, ◌∙◌, subst, arith}
+use Rattle.std.specs.Prelude.{nat_lt, nat_le}
+use Rattle.std.proofs.lemmas.Bool.{and_parts, leb-true}
+use Rattle.kl1_model.specs.declared.rules.Rules.{Rules}
+use Rattle.kl1_model.specs.Rules.{limits_of}
+use Rattle.kl1_model.specs.Term.{Term}
+use Rattle.kl1_model.specs.Meaning.{highest}
+use Rattle.kl1_model.specs.Nodes.{goal_nodes}
+use Rattle.kl1_model.specs.State.{State}
+use Rattle.kl1_model.specs.Event.{start, opened, refuse, with_entry, Transition}
+use Rattle.kl1_model.specs.Opening.{start_goal}
+use Rattle.kl1_model.specs.Step.{step}
+use Rattle.kl1_text.specs.declared.cell_name.CellName.{CellName}
+use Rattle.kl1_user_events.specs.declared.refusal.Refusal.{Refusal}
+use Rattle.kl1_user_events.specs.Views.{refusal_of}
+use Rattle.kl1_user_effects.specs.Fitting.{Reading, Fits}
+use Rattle.kl1_user_effects.specs.Account.{Account, state_of}
+use Rattle.kl1_machine.specs.declared.machine.Machine.{Machine}
+use Rattle.kl1_user_account.specs.declared.counted.Counted.{Counted}
+use Rattle.kl1_user_account.specs.declared.startable.Starting.{Starting}
+use Rattle.kl1_user_account.specs.declared.startable.Starting.TheVariants.{Refused}
+use Rattle.kl1_user_account.specs.Starting.{HasNames, has_room_beside, IsStartable, StartsAs}
 use Rattle.kl1_user_account.proofs.Counting.{low_limits}
-use Rattle.kl1_user_account.proofs.StartChecks.{start_goal_is, start_range, answer_goal_is}
+use Rattle.kl1_user_account.proofs.StartSteps.{step_startable}
+use Rattle.kl1_user_account.proofs.Machines.{Aside, account_of}
+use Rattle.kl1_user_account.proofs.Bringing.{noted, IsBrought, brought_state}
 
--- ---- what was found of an account's parts
+-- ---- starts that are refused
 
-pub starts_by : (a b : Account) (c : Counted) (allowance low high : ℕ) (goal : Term) (o k : Starting) → a ≡ b → StartsAs a.names c allowance low high goal o → o ≡ k → StartsAs b.names c allowance low high goal k
-starts_by a b c allowance low high goal o k view s e =
+pub refused_start : (a b : Account) (c : Counted) (allowance low high : ℕ) (goal : Term) (o : Starting) (r : Refusal) → a ≡ b → o ≡ Refused r → StartsAs a.names c allowance low high goal o → ((f : Reading) → HasNames (state_of f b) b.names c) →
+    (f : Reading) → step (state_of f b) (start allowance low high goal) ≡ refuse (state_of f b) (refusal_of r)
+refused_start a b c allowance low high goal o r view e s at f =
     let S : Account → Starting → Type 0 = λ z y. StartsAs z.names c allowance low high goal y in
-    subst (S b) e (subst (λ z. S z o) view s)
-
-pub answers_by : (a b : Account) (c : Counted) (n report : ℕ) (goal : Term) (o k : Answering) → a ≡ b → AnswersAs a.rules a.held a.shoens a.names c n report goal o → o ≡ k → AnswersAs b.rules b.held b.shoens b.names c n report goal k
-answers_by a b c n report goal o k view s e =
-    let S : Account → Answering → Type 0 = λ z y. AnswersAs z.rules z.held z.shoens z.names c n report goal y in
-    subst (S b) e (subst (λ z. S z o) view s)
+    (subst (S b) e (subst (λ z. S z o) view s)) (state_of f b) (at f)
 
 -- ---- room
 
-room_to_start : (c : Counted) (variables nodes : ℕ) → has_room_beside c variables nodes ≡ true → (c.variables + suc (suc variables) ≤ c.most.variables) × (c.nodes + nodes ≤ c.most.nodes)
-room_to_start c variables nodes e =
-    let one = nat_lt c.goals c.most.goals in
-    let two = nat_le (c.variables + suc (suc variables)) c.most.variables in
-    let three = nat_le (c.nodes + nodes) c.most.nodes in
-    let p = and_parts (one && two) three (and_parts (one && two && three) (nat_lt c.shoens c.most.shoens) e).0 in
-    (leb-true (c.variables + suc (suc variables)) c.most.variables (and_parts one two p.0).1, leb-true (c.nodes + nodes) c.most.nodes p.1)
+variables_within : (c : Counted) (variables nodes : ℕ) → has_room_beside c variables nodes ≡ true → c.variables + suc (suc variables) ≤ c.most.variables
+variables_within c variables nodes e =
+    let p = and_parts (nat_lt c.goals c.most.goals && nat_le (c.variables + suc (suc variables)) c.most.variables && nat_le (c.nodes + nodes) c.most.nodes) (nat_lt c.shoens c.most.shoens) e in
+    let q = and_parts (nat_lt c.goals c.most.goals && nat_le (c.variables + suc (suc variables)) c.most.variables) (nat_le (c.nodes + nodes) c.most.nodes) p.0 in
+    leb-true (c.variables + suc (suc variables)) c.most.variables (and_parts (nat_lt c.goals c.most.goals) (nat_le (c.variables + suc (suc variables)) c.most.variables) q.0).1
 
-room_to_answer : (c : Counted) (variables nodes : ℕ) → has_room_to_answer_beside c variables nodes ≡ true → (c.variables + variables ≤ c.most.variables) × (c.nodes + nodes ≤ c.most.nodes)
-room_to_answer c variables nodes e =
-    let p = and_parts (nat_le (c.variables + variables) c.most.variables) (nat_le (c.nodes + nodes) c.most.nodes) e in
-    (leb-true (c.variables + variables) c.most.variables p.0, leb-true (c.nodes + nodes) c.most.nodes p.1)
+nodes_within : (c : Counted) (variables nodes : ℕ) → has_room_beside c variables nodes ≡ true → c.nodes + nodes ≤ c.most.nodes
+nodes_within c variables nodes e =
+    let p = and_parts (nat_lt c.goals c.most.goals && nat_le (c.variables + suc (suc variables)) c.most.variables && nat_le (c.nodes + nodes) c.most.nodes) (nat_lt c.shoens c.most.shoens) e in
+    leb-true (c.nodes + nodes) c.most.nodes (and_parts (nat_lt c.goals c.most.goals && nat_le (c.variables + suc (suc variables)) c.most.variables) (nat_le (c.nodes + nodes) c.most.nodes) p.0).1
 
--- names of a goal by its code, which may be published
-few_names : (a : Account) (goal code : Term) (texts : List (List ℕ)) → code ≡ goal → texts ≡ with_names [] (names_of code) → length (with_texts (texts_of a.names) (with_names [] (names_of goal))) ≤ MOST_NAMES → length (with_texts (texts_of a.names) texts) ≤ MOST_NAMES
-few_names a goal code texts same are few =
-    let F : List (List ℕ) → Type 0 = λ ts. length (with_texts (texts_of a.names) ts) ≤ MOST_NAMES in
-    subst F (sym (are ∙ ap (λ (t : Term). with_names [] (names_of t)) same)) few
+-- the variables of a start are counted in 64 bits
+pub few_variables : (rules : Rules) (c : Counted) (goal : Term) (have more : ℕ) → limits_of rules ≡ c.most → have ≡ c.variables → more ≡ highest goal → has_room_beside c (highest goal) (goal_nodes goal) ≡ true → have + (more + 2) < 2 ^ 64
+few_variables rules c goal have more most same top e =
+    let within = variables_within c (highest goal) (goal_nodes goal) e in
+    let low = (low_limits rules c.most (sym most)).variables in
+    omega (arith, within, low, same, top)
 
--- ---- the goal may be brought
+-- and so are its structures
+pub few_nodes : (rules : Rules) (c : Counted) (goal code : Term) (have : ℕ) → limits_of rules ≡ c.most → have ≡ c.nodes → code ≡ goal → has_room_beside c (highest goal) (goal_nodes goal) ≡ true → have + goal_nodes code < 2 ^ 64
+few_nodes rules c goal code have most same is e =
+    let within = nodes_within c (highest goal) (goal_nodes goal) e in
+    let low = (low_limits rules c.most (sym most)).nodes in
+    let own : goal_nodes code ≡ goal_nodes goal = ap goal_nodes is in
+    omega (arith, within, low, same, own)
 
-pub may_start_it : (a : Account) (c : Counted) (goal : Term) (texts : List (List ℕ)) (s : Start) → IsStartable a.names c s.allowance s.low s.high goal s.code.now → ((f : Reading) → HasNames (state_of f a) a.names c) →
-    texts ≡ with_names [] (names_of s.code.now) → IsNameList texts → s.variables ≡ highest goal → MayBring a texts (Starts s)
-may_start_it a c goal texts s may counts are list variables =
-    let at = counts (λ x. []) in
-    let is = start_goal_is s.allowance s.low s.high goal may.may in
-    let range = start_range s.allowance s.low s.high goal may.may in
-    let room = room_to_start c (highest goal) (goal_nodes goal) may.free.has in
-    let most = low_limits a.rules c.most (sym at.most_are) in
-    let nodes : goal_nodes s.code.now ≡ goal_nodes goal = ap goal_nodes may.code_is in
-    let entries = ap (λ (l : Limits). l.entries) at.most_are in
-    record {
-      texts_are = are;
-      list = list;
-      few = few_names a goal s.code.now texts may.code_is are may.free.few;
-      can = λ numbers count.
-          record {
-            goal = ap is_goal may.code_is ∙ is.0;
-            numbered = ap is_numbered may.code_is ∙ is.1;
-            variables_are = variables ∙ sym (ap highest may.code_is);
-            numbers_are = count ∙ ap length are;
-            low = range.0;
-            high = range.1;
-            few = omega (arith, room.0, most.variables, at.variables_are, variables);
-            small = omega (arith, room.1, most.nodes, at.nodes_are, nodes);
-          };
-      room = omega (arith, may.free.journal, at.entries_are, entries);
-    }
+-- ---- the step of a start
 
-pub may_answer_it : (a : Account) (c : Counted) (n report : ℕ) (goal : Term) (texts : List (List ℕ)) (s : Answer) → IsAnswerable a.rules a.held a.shoens a.names c n report goal s.code.now s.variable → ((f : Reading) → HasNames (state_of f a) a.names c) →
-    texts ≡ with_names [] (names_of s.code.now) → IsNameList texts → (s.variables ≡ highest goal) × (s.nodes ≡ structures_of goal) → MayBring a texts (Answers s)
-may_answer_it a c n report goal texts s may counts are list sizes =
-    let at = counts (λ x. []) in
-    let is = answer_goal_is n report goal may.may in
-    let room = room_to_answer c (highest goal) (structures_of goal) may.free.has in
-    let most = low_limits a.rules c.most (sym at.most_are) in
-    let entries = ap (λ (l : Limits). l.entries) at.most_are in
-    record {
-      texts_are = are;
-      list = list;
-      few = few_names a goal s.code.now texts may.code_is are may.free.few;
-      can = λ numbers count.
-          record {
-            goal = ap is_goal may.code_is ∙ is.0;
-            numbered = ap is_numbered may.code_is ∙ is.1;
-            variables_are = sizes.0 ∙ sym (ap highest may.code_is);
-            nodes_are = sizes.1 ∙ sym (ap structures_of may.code_is);
-            numbers_are = count ∙ ap length are;
-            unbound = may.unbound;
-            few = omega (arith, room.0, most.variables, at.variables_are, sizes.0);
-            small = omega (arith, room.1, most.nodes, at.nodes_are, sizes.1);
-          };
-      room = omega (arith, may.free.journal, at.entries_are, entries);
-    }
+pub started_steps : (x : Aside) (c : Counted) (allowance low high : ℕ) (goal code : Term) (spares numbers : List CellName) (b r n : Machine) (self : Account) (shoen : ℕ) → account_of x b ≡ self → IsBrought x (λ s. start_goal s allowance low high code) code spares numbers b r n → ((f : Reading) → HasNames (state_of f self) self.names c) → IsStartable self.names c allowance low high goal code → shoen ≡ c.shoens + 1 →
+    (f : Reading) → Fits n.names.names f → step (state_of f self) (start allowance low high goal) ≡ record { state = state_of f (account_of (noted x) n); reply = opened shoen }
+started_steps x c allowance low high goal code spares numbers b r n self shoen view p at may number f fits =
+    let s = state_of f self in
+    let change : State → State = λ z. start_goal z allowance low high code in
+    let R : State → ℕ → Transition = λ z m. record { state = z; reply = opened m } in
+    let last = (at f).shoens_are in
+    let own : suc s.last_shoen ≡ shoen = omega (arith, last, number) in
+    step_startable s self.names c allowance low high goal code (at f) may
+    ∙ ap (λ (t : Term). R (with_entry (start_goal s allowance low high t)) (suc s.last_shoen)) (sym may.code_is)
+    ∙ ap (λ (a : Account). R (with_entry (change (state_of f a))) (suc s.last_shoen)) (sym view)
+    ∙ ap (λ (z : State). R z (suc s.last_shoen)) (brought_state x change code spares numbers b r n p f fits)
+    ∙ ap (R (state_of f (account_of (noted x) n))) own

@@ -1,44 +1,73 @@
 -- What is shown of a shoen, and of the modules.
-use Rattle.kl1_user_account.proofs.Words.{◌≡◌, ◌≢◌, ℕ, zero, suc, ◌+◌, ◌≤◌, ◌==◌, ◌&&◌, ◌||◌, not, Bool, true, false, if◌then◌else◌, List, [], ◌∷◌, ◌++◌, map, take, length, count_by, refl, sym, ap, ap₂, ◌∙◌, arith, Option, Some, find, option_map, slice_get, cond, AllPairs, eqb-true, sum_by-cons, Life, Living, Terminated, Aborted, Condition, Stopped, Exhausted, Running, is_among, shoen_at, path_within, charged_of, goals_below, Transition, syntax, status_is, refuse, read, status, is_number, condition_by, status_of, condition_of, module_line, step, CellName, Goal, is_monitor, is_goal_of, Shoen, contains_among, parents_in, charged_in, AreBelow, Numbered, contents, ShoenView, parent_shown, is_goal_in, shoen_view, Reading, Account, meaning, goal_with, shoen_with, state_of, AreOwned, is_of_any, found_in, below_is, parents_read, condition_at, is_alive_in, shoen_shown}
-use Rattle.std.proofs.Common.{nat_le}
+use Rattle.std.proofs.Common.{◌≡◌, ◌≢◌, ℕ, zero, suc, ◌+◌, ◌<◌, ◌≤◌, ◌==◌, ◌&&◌, ◌||◌, not, nat_le, Bool, true, false, if◌then◌else◌, List, [], ◌∷◌, ◌++◌, map, take, length, count_by, refl, sym, ap, ap₂, ◌∙◌, arith}
+use Rattle.std.specs.Prelude.{Option, Some, None, find, option_map, slice_get, cond}
+use Rattle.std.specs.List.{AllPairs}
+use Rattle.std.proofs.lemmas.Bool.{eqb-true}
+use Rattle.std.proofs.lemmas.List.Sums.{sum_by-cons}
+use Rattle.kl1_model.specs.declared.life.Life.{Life}
+use Rattle.kl1_model.specs.declared.life.Life.TheVariants.{Living, Terminated, Aborted}
+use Rattle.kl1_model.specs.declared.condition.Condition.{Condition}
+use Rattle.kl1_model.specs.declared.condition.Condition.TheVariants.{Stopped, Exhausted, Running}
+use Rattle.kl1_model.specs.Module.{is_among}
 use Rattle.kl1_model.specs.State as model
-use Rattle.kl1_shoen.specs.Shoens.{has_number}
-use Rattle.kl1_user_account.proofs.Counting.{monitor_read, count_alike}
+use Rattle.kl1_model.specs.State.{State, shoen_at}
+use Rattle.kl1_model.specs.Tree.{parents_of, path_within, charged_of, goals_below}
+use Rattle.kl1_model.specs.Event.{Transition, no_shoen, syntax, status_is, refuse, read, status, is_number}
+use Rattle.kl1_model.specs.code.Steps as asking
+use Rattle.kl1_model.specs.Asking.{module_line}
+use Rattle.kl1_model.specs.Step.{step}
+use Rattle.kl1_text.specs.declared.cell_name.CellName.{CellName}
+use Rattle.kl1_goals.specs.declared.task.Task.{Task}
+use Rattle.kl1_goals.specs.declared.task.Task.TheVariants.{Monitor, Reduces, Substitutes}
+use Rattle.kl1_goals.specs.declared.goal.Goal.{Goal}
+use Rattle.kl1_goals.specs.Lists.{is_monitor, is_monitor_task, is_goal_of}
+use Rattle.kl1_shoen_paths.specs.declared.shoen.Shoen.{Shoen}
+use Rattle.kl1_shoen.specs.Shoens.{has_number, parents_in, charged_in, is_on_path_in, AreBelow}
+use Rattle.kl1_codes.specs.Numbered.{Numbered}
+use Rattle.kl1_codes.specs.Finding.{contents}
+use Rattle.kl1_user_effects.specs.Account.{Means, task_with, goal_with, shoen_with, state_with}
+use Rattle.kl1_user_effects.specs.Kept.{AreOwned}
+use Rattle.kl1_user_account.specs.Asked.{condition_at, condition_by, is_alive_in}
+use Rattle.kl1_user_effects.specs.Drafts.{is_of_any}
+use Rattle.kl1_user_effects.proofs.States.{found_in}
+use Rattle.kl1_user_effects.proofs.Below.{contained_among, below_is}
 
--- ---- a shoen
+-- ---- the tree
+
+parents_read : (t : Means) (ss : List (Shoen CellName)) → parents_of (map (shoen_with t) ss) ≡ parents_in ss
+parents_read t [] = refl
+parents_read t (s ∷ ss) = ap (λ (ps : List ℕ). s.parent ∷ ps) (parents_read t ss)
 
 -- what a shoen is charged
-charged_read : (f : Reading) (a : Account) (n : ℕ) → charged_of (state_of f a) n ≡ charged_in a.shoens a.work n
-charged_read f a n = ap (λ ps. count_by (λ w. is_among n (path_within w ps w)) a.work) (parents_read (meaning f a.held) a.shoens)
+pub charged_read : (t : Means) (s : State) (last : ℕ) (gs : List (Goal CellName)) (ss : List (Shoen CellName)) (work : List ℕ) (n : ℕ) → s.work ≡ work → charged_of (state_with s t last gs ss) n ≡ charged_in ss work n
+charged_read t s last gs ss work n e =
+    ap (λ ps. count_by (λ w. is_among n (path_within w ps w)) s.work) (parents_read t ss)
+    ∙ ap (λ (ws : List ℕ). count_by (λ w. is_on_path_in ss n w) ws) e
 
 -- the state of a shoen
-condition_read : (f : Reading) (a : Account) (h : Shoen CellName) (life : Life) → condition_by (state_of f a) (shoen_with (meaning f a.held) h) life ≡ condition_at h (charged_in a.shoens a.work h.number) life
-condition_read f a h Terminated = refl
-condition_read f a h Aborted = refl
-condition_read f a h Living = ap (λ m. if h.is_stopped then Stopped else if nat_le h.allowance m then Exhausted else Running) (charged_read f a h.number)
-
--- a shoen is shown as it is kept
-pub shoen_read : (f : Reading) (a : Account) (h : Shoen CellName) → shoen_view (state_of f a) (shoen_with (meaning f a.held) h) ≡ shoen_shown a.shoens a.work a.goals h
-shoen_read f a h =
-    let t = meaning f a.held in
-    let V : Condition → ℕ → ℕ → ShoenView = λ x c n. record { number = record { 0 = h.number }; parent = parent_shown h.parent; condition = x; charged = c; allowance = h.allowance; alive = n } in
-    ap₂ (V (condition_of (state_of f a) (shoen_with t h))) (charged_read f a h.number) (count_alike (is_goal_in h.number) (is_goal_of h.number) t (λ g. ap (λ b. g.shoen == h.number && not b) (monitor_read t g.task)) a.goals)
-    ∙ ap (λ x. V x (charged_in a.shoens a.work h.number) (count_by (is_goal_of h.number) a.goals)) (condition_read f a h h.life)
+pub condition_read : (t : Means) (s : State) (last : ℕ) (gs : List (Goal CellName)) (ss : List (Shoen CellName)) (h : Shoen CellName) (life : Life) (n : ℕ) → charged_of (state_with s t last gs ss) h.number ≡ n →
+    asking.condition_by (state_with s t last gs ss) (shoen_with t h) life ≡ condition_at h n life
+condition_read t s last gs ss h Terminated n e = refl
+condition_read t s last gs ss h Aborted n e = refl
+condition_read t s last gs ss h Living n e = ap (λ m. if h.is_stopped then Stopped else if nat_le h.allowance m then Exhausted else Running) e
 
 -- ---- goals below
 
--- the goals in a shoen and below it are those of the shoens that are found there
-pub below_read : (f : Reading) (a : Account) (n : ℕ) (below : List ℕ) → AreBelow a.shoens n below → AreOwned (length a.shoens) a.goals → goals_below (state_of f a) n ≡ count_by (is_alive_in below) a.goals
-below_read f a n below b owned =
-    ap (λ ps. count_by (λ (g : model.Goal). not (model.is_monitor g.task) && is_among n (path_within g.shoen ps g.shoen)) (map (goal_with (meaning f a.held)) a.goals)) (parents_read (meaning f a.held) a.shoens) ∙ each a.goals owned
-  where
-    each : (gs : List (Goal CellName)) → AreOwned (length a.shoens) gs → count_by (λ (g : model.Goal). not (model.is_monitor g.task) && is_among n (path_within g.shoen (parents_in a.shoens) g.shoen)) (map (goal_with (meaning f a.held)) gs) ≡ count_by (is_alive_in below) gs
-    each [] o = refl
-    each (g ∷ gs) o =
-        let high = o.0.high in
-        sum_by-cons (λ (k : model.Goal). cond (not (model.is_monitor k.task) && is_among n (path_within k.shoen (parents_in a.shoens) k.shoen)) 1 0) (goal_with (meaning f a.held) g) (map (goal_with (meaning f a.held)) gs)
-        ∙ ap₂ (λ (x : Bool) (m : ℕ). cond x 1 0 + m) (ap₂ (λ x y. not x && y) (monitor_read (meaning f a.held) g.task) (below_is n g.shoen a.shoens below b o.0.low (omega (arith, high)))) (each gs o.1)
-        ∙ sym (sum_by-cons (λ (k : Goal CellName). cond (is_alive_in below k) 1 0) g gs)
+pub monitor_read : (t : Means) (k : Task CellName) → model.is_monitor (task_with t k) ≡ is_monitor_task k
+monitor_read t Monitor = refl
+monitor_read t (Reduces q) = refl
+monitor_read t (Substitutes x) = refl
+
+goals_read : (t : Means) (n : ℕ) (ss : List (Shoen CellName)) (ps below : List ℕ) (gs : List (Goal CellName)) → AreBelow ss n below → AreOwned (length ss) gs → ps ≡ parents_in ss →
+    count_by (λ (g : model.Goal). not (model.is_monitor g.task) && is_among n (path_within g.shoen ps g.shoen)) (map (goal_with t) gs) ≡ count_by (is_alive_in below) gs
+goals_read t n ss ps below [] b o e = refl
+goals_read t n ss ps below (g ∷ gs) b o e =
+    let high = o.0.high in
+    sum_by-cons (λ (k : model.Goal). cond (not (model.is_monitor k.task) && is_among n (path_within k.shoen ps k.shoen)) 1 0) (goal_with t g) (map (goal_with t) gs)
+    ∙ ap₂ (λ (b : Bool) (m : ℕ). cond b 1 0 + m)
+    (ap₂ (λ b c. not b && c) (monitor_read t g.task) (ap (λ qs. is_among n (path_within g.shoen qs g.shoen)) e ∙ below_is n g.shoen ss below b o.0.low (omega (arith, high))))
+    (goals_read t n ss ps below gs b o.1 e)
+    ∙ sym (sum_by-cons (λ (k : Goal CellName). cond (is_alive_in below k) 1 0) g gs)
 
 -- how many goals shoens have, one shoen after another
 abbrev pub alive_each : List (Goal CellName) → List ℕ → ℕ
@@ -50,8 +79,11 @@ once_first : (n : ℕ) (ns : List ℕ) → AllPairs (λ a b. a ≢ b) (n ∷ ns)
 once_first n ns once = by_case (is_among n ns) refl
   where
     by_case : (b : Bool) → is_among n ns ≡ b → is_among n ns ≡ false
-    by_case true e = absurd (let c = contains_among n ns e in let lt = c.1 in once 0 (suc c.0) n (omega arith) (omega (arith, lt)) (sym c.2))
+    by_case true e = absurd (let c = contained_among n ns e in let lt = c.1 in once 0 (suc c.0) n (omega arith) (omega (arith, lt)) (sym c.2))
     by_case false e = e
+
+once_rest : (n : ℕ) (ns : List ℕ) → AllPairs (λ a b. a ≢ b) (n ∷ ns) → AllPairs (λ a b. a ≢ b) ns
+once_rest n ns once i j d lt less = once (suc i) (suc j) d (omega (arith, lt)) (omega (arith, less))
 
 -- goals of a shoen, and of others
 count_both : (n : ℕ) (ns : List ℕ) (gs : List (Goal CellName)) → is_among n ns ≡ false → count_by (is_goal_of n) gs + count_by (is_alive_in ns) gs ≡ count_by (is_alive_in (n ∷ ns)) gs
@@ -66,24 +98,29 @@ count_both n ns (g ∷ gs) e =
   where
     by_case : (same monitor among : Bool) → (same ≡ true → among ≡ false) → cond (same && not monitor) 1 0 + cond (not monitor && among) 1 0 ≡ cond (not monitor && (same || among)) 1 0
     by_case true true among f = refl
-    by_case true false among f = ap (λ b. 1 + cond b 1 0) (f refl)
+    by_case true false true f = absurd (let z : true ≡ false = f refl in cc)
+    by_case true false false f = refl
     by_case false true among f = refl
     by_case false false true f = refl
     by_case false false false f = refl
 
+-- no shoens have no goals
+alive_none : (gs : List (Goal CellName)) → 0 ≡ count_by (is_alive_in []) gs
+alive_none [] = refl
+alive_none (g ∷ gs) =
+    let a = sum_by-cons (λ (k : Goal CellName). cond (is_alive_in [] k) 1 0) g gs in
+    let rest = alive_none gs in
+    let one : ◌≡◌ {A = ℕ} (cond (is_alive_in [] g) 1 0) 0 = by_case (is_monitor g) in
+    omega (arith, a, rest, one)
+  where
+    by_case : (b : Bool) → ◌≡◌ {A = ℕ} (cond (not b && false) 1 0) 0
+    by_case true = refl
+    by_case false = refl
+
 -- goals of shoens, none of which stands twice
 pub alive_all : (gs : List (Goal CellName)) (ns : List ℕ) → AllPairs (λ a b. a ≢ b) ns → alive_each gs ns ≡ count_by (is_alive_in ns) gs
-alive_all gs [] once = sym (none gs)
-  where
-    one : (b : Bool) → ◌≡◌ {A = ℕ} (cond (not b && false) 1 0) 0
-    one true = refl
-    one false = refl
-
-    none : (ks : List (Goal CellName)) → count_by (is_alive_in []) ks ≡ 0
-    none [] = refl
-    none (k ∷ ks) = sum_by-cons (λ (j : Goal CellName). cond (is_alive_in [] j) 1 0) k ks ∙ ap₂ (λ (m n : ℕ). m + n) (one (is_monitor k)) (none ks)
-alive_all gs (n ∷ ns) once =
-    ap (λ m. count_by (is_goal_of n) gs + m) (alive_all gs ns (λ i j d lt less. once (suc i) (suc j) d (omega (arith, lt)) (omega (arith, less)))) ∙ count_both n ns gs (once_first n ns once)
+alive_all gs [] once = alive_none gs
+alive_all gs (n ∷ ns) once = ap (λ m. count_by (is_goal_of n) gs + m) (alive_all gs ns (once_rest n ns once)) ∙ count_both n ns gs (once_first n ns once)
 
 -- they are no more than all goals but monitors
 pub alive_few : (ns : List ℕ) (gs : List (Goal CellName)) → count_by (is_alive_in ns) gs ≤ count_by (λ (g : Goal CellName). not (is_monitor g)) gs
@@ -102,18 +139,40 @@ alive_few ns (g ∷ gs) =
 
 -- ---- the answers
 
--- what is told of a shoen that may be there
-pub status_read : (f : Reading) (a : Account) (n : ℕ) (o : Option (Shoen CellName)) → is_number n ≡ true → o ≡ find (has_number n) a.shoens → step (state_of f a) (read (status n)) ≡ status_of (state_of f a) (option_map (shoen_with (meaning f a.held)) o)
-status_read f a n o e is =
-    ap (λ b. if b then status_of (state_of f a) (shoen_at n (state_of f a).shoens) else refuse (state_of f a) syntax) e
-    ∙ ap (status_of (state_of f a)) (found_in (meaning f a.held) n a.shoens ∙ ap (option_map (shoen_with (meaning f a.held))) (sym is))
+asked : (t : Means) (s : State) (last : ℕ) (gs : List (Goal CellName)) (ss : List (Shoen CellName)) (n : ℕ) (o : Option (Shoen CellName)) → is_number n ≡ true → o ≡ find (has_number n) ss →
+    step (state_with s t last gs ss) (read (status n)) ≡ asking.status_of (state_with s t last gs ss) (option_map (shoen_with t) o)
+asked t s last gs ss n o e is =
+    ap (λ b. if b then asking.status_of (state_with s t last gs ss) (shoen_at n (map (shoen_with t) ss)) else refuse (state_with s t last gs ss) syntax) e
+    ∙ ap (asking.status_of (state_with s t last gs ss)) (found_in t n ss ∙ ap (option_map (shoen_with t)) (sym is))
 
--- what is told of one that is there
-pub status_some : (f : Reading) (a : Account) (n : ℕ) (h : Shoen CellName) (v : ShoenView) (alive : ℕ) → is_number n ≡ true → Some h ≡ find (has_number n) a.shoens → v ≡ shoen_shown a.shoens a.work a.goals h → goals_below (state_of f a) h.number ≡ alive →
-    step (state_of f a) (read (status n)) ≡ record { state = state_of f a; reply = status_is v.condition v.charged v.allowance alive }
-status_some f a n h v alive e is shown below =
-    let R : ShoenView → ℕ → Transition = λ w m. record { state = state_of f a; reply = status_is w.condition w.charged w.allowance m } in
-    status_read f a n (Some h) e is ∙ ap₂ R (shoen_read f a h ∙ sym shown) below
+-- if there is no shoen of the number
+pub asked_none : (t : Means) (s : State) (last : ℕ) (gs : List (Goal CellName)) (ss : List (Shoen CellName)) (n : ℕ) (o : Option (Shoen CellName)) → is_number n ≡ true → o ≡ find (has_number n) ss → o ≡ None →
+    step (state_with s t last gs ss) (read (status n)) ≡ refuse (state_with s t last gs ss) no_shoen
+asked_none t s last gs ss n o e is none = asked t s last gs ss n o e is ∙ ap (λ p. asking.status_of (state_with s t last gs ss) (option_map (shoen_with t) p)) none
+
+-- if there is one
+pub asked_some : (t : Means) (s : State) (last : ℕ) (gs : List (Goal CellName)) (ss : List (Shoen CellName)) (work : List ℕ) (n : ℕ) (o : Option (Shoen CellName)) (h : Shoen CellName) (condition : Condition) (charged alive : ℕ) (below sliced : List ℕ) → is_number n ≡ true → o ≡ find (has_number n) ss → o ≡ Some h → h.number ≡ n →
+    AreOwned (length ss) gs → s.work ≡ work → charged ≡ charged_in ss work n → condition ≡ condition_by h charged → AreBelow ss n below → sliced ≡ below → alive ≡ count_by (is_alive_in sliced) gs →
+    step (state_with s t last gs ss) (read (status n)) ≡ record { state = state_with s t last gs ss; reply = status_is condition charged h.allowance alive }
+asked_some t s last gs ss work n o h condition charged alive below sliced e is some number owned worked c d b sl a =
+    let S = state_with s t last gs ss in
+    let R : Condition → ℕ → ℕ → Transition = λ x y z. record { state = S; reply = status_is x y h.allowance z } in
+    let charge : charged_of S h.number ≡ charged = ap (charged_of S) number ∙ charged_read t s last gs ss work n worked ∙ sym c in
+    let beneath : goals_below S h.number ≡ alive =
+    ap (goals_below S) number ∙ goals_read t n ss (parents_of (map (shoen_with t) ss)) below gs b owned (parents_read t ss)
+    ∙ ap (λ (ns : List ℕ). count_by (is_alive_in ns) gs) (sym sl) ∙ sym a in
+    asked t s last gs ss n o e is ∙ ap (λ p. asking.status_of S (option_map (shoen_with t) p)) some
+    ∙ ap (λ x. R x (charged_of S h.number) (goals_below S h.number)) (condition_read t s last gs ss h h.life charged charge ∙ sym d)
+    ∙ ap (λ y. R condition y (goals_below S h.number)) charge
+    ∙ ap (R condition charged) beneath
+
+-- ---- the modules
+
+pub take_past : {A : Type 0} (xs : List A) (n : ℕ) → slice_get xs n ≡ None → take n xs ≡ xs
+take_past [] zero e = refl
+take_past [] (suc n) e = refl
+take_past (x ∷ xs) zero e = absurd (cc)
+take_past (x ∷ xs) (suc n) e = ap (λ (ys : List _). x ∷ ys) (take_past xs n e)
 
 -- the lines of modules
 abbrev pub lines_of : List Numbered → List (List ℕ)

@@ -27,4 +27,4 @@ kept_in u = record {
 
 -- what always holds of the fields
 abbrev pub IsKept : {C R : Type 0} → Inside C R → Type 0
-IsKept u = keeping.IsKept (kept_in u) u.machine.store.hooks u.machine.goals.shoens u.machine.goals.last × CountsWork (length u.machine.shoens.work) u.entries u.run
+IsKept u = keeping.IsKept (kept_in u) u.machine.store.hooks u.machine.goals.shoens × CountsWork (length u.machine.shoens.work) u.entries u.run

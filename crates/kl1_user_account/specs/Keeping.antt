@@ -18,9 +18,9 @@ pub record CountsWork (work entries run : ℕ) : Type 0 where
   pub all : work ≤ entries * MOST_RUN
   pub last : 0 < run → work + MOST_RUN ≤ entries * MOST_RUN + run
 
--- what always holds of an account, on whose variables these numbers hang, and whose table of goals knows `known` shoens and had no goal
--- put with a number above `put`; that its shoens are a tree is what the tree of shoens keeps
-pub record IsKept (a : Account) (hooks : List Hook) (known put : ℕ) : Type 0 where
+-- what always holds of an account, on whose variables these numbers hang, and whose table of goals knows `known` shoens; that its
+-- shoens are a tree is what the tree of shoens keeps
+pub record IsKept (a : Account) (hooks : List Hook) (known : ℕ) : Type 0 where
   pub some : 0 < a.held.variables
   pub goals : AreGoalsIn a.held a.goals
   pub owned : AreOwned (length a.shoens) a.goals
@@ -28,7 +28,6 @@ pub record IsKept (a : Account) (hooks : List Hook) (known put : ℕ) : Type 0 w
   pub count : known ≡ length a.shoens
   pub first : AllByRecursion (λ g. 0 < g.number) a.goals
   pub last : AreUpTo a.last_goal a.goals
-  pub placed : put ≤ a.last_goal
   pub most : a.entries ≤ (limits_of a.rules).entries
   pub settled : (f : Reading) → Fits a.names f → AreSettled f hooks a.held (program_of a) a.shoens a.goals
   pub enabled : AreEnabled a.shoens a.work a.goals

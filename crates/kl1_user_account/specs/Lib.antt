@@ -8,4 +8,3 @@ pub mod Beginning
 pub mod Answering
 pub mod Viewed
 pub mod NameRows
-pub mod Bringing

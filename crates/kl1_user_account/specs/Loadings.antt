@@ -1,5 +1,5 @@
 -- What comes of a load.
-use Rattle.std.specs.Prelude.{◌≡◌, ℕ, ◌<◌, ◌≤◌, Bool, false, List, length, Option, Some, None, is_some}
+use Rattle.std.specs.Prelude.{◌≡◌, ℕ, ◌<◌, ◌≤◌, Bool, false, List, length, map, Option, Some, None, is_some}
 use Rattle.kl1_model.specs.declared.limits.TheConstants.{MOST_NAMES, MOST_MODULES}
 use Rattle.kl1_model.specs.Match.{module_of}
 use Rattle.kl1_model.specs.State.{State}
@@ -17,6 +17,11 @@ use Rattle.kl1_user_events.specs.declared.refusal.Refusal.{Refusal}
 use Rattle.kl1_user_effects.specs.Account.{texts_of}
 use Rattle.kl1_user_effects.specs.Naming.{ReadsDraft}
 use Rattle.kl1_user_events.specs.Views.{refusal_of}
+use Rattle.kl1_store.specs.Hooks.{point_of}
+use Rattle.kl1_codes.specs.Shelves.{Program, with_last}
+use Rattle.kl1_machine.specs.declared.machine.Machine.{Machine}
+use Rattle.kl1_machine.specs.Machines.{IsBack}
+use Rattle.kl1_machine.specs.Rescheduling.{unready, Reschedules, AllSettled}
 
 -- a state with these modules and names, whose journal is full or not
 pub record HasModules (s : State) (ms : List Numbered) (names : List Known) (full : Bool) : Type 0 where
@@ -57,3 +62,31 @@ LoadsAs ms names full source (Drafted d) = IsDraftOf ms names full source d
 abbrev pub StandsIn : {C R : Type 0} → (ℕ × ℕ → Type 0) → Loading C R → Type 0
 StandsIn has (Refused r) = Unit {0}
 StandsIn has (Drafted d) = has d.place
+
+-- an event has begun with a machine
+abbrev pub BeginsFrom : Machine → Machine → Type 0
+BeginsFrom m b =
+    b ≡ record m {
+      mark = point_of m.store;
+      goals = record m.goals { begun = m.goals.goals; begun_shoens = m.goals.shoens };
+      shoens = record m.shoens { kept = m.shoens.shoens; kept_work = m.shoens.work };
+      begun = m.counts;
+      name = None;
+      spelled = None;
+      told = b.told;
+      shifts = false;
+    }
+
+-- an event has begun with a machine, and all goals were looked at with a drafted module beside the others
+pub record LooksBeside (program : Program) (d : Numbered) (m r : Machine) : Type 0 where
+  pub begun : Machine
+  pub begins : BeginsFrom m begun
+  pub looks : Reschedules begun r
+  pub settled : AllSettled (with_last program d) r
+  pub flags : map unready r.goals.goals ≡ map unready begun.goals.goals
+
+-- an event has begun with a machine, and it went back
+pub record GoesBack (m r : Machine) : Type 0 where
+  pub begun : Machine
+  pub begins : BeginsFrom m begun
+  pub back : IsBack begun r

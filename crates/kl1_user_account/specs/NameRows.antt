@@ -1,7 +1,7 @@
 -- Names that a goal of the console brings, until they are published.
 use Rattle.std.specs.Prelude.{◌≡◌, ℕ, ◌*◌, ◌≤◌, List, [], length, vec_capacity}
 use Rattle.kl1_atoms.specs.declared.known.Known.{Known}
-use Rattle.kl1_user_effects.specs.Exchanging.{AreSpared}
+use Rattle.kl1_machine.specs.Exchanging.{AreSpared}
 use Rattle.kl1_user_account.specs.declared.name_rows.NameRows.{NameRows}
 
 -- the rows for these names, in an account that has others: numbers of those that are used, spare ones for those that are new, and room for

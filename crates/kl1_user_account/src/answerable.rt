@@ -6,13 +6,17 @@ ghost use Rattle.kl1_user_effects.specs.Kept.{AreShoensIn};
 ghost use Rattle.kl1_user_account.specs.Answering.{AnswersAs};
 
 use crate::counted::Counted;
+use crate::limits::are_numbers;
 use crate::line_length::fits_answer;
 use kl1_clause::{GoalCode, structures_of};
-use kl1_machine::Machine;
+use kl1_goals::Rules;
 use kl1_read::is_goal;
+use kl1_shoen::ShoenTree;
+use kl1_store::Store;
 use kl1_stream::unanswered_at;
 use kl1_term::Term;
-use kl1_user_effects::are_numbers;
+use kl1_text::CellName;
+use kl1_user_effects::AccountNames;
 use kl1_user_events::Refusal;
 use std::alloc::{AllocError, Global};
 
@@ -43,37 +47,45 @@ fn may_answer(alloc: Global, number: u64, report: u64, goal: &Term) -> Result<bo
     fits_answer(alloc, number, report, goal)
 }
 
-/// The code of the goal of an answer to a report of shoen `number`, in an account with this machine and these counts, and the
+/// The code of the goal of an answer to a report of shoen `number`, in an account with these rules, names and counts, and the
 /// variable for which a substitute waits, or why it is refused.
 pub(crate) fn code_of_answer(
     alloc: Global,
-    machine: &Machine,
+    rules: Rules,
+    store: &Store<CellName>,
+    shoens: &ShoenTree<CellName>,
+    names: &AccountNames,
     counted: Counted,
     number: u64,
     report: u64,
     goal: &Term,
 ) -> Result<Answering, AllocError>
-    requires shoens { AreShoensIn machine.now.store.held machine.now.shoens.shoens }
-    ensures { IfOk result (AnswersAs machine.now.rules machine.now.store.held machine.now.shoens.shoens machine.now.names.names counted number report goal.now) }
+    requires shoens { AreShoensIn store.now.held shoens.now.shoens }
+    ensures { IfOk result (AnswersAs rules store.now.held shoens.now.shoens names.now.names counted number report goal.now) }
 {
-    if !machine.rules.has_substitutes() {
+    if !rules.has_substitutes() {
         return Ok(Answering::Refused(Refusal::Syntax));
     }
     if !may_answer(alloc, number, report, goal)? {
         return Ok(Answering::Refused(Refusal::Syntax));
     }
-    let Some(origin) = machine.shoens.origin_at(number) else {
+    let Some(origin) = shoens.origin_at(number) else {
         return Ok(Answering::Refused(Refusal::NoShoen));
     };
-    if !machine.shoens.lives(number) {
+    if !shoens.lives(number) {
         return Ok(Answering::Refused(Refusal::Ended));
     }
     let code = GoalCode::compile(alloc, goal)?;
-    let has_room = counted.has_room_to_answer(goal.highest(), structures_of(goal));
-    if let Some(refusal) = counted.refusal_of(&machine.names, code.names(), has_room) {
-        return Ok(Answering::Refused(refusal));
+    if names.are_too_many(code.names()) {
+        return Ok(Answering::Refused(Refusal::Names));
     }
-    match unanswered_at(&machine.store, origin.reports, report) {
+    if !counted.has_room_to_answer(goal.highest(), structures_of(goal)) {
+        return Ok(Answering::Refused(Refusal::Limit));
+    }
+    if counted.is_full() {
+        return Ok(Answering::Refused(Refusal::Journal));
+    }
+    match unanswered_at(store, origin.reports, report) {
         None => Ok(Answering::Refused(Refusal::Answer)),
         Some(variable) => Ok(Answering::Coded(code, variable)),
     }

@@ -1,32 +1,37 @@
 // What is asked of an account: the state of a shoen, its reports, and the modules.
 
-ghost use Rattle.std.specs.Prelude.{◌≡◌, ◌++◌, ◌-◌, ◌≢◌, map, take, codes, decimal, count_by, IfOk, OnOk};
+ghost use Rattle.std.specs.Prelude.{◌≡◌, ℕ, ◌++◌, ◌∷◌, [], ◌-◌, ◌≤◌, ◌≢◌, List, length, map, take, drop, codes, decimal, count_by, IfOk, OnOk};
 ghost use Rattle.std.specs.List.{AllPairs};
 ghost use Rattle.kl1_model.specs.State.{State};
 ghost use Rattle.kl1_model.specs.Step.{step};
-ghost use Rattle.kl1_model.specs.Event.{read, reports, modules};
+ghost use Rattle.kl1_model.specs.Event.{read, status, reports, modules};
 ghost use Rattle.kl1_model.specs.Asking.{module_line};
 ghost use Rattle.kl1_model.specs.Print.{cut_print};
 ghost use Rattle.kl1_user_events.specs.Views.{reply_of};
 ghost use Rattle.kl1_store.specs.Held.{IsIn};
+ghost use Rattle.kl1_shoen.specs.Shoens.{is_exhausted_in};
+ghost use Rattle.kl1_goals.specs.declared.goal.Goal.{Goal};
 ghost use Rattle.kl1_codes.specs.Finding.{contents};
 ghost use Rattle.kl1_text.specs.declared.cell_name.CellName.{CellName};
 ghost use Rattle.kl1_user_effects.specs.Fitting.{Reading, Fits};
+ghost use Rattle.kl1_user_effects.specs.Account.{Means, meaning, shoen_with, state_with, with_kept};
+ghost use Rattle.kl1_user_effects.specs.Kept.{AreOwned, AreShoensIn};
 ghost use Rattle.kl1_user_effects.specs.Naming.{AreSmall, Keeps};
 ghost use Rattle.kl1_user_account.specs.Asked.{condition_by, is_alive_in, cells_of};
 
+use crate::limits::{are_numbers, is_number};
 use crate::printing::print_cell;
 use itoa::Buffer;
 use kl1_atoms::AtomSource;
 use kl1_codes::{CodeSource, CodedModule, CodedModules};
-use kl1_goals::GoalTable;
-use kl1_model::limits::MOST_PRINTED_BYTES;
+use kl1_goals::GoalRow;
+use kl1_model::limits::{MOST_LISTED, MOST_PRINTED_BYTES};
 use kl1_model::{Condition, Life};
-use kl1_shoen::Shoen;
+use kl1_shoen::{Shoen, ShoenTree};
 use kl1_store::{Cell, Store};
-use kl1_stream::next_element;
+use kl1_stream::{next_element, nth_cell};
 use kl1_text::{CellName, put_atom};
-use kl1_user_events::{Listed, Reply};
+use kl1_user_events::{Listed, Refusal, Reply};
 use std::alloc::{AllocError, Global};
 
 /// The state of a shoen as it is shown, if `charged` is what it was charged.
@@ -49,7 +54,7 @@ pub(crate) fn condition_of(shoen: &Shoen<CellName>, charged: u64) -> Condition
 }
 
 /// How many goals these shoens have other than their monitors. None of them may stand twice.
-pub(crate) fn alive_in(goals: &GoalTable<CellName>, shoens: &[u64]) -> u64
+fn alive_in(goals: &GoalRow<CellName>, shoens: &[u64]) -> u64
     requires { AllPairs (λ a b. a ≢ b) shoens.now }
     ensures { result ≡ count_by (is_alive_in shoens.now) goals.now.goals }
 {
@@ -62,8 +67,37 @@ pub(crate) fn alive_in(goals: &GoalTable<CellName>, shoens: &[u64]) -> u64
     alive
 }
 
+/// The state of shoen `number`, with what it was charged, its allowance, and how many goals there are in it and below it.
+pub(crate) fn status_of(
+    alloc: Global,
+    shoens: &ShoenTree<CellName>,
+    goals: &GoalRow<CellName>,
+    number: u64,
+) -> Result<Reply, AllocError>
+    requires { AreOwned (length shoens.now.shoens) goals.now.goals }
+    ensures { IfOk result (λ reply. (t : Means) (s : State) (last : ℕ) → s.work ≡ shoens.now.work → step (state_with s t last goals.now.goals shoens.now.shoens) (read (status number)) ≡ record { state = state_with s t last goals.now.goals shoens.now.shoens; reply = reply_of reply }) }
+{
+    if !is_number(number) {
+        return Ok(Reply::Refused(Refusal::Syntax));
+    }
+    // Only for the proof: the shoens are numbered in order.
+    let _numbered = shoens.len();
+    let Some(shoen) = shoens.lend(number) else {
+        return Ok(Reply::Refused(Refusal::NoShoen));
+    };
+    let charged = shoens.charged(number);
+    let mut below = Vec::new(alloc);
+    shoens.below(number, &mut below)?;
+    Ok(Reply::Status {
+        condition: condition_of(shoen, charged),
+        charged,
+        allowance: shoen.allowance,
+        alive: alive_in(goals, below.as_slice()),
+    })
+}
+
 /// The elements of a list from one on, at most `most`, each printed and cut.
-pub(crate) fn list_cells<A: AtomSource>(
+fn list_cells<A: AtomSource>(
     alloc: Global,
     names: &mut A,
     seat: &mut A::Seat,
@@ -92,6 +126,38 @@ pub(crate) fn list_cells<A: AtomSource>(
         left -= 1;
     }
     Ok(listed)
+}
+
+/// The reports of shoen `number`, which the console started, from one on, the first being 1: at most 64, each printed and cut.
+pub(crate) fn reports_of<A: AtomSource>(
+    alloc: Global,
+    names: &mut A,
+    seat: &mut A::Seat,
+    store: &Store<CellName>,
+    shoens: &ShoenTree<CellName>,
+    number: u64,
+    from: u64,
+) -> Result<Reply, AllocError>
+    requires shoens { AreShoensIn store.now.held shoens.now.shoens }
+    requires of { A.is_of names.old seat.old }
+    requires small { AreSmall (A.knows seat.old) }
+    requires named { (f g : Reading) → Fits (A.knows seat.old) f → Fits (A.knows seat.old) g → map (shoen_with (meaning f store.now.held)) shoens.now.shoens ≡ map (shoen_with (meaning g store.now.held)) shoens.now.shoens }
+    ensures step { IfOk result (λ reply. (f : Reading) → Fits (A.knows seat.old) f → (s : State) (goals : List (Goal CellName)) → step (with_kept f s store.now.held goals shoens.now.shoens) (read (reports number from)) ≡ record { state = with_kept f s store.now.held goals shoens.now.shoens; reply = reply_of reply }) }
+    ensures keeps { Keeps A.is_of A.place A.knows A.published names.old names.new seat.old seat.new }
+    ensures knows { A.knows seat.new ≡ A.knows seat.old }
+{
+    if !are_numbers(number, from) {
+        return Ok(Reply::Refused(Refusal::Syntax));
+    }
+    if from < 1 {
+        return Ok(Reply::Refused(Refusal::Syntax));
+    }
+    let Some(origin) = shoens.origin_at(number) else {
+        return Ok(Reply::Refused(Refusal::NoShoen));
+    };
+    let first = nth_cell(store, origin.reports, from - 1);
+    let listed = list_cells(alloc, names, seat, store, first, MOST_LISTED)?;
+    Ok(Reply::Listed(listed))
 }
 
 /// A module's name, how many bytes its source has, and how many clauses.

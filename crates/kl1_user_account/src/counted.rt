@@ -1,16 +1,10 @@
 // How much an account has of what is limited.
 
-ghost use Rattle.std.specs.Prelude.{◌≡◌, nat_lt, not, None};
-ghost use Rattle.kl1_model.specs.Event.{Transition, unless};
-ghost use Rattle.kl1_model.specs.State.{State};
-ghost use Rattle.kl1_clause.specs.NameList.{IsNameList};
+ghost use Rattle.std.specs.Prelude.{◌≡◌, ◌+◌, nat_le, nat_lt, not};
 ghost use Rattle.kl1_user_account.specs.Answering.{has_room_to_answer_beside};
-ghost use Rattle.kl1_user_account.specs.Starting.{has_room_beside, refusals_of, refused_or, IsFree};
+ghost use Rattle.kl1_user_account.specs.Starting.{has_room_beside};
 
 use kl1_model::Limits;
-use kl1_text::AtomText;
-use kl1_user_effects::{AccountNames, is_within};
-use kl1_user_events::Refusal;
 
 /// How much an account has of what is limited: its goals, without monitors; the variables and the structures of its starts, messages,
 /// answers and commits; the shoens that it opened; and the entries of its journal; with the most that its rules allow of each.
@@ -22,6 +16,13 @@ pub(crate) struct Counted {
     pub shoens: u64,
     pub entries: u64,
     pub most: Limits,
+}
+
+/// Whether `count` and `more` together are at most `most`.
+pub(crate) fn is_within(count: u64, more: u64, most: u64) -> bool
+    ensures { result ≡ nat_le (count + more) most }
+{
+    count <= most && more <= most - count
 }
 
 impl Counted {
@@ -50,28 +51,5 @@ impl Counted {
         ensures { result ≡ not (nat_lt self.now.entries self.now.most.entries) }
     {
         self.most.entries <= self.entries
-    }
-
-    /// Why a goal of the console with these names is refused, by an account with names, if there is room for it or not. `None` if it isn't.
-    pub(crate) fn refusal_of(
-        &self,
-        names: &AccountNames,
-        texts: &[AtomText],
-        has_room: bool,
-    ) -> Option<Refusal>
-        requires { IsNameList texts.now }
-        ensures refuses { (s : State) (after : Transition) → unless s (refusals_of self.now names.now.names texts.now has_room) after ≡ refused_or s after result }
-        ensures free { result ≡ None → IsFree self.now names.now.names texts.now has_room }
-    {
-        if names.are_too_many(texts) {
-            return Some(Refusal::Names);
-        }
-        if !has_room {
-            return Some(Refusal::Limit);
-        }
-        if self.is_full() {
-            return Some(Refusal::Journal);
-        }
-        None
     }
 }

@@ -6,6 +6,7 @@ mod account_name;
 mod answerable;
 mod asking;
 mod counted;
+mod limits;
 mod line_length;
 mod loading;
 mod name_rows;

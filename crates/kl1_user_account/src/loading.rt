@@ -1,6 +1,6 @@
 // Modules that are loaded.
 
-ghost use Rattle.std.specs.Prelude.{◌≡◌, ◌↔◌, ℕ, ◌≤◌, ◌<◌, false, [], ◌∷◌, ◌++◌, length, IfOk, OnOk, vec_capacity};
+ghost use Rattle.std.specs.Prelude.{◌≡◌, ◌↔◌, ℕ, ◌≤◌, ◌<◌, false, [], ◌∷◌, ◌++◌, length, IfOk, OnOk, OnErr, vec_capacity};
 ghost use Rattle.kl1_model.specs.declared.limits.TheConstants.{MOST_SOURCE_BYTES};
 ghost use Rattle.kl1_model.specs.Module.{read_module, good};
 ghost use Rattle.kl1_atoms.specs.Names.{AreNames};
@@ -8,13 +8,16 @@ ghost use Rattle.kl1_codes.specs.Numbered.{AreRead, ArePlaced, own_names, number
 ghost use Rattle.kl1_codes.specs.Finding.{is_numbered};
 ghost use Rattle.kl1_user_effects.specs.Fitting.{Reading, Fits};
 ghost use Rattle.kl1_user_effects.specs.Naming.{AreSmall, ReadsDraft};
-ghost use Rattle.kl1_user_account.specs.Loadings.{DraftsAs, LoadsAs, StandsIn};
+ghost use Rattle.kl1_machine.specs.Machines.{IsMachine};
+ghost use Rattle.kl1_user_account.specs.Loadings.{DraftsAs, LoadsAs, StandsIn, LooksBeside, GoesBack};
 
 use kl1_clause::{Code, CodeFault};
-use kl1_codes::{CodeSource, Loaded, Modules, number_by};
+use kl1_codes::{CodeSource, CodedModule, CodedModules, Loaded, Modules, number_by};
+use kl1_goals_moves::Trial;
+use kl1_machine::Machine;
 use kl1_model::limits::{MOST_MODULES, MOST_SOURCE_BYTES};
 use kl1_text::{AtomText, CellName};
-use kl1_user_effects::{AccountNames, spare_row};
+use kl1_user_effects::{AccountNames, draft_row};
 use kl1_user_events::Refusal;
 use std::alloc::{AllocError, Global};
 
@@ -32,9 +35,8 @@ fn row_of(alloc: Global, names: &AccountNames, code: &Code) -> Result<Vec<CellNa
     requires small { AreSmall names.now.names }
     ensures { IfOk result (λ row. ReadsDraft names.now.names (own_names code.now) row.items) }
 {
-    let texts = code.names();
-    let mut row = Vec::with_capacity(alloc, texts.len())?;
-    spare_row(names, texts, &mut row)?;
+    let mut row = Vec::with_capacity(alloc, code.names().len())?;
+    draft_row(names, code.names(), &mut row)?;
     Ok(row)
 }
 
@@ -166,6 +168,34 @@ pub(crate) fn row_for(
 {
     names.reserve(texts.len())?;
     Vec::with_capacity(alloc, texts.len())
+}
+
+/// Looks at all goals of a machine with a drafted module beside the others: an event begins, and each goal gets the clause by which it can
+/// step then. If memory is refused, the machine goes back.
+pub(crate) fn look_beside<C: CodeSource>(
+    machine: &mut Machine,
+    modules: &Modules<C>,
+    codes: &C,
+    draft: &Loaded<C>,
+    trial: &mut Trial<CellName>,
+) -> Result<(), AllocError>
+    requires machine { IsMachine machine.old }
+    requires placed { ArePlaced (C.has codes.now) modules.now.loaded }
+    requires of { C.has codes.now draft.now.place }
+    requires new { is_numbered modules.now.loaded (number_of draft.now) ≡ false }
+    ensures ok { OnOk result (LooksBeside (record { rules = machine.old.rules; loaded = modules.now.loaded }) draft.now machine.old machine.new) }
+    ensures err { OnErr result (GoesBack machine.old machine.new) }
+{
+    let coded = CodedModules::over(machine.rules, modules, codes);
+    let loaded = CodedModule::over(draft, codes);
+    machine.begin();
+    match machine.reschedule_for_load(&coded, &loaded, trial) {
+        Ok(()) => Ok(()),
+        Err(memory) => {
+            machine.back();
+            Err(memory)
+        }
+    }
 }
 
 /// Puts a drafted module after the others, under these numbers of its names.

@@ -3,8 +3,9 @@
 ghost use Rattle.std.specs.Prelude.{◌≡◌, ◌≤◌, length, IfOk, OnOk};
 ghost use Rattle.kl1_user_account.specs.NameRows.{AreRowsFor};
 
+use kl1_machine::{row_for_pairs, spare_row};
 use kl1_text::{AtomText, CellName};
-use kl1_user_effects::{AccountNames, row_for_pairs, spare_row};
+use kl1_user_effects::AccountNames;
 use std::alloc::{AllocError, Global};
 
 /// The numbers that stand for names until these are published: those of names that are used, and spare ones for those that are new. With

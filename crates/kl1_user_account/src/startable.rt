@@ -6,12 +6,13 @@ ghost use Rattle.kl1_model.specs.Opening.{may_start};
 ghost use Rattle.kl1_user_account.specs.Starting.{StartsAs};
 
 use crate::counted::Counted;
+use crate::limits::is_number;
 use crate::line_length::fits_start;
 use kl1_clause::GoalCode;
 use kl1_model::limits::MOST_PRIORITY;
 use kl1_read::is_goal;
 use kl1_term::Term;
-use kl1_user_effects::{AccountNames, is_number};
+use kl1_user_effects::AccountNames;
 use kl1_user_events::Refusal;
 use std::alloc::{AllocError, Global};
 
@@ -64,9 +65,14 @@ pub(crate) fn code_of(
         return Ok(Starting::Refused(Refusal::Syntax));
     }
     let code = GoalCode::compile(alloc, goal)?;
-    let has_room = counted.has_room_to_start(goal.highest(), code.nodes());
-    match counted.refusal_of(names, code.names(), has_room) {
-        Some(refusal) => Ok(Starting::Refused(refusal)),
-        None => Ok(Starting::Coded(code)),
+    if names.are_too_many(code.names()) {
+        return Ok(Starting::Refused(Refusal::Names));
     }
+    if !counted.has_room_to_start(goal.highest(), code.nodes()) {
+        return Ok(Starting::Refused(Refusal::Limit));
+    }
+    if counted.is_full() {
+        return Ok(Starting::Refused(Refusal::Journal));
+    }
+    Ok(Starting::Coded(code))
 }

@@ -1,5 +1,19 @@
 -- What is to be reduced, as an account and as its store tell it.
-use Rattle.kl1_user_effects.proofs.Words.{◌≡◌, refl, sym, ap, ◌∙◌, subst, codes, Option, Some, None, Term, structure, none, more, replaced, CellName, Qualified, Held, IsIn, IsLater, in_module, qualified_term, qualified_later, Kind, IsKind, Reading, meaning, told_in, aim, term_of-Atom}
+use Rattle.std.proofs.Common.{◌≡◌, refl, sym, ap, ◌∙◌, subst}
+use Rattle.std.specs.Prelude.{codes, Option, Some, None}
+use Rattle.kl1_model.specs.Term.{Term, structure, none, more}
+use Rattle.kl1_model.specs.code.Unifying.{replaced}
+use Rattle.kl1_text.specs.declared.cell_name.CellName.{CellName}
+use Rattle.kl1_store.specs.declared.qualified.Qualified.{Qualified}
+use Rattle.kl1_store.specs.Held.{Held, IsIn}
+use Rattle.kl1_store.specs.Later.{IsLater}
+use Rattle.kl1_store.specs.InModules.{in_module, qualified_term}
+use Rattle.kl1_store.proofs.InModules.{qualified_later}
+use Rattle.kl1_goals_moves.specs.declared.kind.Kind.{Kind}
+use Rattle.kl1_goals_moves.specs.Kinds.{IsKind}
+use Rattle.kl1_user_effects.specs.Fitting.{Reading}
+use Rattle.kl1_user_effects.specs.Account.{meaning, told_in, aim}
+use Rattle.kl1_store.proofs.Terms.{term_of-Atom}
 
 told_is : (f : Reading) (h : Held CellName) (m : Option CellName) (t : Term) → told_in (meaning f h) m t ≡ in_module f m t
 told_is f h None t = refl

@@ -1,5 +1,9 @@
 -- Goals that come in a draft, as a body's goals, or with a shoen that opens.
-use Rattle.kl1_user_effects.proofs.Words.{ℕ, ◌≤◌, le_trans, max-le, min-le_right, MONITOR_PRIORITY, clipped}
+use Rattle.std.proofs.Common.{ℕ, ◌≤◌}
+use Rattle.std.proofs.Math.Nat.{max-le, min-le_right}
+use Rattle.std.proofs.Common.{le_trans}
+use Rattle.kl1_model.specs.declared.limits.TheConstants.{MONITOR_PRIORITY}
+use Rattle.kl1_model.specs.code.Steps.{clipped}
 
 -- ---- priorities
 

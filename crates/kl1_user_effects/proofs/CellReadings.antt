@@ -1,6 +1,16 @@
 -- Numbers in cells read as the names that a seat knows.
-use Rattle.kl1_user_effects.proofs.Words.{◌≡◌, ℕ, ◌<◌, ◌==◌, ◌^◌, List, [], ◌∷◌, IsSome, refl, subst, inl, inr, arith, cases_Bool, eqb-true, BuiltIn, CellName, built_in_at, Known, text_in, text_by, AreNames, option_cases, Reading, Fits, marked_reading, marked_fits, AreSmall, place_found, place-below}
-use Rattle.std.proofs.Common.{Some}
+use Rattle.std.proofs.Common.{◌≡◌, ℕ, ◌<◌, ◌≤◌, ◌==◌, ◌^◌, List, [], ◌∷◌, Some, None, IsSome, refl, subst, inl, inr, arith, rules, tests, nat_lt}
+use Rattle.std.proofs.lemmas.Bool.{cases_Bool, eqb-true}
+use Rattle.std.proofs.lemmas.Option.{slice_get_past}
+use Rattle.kl1_model.specs.Text.{built_ins}
+use Rattle.kl1_model.specs.declared.built_in.BuiltIn.{BuiltIn}
+use Rattle.kl1_text.specs.declared.cell_name.CellName.{CellName}
+use Rattle.kl1_text.specs.BuiltIns.{built_in_at}
+use Rattle.kl1_atoms.specs.declared.known.Known.{Known}
+use Rattle.kl1_atoms.specs.Names.{text_in, text_by, AreNames}
+use Rattle.kl1_atoms.specs.Knowing.{option_cases}
+use Rattle.kl1_user_effects.specs.Fitting.{Reading, Fits, marked_reading, marked_fits}
+use Rattle.kl1_user_effects.specs.Naming.{AreSmall}
 
 -- a number that is the same for all readings is known
 pub is_known : (ks : List Known) (c : CellName) → AreNames ks → ((f g : Reading) → Fits ks f → Fits ks g → f c ≡ g c) → IsSome (text_by ks c.number)
@@ -22,7 +32,10 @@ in_names (k ∷ ks) n t small e = elim (cases_Bool (k.number.number == n)) [
 ]
 
 in_built : (n : ℕ) (b : BuiltIn) → built_in_at n ≡ Some b → n < 2 ^ 32
-in_built n b e = let is = place_found n b e in let low = place-below b in omega (arith, is, low)
+in_built n b e = elim (cases_Bool (nat_lt n 64)) [
+  | inl low ↦ let lt : n < 64 = search (low, rules, tests) in omega arith
+  | inr high ↦ let le : 64 ≤ n = search (high, rules, tests) in let none : built_in_at n ≡ None = slice_get_past built_ins n (omega arith) in cc
+]
 
 -- a number that is known has 32 bits
 pub is_small : (ks : List Known) (n : ℕ) → AreSmall ks → IsSome (text_by ks n) → n < 2 ^ 32

@@ -1,12 +1,26 @@
 -- What messages to a shoen make of drafts.
-use Rattle.kl1_user_effects.proofs.Words.{◌≡◌, ℕ, not, ◌&&◌, true, false, if◌then◌else◌, Bool, List, [], ◌∷◌, map, refl, inl, inr, sym, ap, Some, State, change_shoen, is_living, report, stopped_report, resumed_report, grown, stopped_of, resumed_of, CellName, Cell, Held, Shoen, is_on_path_in, aborted_below_in, Means, shoen_with, AreShoensIn, cases_Bool}
+use Rattle.std.proofs.Common.{◌≡◌, ℕ, ◌-◌, not, ◌&&◌, true, false, if◌then◌else◌, Bool, List, [], ◌∷◌, map, refl, sym, ap}
+use Rattle.std.specs.Prelude.{Some}
+use Rattle.kl1_model.specs.declared.life.Life.TheVariants.{Aborted}
+use Rattle.kl1_model.specs.State.{State, change_shoen, is_living}
+use Rattle.kl1_model.specs.Report.{report, stopped_report, resumed_report}
+use Rattle.kl1_model.specs.Reduction.{grown}
+use Rattle.kl1_model.specs.code.Steps.{stopped_of, resumed_of}
+use Rattle.kl1_text.specs.declared.cell_name.CellName.{CellName}
+use Rattle.kl1_store.specs.declared.cell.Cell.{Cell}
+use Rattle.kl1_store.specs.Held.{Held}
+use Rattle.kl1_shoen_paths.specs.declared.shoen.Shoen.{Shoen}
+use Rattle.kl1_shoen.specs.Shoens.{is_on_path_in, aborted_below_in}
+use Rattle.kl1_user_effects.specs.Account.{Means, shoen_with}
+use Rattle.kl1_user_effects.specs.Kept.{IsShoenIn, AreShoensIn}
+
+if_in : (c : Bool) (h : Held CellName) (s : Shoen CellName) → IsShoenIn h s → IsShoenIn h (if c then record s { life = Aborted } else s)
+if_in true h s i = record { control = i.control; tail = i.tail; origin = i.origin; low = i.low; high = i.high }
+if_in false h s i = i
 
 pub aborted_in : (h : Held CellName) (all : List (Shoen CellName)) (n : ℕ) (ss : List (Shoen CellName)) → AreShoensIn h ss → AreShoensIn h (map (aborted_below_in all n) ss)
 aborted_in h all n [] i = tt
-aborted_in h all n (s ∷ ss) i = elim (cases_Bool (is_living s.life && is_on_path_in all n s.number)) [
-  | inl p ↦ rw p (record { control = i.0.control; tail = i.0.tail; origin = i.0.origin; low = i.0.low; high = i.0.high }, aborted_in h all n ss i.1)
-  | inr p ↦ rw p (i.0, aborted_in h all n ss i.1)
-]
+aborted_in h all n (s ∷ ss) i = (if_in (is_living s.life && is_on_path_in all n s.number) h s i.0, aborted_in h all n ss i.1)
 
 -- a shoen that is stopped, or not
 abbrev pub halted : Bool → Shoen CellName → Shoen CellName

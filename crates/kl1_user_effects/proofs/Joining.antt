@@ -1,5 +1,14 @@
 -- Goals and shoens that come after the others.
-use Rattle.kl1_user_effects.proofs.Words.{◌≡◌, ℕ, suc, false, List, length, slice_get, Option, Some, None, Living, CellName, Held, arguments_of, ExecuteArguments, IsOrder, Goal, Shoen}
+use Rattle.std.proofs.Common.{◌≡◌, ℕ, suc, ◌-◌, false, List, length, ap, ◌∙◌}
+use Rattle.std.specs.Prelude.{slice_get, Option, Some, None}
+use Rattle.kl1_model.specs.declared.life.Life.TheVariants.{Living}
+use Rattle.kl1_text.specs.declared.cell_name.CellName.{CellName}
+use Rattle.kl1_store.specs.declared.cell.Cell.{Cell}
+use Rattle.kl1_store.specs.Held.{Held, arguments_of}
+use Rattle.kl1_goals_moves.specs.declared.order.ExecuteArguments.{ExecuteArguments}
+use Rattle.kl1_goals_moves.specs.Orders.{IsOrder}
+use Rattle.kl1_goals.specs.declared.goal.Goal.{Goal}
+use Rattle.kl1_shoen_paths.specs.declared.shoen.Shoen.{Shoen}
 
 -- the child of a shoen, as it is kept
 abbrev pub child_of : List (Shoen CellName) → Goal CellName → ExecuteArguments CellName → ℕ → ℕ → ℕ → Shoen CellName
@@ -29,6 +38,10 @@ one_order h s p o a b =
     let four = same_some (slice_get (arguments_of h s) 3) p.allowance o.allowance b.allowance_is a.allowance_is in
     let five = same_some (slice_get (arguments_of h s) 4) p.control o.control b.control_is a.control_is in
     let six = same_some (slice_get (arguments_of h s) 5) p.reports o.reports b.reports_is a.reports_is in
-    let whole : ExecuteArguments CellName → ExecuteArguments CellName = λ x. record { goal = x.goal; low = x.low; high = x.high; allowance = x.allowance; control = x.control; reports = x.reports } in
-    let is : whole p ≡ whole o = cc in
-    is
+    let mk : Cell CellName → Cell CellName → Cell CellName → Cell CellName → Cell CellName → Cell CellName → ExecuteArguments CellName = λ g l m n c r. record { goal = g; low = l; high = m; allowance = n; control = c; reports = r } in
+    ap (λ y. mk y p.low p.high p.allowance p.control p.reports) one
+    ∙ ap (λ y. mk o.goal y p.high p.allowance p.control p.reports) two
+    ∙ ap (λ y. mk o.goal o.low y p.allowance p.control p.reports) three
+    ∙ ap (λ y. mk o.goal o.low o.high y p.control p.reports) four
+    ∙ ap (λ y. mk o.goal o.low o.high o.allowance y p.reports) five
+    ∙ ap (λ y. mk o.goal o.low o.high o.allowance o.control y) six

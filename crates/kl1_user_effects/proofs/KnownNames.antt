@@ -1,7 +1,20 @@
 -- Names that are known, with one more after them.
-use Rattle.kl1_user_effects.proofs.Words.{◌≡◌, ℕ, true, false, List, [], ◌∷◌, ◌++◌, map, is_some, bytes_eq, refl, sym, ap, ◌∙◌, subst, inl, inr, option_map, lookup, cases_Bool, false≢true, map-append, AtomNo, built_in_of, Known, number_in, number_by, added, option_cases, bytes_eq_comm, CellName, HashMap, insert_entry, insert_entry-new, known_of, AreKnown}
-use Rattle.std.proofs.Common.{Option, Some, None}
-use Rattle.kl1_user_effects.proofs.Lists.{all_append}
+use Rattle.std.proofs.Common.{◌≡◌, ℕ, true, false, List, [], ◌∷◌, ◌++◌, map, Option, Some, None, is_some, bytes_eq, refl, sym, ap, ◌∙◌, subst, inl, inr}
+use Rattle.std.specs.Prelude.{option_map}
+use Rattle.std.specs.Map.{lookup}
+use Rattle.std.proofs.lemmas.Bool.{cases_Bool, false≢true}
+use Rattle.std.proofs.lemmas.List.{map-append}
+use Rattle.kl1_text.specs.declared.atom_no.AtomNo.{AtomNo}
+use Rattle.kl1_text.specs.BuiltIns.{built_in_of}
+use Rattle.kl1_atoms.specs.declared.known.Known.{Known}
+use Rattle.kl1_atoms.specs.Names.{number_in, number_by, added}
+use Rattle.kl1_atoms.specs.Knowing.{option_cases}
+use Rattle.kl1_clause.proofs.Language.{bytes_eq_comm}
+use Rattle.kl1_text.specs.declared.cell_name.CellName.{CellName}
+use Rattle.std.specs.HashMap.{HashMap}
+use Rattle.indexmap.specs.IndexMap.{insert_entry}
+use Rattle.indexmap.proofs.CallerLemmas.{insert_entry-new}
+use Rattle.kl1_user_effects.specs.Shelving.{known_of, AreKnown}
 
 -- texts compared either way
 pub comm : (t u : List ℕ) → bytes_eq t u ≡ bytes_eq u t
@@ -27,7 +40,8 @@ no_entry es t e = by (lookup (bytes_eq t) es) (looked_up es t ∙ e)
 
 -- one entry more
 pub more_known : (es : List (List ℕ × AtomNo)) (t : List ℕ) (a : AtomNo) → AreKnown es → built_in_of t ≡ None → AreKnown (es ++ (t, a) ∷ [])
-more_known es t a k e = all_append (λ (x : List ℕ × AtomNo). built_in_of x.0 ≡ None) es ((t, a) ∷ []) k (e, tt)
+more_known [] t a k e = (e, tt)
+more_known (x ∷ es) t a k e = (k.0, more_known es t a k.1 e)
 
 -- ---- a text that isn't known
 
@@ -41,7 +55,10 @@ not_known ks t e = elim (option_cases (built_in_of t)) [
 -- the number of a text that isn't built in is what stands under it
 pub number_is : (es : List (List ℕ × AtomNo)) (ks : List Known) (t : List ℕ) (o : Option AtomNo) → built_in_of t ≡ None → map known_of es ≡ ks → lookup (bytes_eq t) es ≡ o → option_map (λ (a : AtomNo). a.number) o ≡ number_by ks t
 number_is es ks t o none is e =
-    rw none (ap (λ (p : Option AtomNo). option_map (λ (a : AtomNo). a.number) p) (sym e) ∙ looked_up es t ∙ ap (λ (l : List Known). number_in l t) is)
+    ap (λ (p : Option AtomNo). option_map (λ (a : AtomNo). a.number) p) (sym e)
+    ∙ looked_up es t
+    ∙ ap (λ (l : List Known). number_in l t) is
+    ∙ (let n : number_in ks t ≡ number_by ks t = rw none refl in n)
 
 -- if a look-up finds nothing, the text isn't known
 pub found_none : (o : Option CellName) (ks : List Known) (t : List ℕ) → option_map (λ (c : CellName). c.number) o ≡ number_by ks t → is_some o ≡ false → number_by ks t ≡ None

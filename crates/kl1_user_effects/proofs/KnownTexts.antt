@@ -1,7 +1,21 @@
 -- The texts of names that are known, and lists of texts put to them.
-use Rattle.kl1_user_effects.proofs.Words.{◌≡◌, ℕ, ◌+◌, ◌<◌, ◌≤◌, ◌⊎◌, Bool, true, false, cond, ◌||◌, List, [], ◌∷◌, ◌++◌, length, take, get_or, is_some, bytes_eq, refl, sym, ap, ◌∙◌, inl, inr, arith, length-append, length-take, add-one, drop, list_any, cases_Bool, false≢true, or_cases, take_more, get_or-take, get_or_default, map-append, length-map, take-append-drop, list_any-append, or-true, bytes_eq-Decides, AtomNo, built_in_of, Known, number_in, number_by, added, option_cases, is_of_language, with_text, with_texts, IsNameList, all_grow, with_none, with_more, with_one, with_both, found_in_language, missed_in_language, texts_of}
-use Rattle.std.proofs.Common.{Option, Some, None}
-use Rattle.kl1_user_effects.proofs.KnownNames.{comm, not_known}
+use Rattle.std.proofs.Common.{◌≡◌, ℕ, ◌+◌, ◌<◌, ◌≤◌, ◌⊎◌, Bool, true, false, cond, ◌||◌, List, [], ◌∷◌, ◌++◌, length, take, get_or, Option, Some, None, is_some, bytes_eq, refl, sym, ap, ◌∙◌, inl, inr, arith, length-append, length-take, add-one, drop}
+use Rattle.std.specs.List.{list_any}
+use Rattle.std.proofs.lemmas.Bool.{cases_Bool, false≢true, or_cases}
+use Rattle.std.proofs.lemmas.List.{take_more, get_or-take, get_or_default, map-append, length-map, take-append-drop}
+use Rattle.std.proofs.lemmas.List.Folds.{list_any-append}
+use Rattle.std.proofs.Math.Bool.{or-true}
+use Rattle.std.proofs.lemmas.Slice.Eq.{bytes_eq-Decides}
+use Rattle.kl1_text.specs.declared.atom_no.AtomNo.{AtomNo}
+use Rattle.kl1_text.specs.BuiltIns.{built_in_of}
+use Rattle.kl1_atoms.specs.declared.known.Known.{Known}
+use Rattle.kl1_atoms.specs.Names.{number_in, number_by, added}
+use Rattle.kl1_atoms.specs.Knowing.{option_cases}
+use Rattle.kl1_clause.specs.NameList.{is_of_language, with_text, with_texts, IsNameList}
+use Rattle.kl1_clause.proofs.Growth.{all_grow, with_none, with_more, with_one, with_both}
+use Rattle.kl1_clause.proofs.Language.{found_in_language, missed_in_language}
+use Rattle.kl1_user_effects.specs.Account.{texts_of}
+use Rattle.kl1_user_effects.proofs.KnownNames.{comm, not_known, added_new}
 use Rattle.kl1_user_effects.proofs.ModuleNames.{in_language, among, not_there, still_among}
 
 -- a text has a number among names if it is one of their texts
@@ -18,26 +32,33 @@ no_text ks t e =
     let n = not_known ks t e in
     (missed_in_language t n.0, sym (known_text ks t) ∙ ap (λ (o : Option ℕ). is_some o) n.1)
 
--- a text is known if it is of the language or among the names
-known_is : (ks : List Known) (t : List ℕ) → is_some (number_by ks t) ≡ (is_of_language t || list_any (bytes_eq t) (texts_of ks))
-known_is ks t = elim (option_cases (built_in_of t)) [
-  | inl none ↦ rw (none, missed_in_language t none) (known_text ks t)
-  | inr some ↦ rw (some.1, (found_in_language t some.0 some.1).1)
+-- a text that is known is of the language or among the names
+text_there : (ks : List Known) (t : List ℕ) (n : ℕ) → number_by ks t ≡ Some n → (is_of_language t ≡ true) ⊎ (list_any (bytes_eq t) (texts_of ks) ≡ true)
+text_there ks t n e = elim (option_cases (built_in_of t)) [
+  | inl none ↦ let found : number_in ks t ≡ Some n = rw none at e in inr (sym (known_text ks t) ∙ ap (λ (o : Option ℕ). is_some o) found)
+  | inr some ↦ inl (found_in_language t some.0 some.1).1
 ]
 
 -- a known text put to the names and others changes nothing
 pub put_known_text : (ks : List Known) (seen : List (List ℕ)) (t : List ℕ) (n : ℕ) → number_by ks t ≡ Some n → with_text (with_texts (texts_of ks) seen) t ≡ with_texts (texts_of ks) seen
-put_known_text ks seen t n e = elim (or_cases (is_of_language t) (list_any (bytes_eq t) (texts_of ks)) (sym (known_is ks t) ∙ ap (λ (o : Option ℕ). is_some o) e)) [
+put_known_text ks seen t n e = elim (text_there ks t n e) [
   | inl language ↦ in_language (with_texts (texts_of ks) seen) t language
   | inr there ↦ among (with_texts (texts_of ks) seen) t (still_among (bytes_eq t) (texts_of ks) seen there)
 ]
 
 -- the texts of names with one put to them if it is new
 pub texts_added : (ks : List Known) (t : List ℕ) (a : AtomNo) → texts_of (added ks t a) ≡ with_text (texts_of ks) t
-unfolding with_text is_of_language
-texts_added ks t a = elim (cases_Bool (is_some (number_by ks t))) [
-  | inl old ↦ rw (old, sym (known_is ks t) ∙ old)
-  | inr new ↦ rw (new, sym (known_is ks t) ∙ new) (map-append (λ (k : Known). k.text) ks (record { text = t; number = a } ∷ []))
+texts_added ks t a = elim (option_cases (number_by ks t)) [
+  | inl none ↦
+      let n = no_text ks t none in
+      ap texts_of (added_new ks t a none) ∙ (map-append (λ (k : Known). k.text) ks (record { text = t; number = a } ∷ []) ∙ sym (not_there (texts_of ks) t n.0 n.1))
+  | inr some ↦
+      let same : added ks t a ≡ ks = rw some.1 refl in
+      ap texts_of same
+      ∙ elim (text_there ks t some.0 some.1) [
+        | inl language ↦ sym (in_language (texts_of ks) t language)
+        | inr there ↦ sym (among (texts_of ks) t there)
+      ]
 ]
 
 -- one text more of a list

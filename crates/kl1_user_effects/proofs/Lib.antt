@@ -1,4 +1,3 @@
-pub mod Lists
 pub mod Aims
 pub mod States
 pub mod Works
@@ -29,12 +28,3 @@ pub mod Outlines
 pub mod LateFree
 pub mod Reported
 pub mod Substituting
-pub mod NamesOnce
-pub mod NameReadings
-pub mod Swaps
-pub mod Exchanged
-pub mod Exchanges
-pub mod Swapping
-pub mod Spares
-pub mod Messages
-pub mod Words

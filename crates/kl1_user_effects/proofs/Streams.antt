@@ -1,5 +1,33 @@
 -- Reports, the end of a stream, exceptions and unifications.
-use Rattle.kl1_user_effects.proofs.Words.{◌≡◌, ℕ, ◌-◌, List, sym, ap, ◌∙◌, subst, inl, inr, find, Some, BuiltIn, text_of, Term, variable, integer, atom, structure, replace, replaced, nil, mgu, State, report, close, closed_at, exception, failure, close_of, raised, unified, equation, CellName, Qualified, Cell, Bound, Clash, Held, IsIn, Grown, UnifiesAs, EndsAt, ClosedAs, IsException, Goal, Shoen, has_number, Numbered, Reading, built, meaning, goal_with, aim, Made, worked, IsMadeIn, Turns, cases_Bool}
+use Rattle.std.proofs.Common.{◌≡◌, ℕ, ◌-◌, true, false, if◌then◌else◌, Bool, List, refl, sym, ap, ◌∙◌, subst}
+use Rattle.std.specs.Prelude.{find, Some}
+use Rattle.kl1_model.specs.declared.built_in.BuiltIn.{BuiltIn}
+use Rattle.kl1_model.specs.Text.{text_of}
+use Rattle.kl1_model.specs.Term.{Term, variable, integer, atom, structure, replace}
+use Rattle.kl1_model.specs.code.Unifying.{replaced}
+use Rattle.kl1_model.specs.Meaning.{nil}
+use Rattle.kl1_model.specs.Unify.{mgu}
+use Rattle.kl1_model.specs.State.{State}
+use Rattle.kl1_model.specs.Report.{report, close, closed_at, exception, failure}
+use Rattle.kl1_model.specs.code.Steps.{close_of}
+use Rattle.kl1_model.specs.Reduction.{raised, unified, equation}
+use Rattle.kl1_text.specs.Reading.{Reads}
+use Rattle.kl1_text.specs.declared.cell_name.CellName.{CellName}
+use Rattle.kl1_store.specs.declared.qualified.Qualified.{Qualified}
+use Rattle.kl1_store.specs.declared.cell.Cell.{Cell}
+use Rattle.kl1_store.specs.declared.unified.Unified.TheVariants.{Bound, Clash}
+use Rattle.kl1_store.specs.Held.{Held, IsIn}
+use Rattle.kl1_store.specs.Sound.{Grown}
+use Rattle.kl1_store.specs.Unification.{UnifiesAs}
+use Rattle.kl1_stream.specs.Reports.{EndsAt, ClosedAs}
+use Rattle.kl1_stream.specs.Exceptions.{IsException}
+use Rattle.kl1_goals.specs.declared.goal.Goal.{Goal}
+use Rattle.kl1_shoen_paths.specs.declared.shoen.Shoen.{Shoen}
+use Rattle.kl1_shoen.specs.Shoens.{has_number}
+use Rattle.kl1_codes.specs.Numbered.{Numbered}
+use Rattle.kl1_user_effects.specs.Fitting.{Reading, built}
+use Rattle.kl1_user_effects.specs.Account.{meaning, goal_with, aim}
+use Rattle.kl1_user_effects.specs.Works.{Made, worked, IsMadeIn, Turns}
 use Rattle.kl1_user_effects.proofs.States.{replaced_state, all_replaced}
 use Rattle.kl1_user_effects.proofs.Works.{base, read_as, finds, rereads, turns_then, turns_as, grown_made}
 
@@ -14,15 +42,17 @@ ends_at f h k s w (integer n) i same e = ap (λ (x : Held CellName). worked f s 
 ends_at f h k s w (atom a) i same e = ap (λ (x : Held CellName). worked f s x w) (sym e)
 ends_at f h k s w (structure g ts) i same e = ap (λ (x : Held CellName). worked f s x w) (sym e)
 
+closes_by : (f : Reading) (h k : Held CellName) (s : State) (w : Made) (tail : Cell CellName) (b : Bool) → Reads built f → IsMadeIn h w → k.variables ≡ h.variables → (b ≡ true → k ≡ h) → (b ≡ false → EndsAt f h k (meaning f h tail)) →
+    (if b then worked f s h w else closed_at (meaning f h tail) (worked f s h w)) ≡ worked f s k w
+closes_by f h k s w tail true reads i same broken whole = ap (λ (x : Held CellName). worked f s x w) (sym (broken refl))
+closes_by f h k s w tail false reads i same broken whole = ends_at f h k s w (meaning f h tail) i same (whole refl)
+
 pub closed_turns : (ms : List Numbered) (h k : Held CellName) (w : Made) (n : ℕ) (sh : Shoen CellName) → Grown h k → IsMadeIn h w → find (has_number n) w.shoens ≡ Some sh → ClosedAs built h k sh.tail sh.is_broken → Turns ms (λ f. close n) h k w w
 closed_turns ms h k w n sh g i e c = record {
   inside = grown_made h k w g i;
   states = λ f knows s.
       ap (λ o. close_of o (worked f s h w)) (finds s (meaning f h) (h.variables - 1) w n (Some sh) e)
-      ∙ elim (cases_Bool sh.is_broken) [
-        | inl b ↦ rw b (ap (λ (x : Held CellName). worked f s x w) (sym (c.broken b)))
-        | inr b ↦ rw b (ends_at f h k s w (meaning f h sh.tail) i c.variables (c.whole b f knows.reads))
-      ];
+      ∙ closes_by f h k s w sh.tail sh.is_broken knows.reads i c.variables c.broken (λ q. c.whole q f knows.reads);
 }
 
 -- ---- exceptions
@@ -36,17 +66,10 @@ grown_turns ms h k w g same others i = record {
       ∙ ap (λ n. read_as s (meaning f k) (n - 1) w) (sym same);
 }
 
--- a store has grown by an exception, and has what is made
-pub record HasException (h full : Held CellName) (w : Made) (kind : BuiltIn) (goal message : Cell CellName) : Type 0 where
-  pub grown : Grown h full
-  pub excepts : IsException built h full kind goal message
-  pub inside : IsMadeIn h w
-
-pub raised_turns : (ms : List Numbered) (h full k : Held CellName) (w v : Made) (n : ℕ) (kind : BuiltIn) (goal message : Cell CellName) → HasException h full w kind goal message →
+pub raised_turns : (ms : List Numbered) (h full k : Held CellName) (w v : Made) (n : ℕ) (kind : BuiltIn) (goal message : Cell CellName) → Grown h full → IsException built h full kind goal message → IsMadeIn h w →
     (IsMadeIn full w → Turns ms (λ f. report n (meaning f full message)) full k w v) → Turns ms (λ f. report n (exception (text_of kind) (meaning f h goal))) h k w v
-raised_turns ms h full k w v n kind goal message r next =
-    let e = r.excepts in
-    let first = grown_turns ms h full w r.grown e.variables e.others r.inside in
+raised_turns ms h full k w v n kind goal message g e i next =
+    let first = grown_turns ms h full w g e.variables e.others i in
     turns_as ms (λ f. report n (meaning f full message)) (λ f. report n (exception (text_of kind) (meaning f h goal))) h k w v
     (λ f knows s. ap (λ t. report n t (worked f s h w)) (sym (e.means f knows.reads)))
     (turns_then ms (λ f s. s) (λ f. report n (meaning f full message)) h full k w w v first (next first.inside))

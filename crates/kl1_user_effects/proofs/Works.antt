@@ -1,6 +1,29 @@
 -- What is made of an account, one change after another.
-use Rattle.kl1_user_effects.proofs.Words.{◌≡◌, ℕ, suc, ◌-◌, ◌||◌, not, Bool, true, false, if◌then◌else◌, List, length, map, refl, sym, ap, ◌∙◌, arith, subst, nat_lt, find, Option, Some, None, option_map, Rules, Term, variable, integer, atom, structure, replace, occurs, cell, State, limits_of, shoen_at, change_shoen, replace_in_state, has_made_last, reported_on, report, reported_at, broken_at, report_of, Reads, CellName, Cell, Variable, Held, IsIn, Grown, Told, Dropped, Broken, Sent, Breaks, ToldAs, Shoen, has_number, changed, Numbered, Reading, built, Means, meaning, shoen_with, state_with, AreOwned, IsShoenIn, Made, worked, IsMadeIn, Knows, Turns}
+use Rattle.std.proofs.Common.{◌≡◌, ℕ, suc, ◌-◌, ◌||◌, not, Bool, true, false, if◌then◌else◌, List, length, map, refl, sym, ap, ◌∙◌, arith, subst}
+use Rattle.std.specs.Prelude.{nat_lt, find, Option, Some, None, option_map}
+use Rattle.kl1_model.specs.declared.rules.Rules.{Rules}
+use Rattle.kl1_model.specs.Term.{Term, variable, integer, atom, structure, replace, occurs}
+use Rattle.kl1_model.specs.Meaning.{cell}
 use Rattle.kl1_model.specs.State as model
+use Rattle.kl1_model.specs.State.{State, limits_of, shoen_at, change_shoen, replace_in_state}
+use Rattle.kl1_model.specs.Report.{has_made_last, reported_on, report, reported_at, broken_at}
+use Rattle.kl1_model.specs.code.Steps.{report_of}
+use Rattle.kl1_text.specs.Reading.{Reads}
+use Rattle.kl1_text.specs.declared.cell_name.CellName.{CellName}
+use Rattle.kl1_store.specs.declared.cell.Cell.{Cell}
+use Rattle.kl1_store.specs.declared.cell.Cell.TheVariants.{Variable}
+use Rattle.kl1_store.specs.Held.{Held, IsIn}
+use Rattle.kl1_store.specs.Sound.{Grown}
+use Rattle.kl1_stream.specs.declared.told.Told.{Told}
+use Rattle.kl1_stream.specs.declared.told.Told.TheVariants.{Dropped, Broken, Sent}
+use Rattle.kl1_stream.specs.Reports.{Breaks, ToldAs}
+use Rattle.kl1_shoen_paths.specs.declared.shoen.Shoen.{Shoen}
+use Rattle.kl1_shoen.specs.Shoens.{has_number, changed}
+use Rattle.kl1_codes.specs.Numbered.{Numbered}
+use Rattle.kl1_user_effects.specs.Fitting.{Reading, built}
+use Rattle.kl1_user_effects.specs.Account.{Means, meaning, shoen_with, state_with}
+use Rattle.kl1_user_effects.specs.Kept.{AreOwned, IsShoenIn}
+use Rattle.kl1_user_effects.specs.Works.{Made, worked, IsMadeIn, Knows, Turns}
 use Rattle.kl1_user_effects.proofs.States.{Agree, same_state, replaced_state, found_in, changed_in, changed_count, goals_grown, shoens_grown, shoens_changed}
 
 -- ---- changes one after another
@@ -103,19 +126,19 @@ both_false false b e f = f
 
 report_states : (h k : Held CellName) (w : Made) (n : ℕ) (sh : Shoen CellName) (m : Cell CellName) (told : Told) → IsMadeIn h w → find (has_number n) w.shoens ≡ Some sh →
     ToldAs built h k sh.tail sh.is_broken (last_made w.rules w.reports) m told → (f : Reading) → Reads built f → (s : State) → report n (meaning f h m) (worked f s h w) ≡ worked f s k (after_report n w told)
-report_states h k w n sh m Dropped i e d f reads = λ s.
+report_states h k w n sh m Dropped i e d f reads s =
     let S = read_as s (meaning f h) (h.variables - 1) w in
     reports_as s (meaning f h) (h.variables - 1) w n sh (meaning f h m) e
     ∙ ap (λ b. if b then S else reported_at n (meaning f h m) (meaning f h sh.tail) S) d.0
     ∙ ap (λ (x : Held CellName). worked f s x w) (sym d.1)
-report_states h k w n sh m Broken i e d f reads = λ s.
+report_states h k w n sh m Broken i e d f reads s =
     let S = read_as s (meaning f h) (h.variables - 1) w in
     reports_as s (meaning f h) (h.variables - 1) w n sh (meaning f h m) e
     ∙ ap (λ b. if b then S else reported_at n (meaning f h m) (meaning f h sh.tail) S) d.whole
     ∙ broken_by n (meaning f h sh.tail) (meaning f h m) S (d.breaks f reads)
     ∙ changes s (meaning f h) (h.variables - 1) w n torn (λ x. record x { is_broken = true }) (λ x. refl)
     ∙ ap (λ (x : Held CellName). worked f s x (after_report n w Broken)) (sym d.same)
-report_states h k w n sh m (Sent next) i e d f reads = λ s.
+report_states h k w n sh m (Sent next) i e d f reads s =
     let S = read_as s (meaning f h) (h.variables - 1) w in
     let M = meaning f h m in
     let N : suc (h.variables - 1) ≡ next = let a = d.sent.next_is in let b = i.some in omega arith in

@@ -1,4 +1,4 @@
--- Goals that come, and names that are used.
+-- What a draft stands for.
 use Rattle.std.specs.Prelude.{ℕ, suc, Bool, false, List, [], ◌∷◌, ◌++◌, Option, Some, None}
 use Rattle.kl1_model.specs.Module.{is_among}
 use Rattle.kl1_text.specs.declared.cell_name.CellName.{CellName}
@@ -16,17 +16,13 @@ abbrev pub names_with : List (List ℕ) → Option (List ℕ) → List (List ℕ
 names_with names None = names
 names_with names (Some text) = names ++ text ∷ []
 
--- a goal of a shoen with this number, priority and task, which can't step as yet
-abbrev pub goal_at : ℕ → ℕ → ℕ → Task CellName → Goal CellName
-goal_at n shoen priority task = record { number = n; task = task; shoen = shoen; priority = priority; standing = None; is_enabled = false }
-
 -- goals for cells, with the numbers after the last, in a shoen, each with its priority; none can step as yet
 abbrev pub goals_for : ℕ → ℕ → List ℕ → List (Qualified CellName) → List (Goal CellName)
 goals_for last shoen priorities [] = []
 goals_for last shoen [] (x ∷ xs) = []
 goals_for last shoen (p ∷ ps) (x ∷ xs) =
-    goal_at (suc last) shoen p (Reduces x) ∷ goals_for (suc last) shoen ps xs
+    record { number = suc last; task = Reduces x; shoen = shoen; priority = p; standing = None; is_enabled = false } ∷ goals_for (suc last) shoen ps xs
 
 -- a goal of another task in the place of one, with the number after the last; it can't step as yet
 abbrev pub one_for : ℕ → Goal CellName → Task CellName → List (Goal CellName)
-one_for last g task = goal_at (suc last) g.shoen g.priority task ∷ []
+one_for last g task = record { number = suc last; task = task; shoen = g.shoen; priority = g.priority; standing = None; is_enabled = false } ∷ []

@@ -16,5 +16,3 @@ pub mod Late
 pub mod Frames
 pub mod Outlines
 pub mod Reports
-pub mod Exchanging
-pub mod Messages

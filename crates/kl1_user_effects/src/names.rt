@@ -1,14 +1,14 @@
 // The names that an account uses, with their numbers.
 
-ghost use Rattle.std.specs.Prelude.{◌≡◌, ℕ, ◌+◌, ◌≤◌, ◌<◌, List, [], map, length, nat_lt, option_map, OnOk, vec_capacity};
+ghost use Rattle.std.specs.Prelude.{◌≡◌, ℕ, ◌+◌, ◌≤◌, ◌<◌, List, [], map, length, nat_lt, option_map, OnOk, IfOk, vec_len, vec_capacity};
 ghost use Rattle.kl1_model.specs.declared.limits.TheConstants.{MOST_NAMES};
 ghost use Rattle.kl1_text.specs.declared.cell_name.CellName.{CellName};
-ghost use Rattle.kl1_atoms.specs.Names.{number_by, added};
+ghost use Rattle.kl1_atoms.specs.Names.{number_by, added, AreNames};
 ghost use Rattle.kl1_clause.specs.NameList.{with_texts, IsNameList};
 ghost use Rattle.kl1_user_effects.specs.Account.{texts_of};
 ghost use Rattle.kl1_user_effects.specs.Fitting.{Reading, Fits};
 ghost use Rattle.kl1_user_effects.specs.Calling.{keeps_names};
-ghost use Rattle.kl1_user_effects.specs.Naming.{AreSmall, AreNumbersOf, Keeps};
+ghost use Rattle.kl1_user_effects.specs.Naming.{AreSmall, ReadsDraft, AreNumbersOf, Keeps};
 
 use indexmap::IndexMap;
 use kl1_atoms::AtomSource;
@@ -132,6 +132,39 @@ pub fn has_room(names: &AccountNames, text: &AtomText) -> bool
         Some(_) => names.len() <= MOST_NAMES,
         None => names.len() < MOST_NAMES,
     }
+}
+
+/// Puts a number for each name into an empty row: that of a name that is used, and a spare one for each that is new.
+pub fn draft_row(
+    names: &AccountNames,
+    texts: &[AtomText],
+    row: &mut Vec<CellName>,
+) -> Result<(), AllocError>
+    requires list { IsNameList texts.now }
+    requires empty { row.old.items ≡ [] }
+    ensures count { OnOk result (length row.new.items ≡ length texts.now) }
+    ensures reads { OnOk result (AreNames names.now.names → AreSmall names.now.names → ReadsDraft names.now.names texts.now row.new.items) }
+{
+    let mut spare = 0;
+    for text in texts {
+        match names.number_of(text) {
+            Some(number) => row.push(number)?,
+            None => {
+                text.shows_text();
+                row.push(CellName::spare(spare))?;
+                spare = next_spare(spare)?;
+            }
+        }
+    }
+    Ok(())
+}
+
+/// The spare number after one. Numbers that run out are refused as for want of memory.
+fn next_spare(spare: u32) -> Result<u32, AllocError>
+    ensures below { OnOk result (spare < 0xffff_ffff) }
+    ensures next { IfOk result (λ next. next ≡ spare + 1) }
+{
+    spare.checked_add(1).ok_or(AllocError)
 }
 
 /// Looks up each name in the table of names, and puts its number into an empty row and into the names of the account. It takes

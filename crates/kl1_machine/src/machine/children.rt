@@ -3,13 +3,14 @@
 ghost use Rattle.std.specs.Prelude.{◌≡◌, ◌<◌, ◌≤◌, suc, length, ◌&&◌, nat_lt, OnOk};
 ghost use Rattle.kl1_model.specs.declared.limits.TheConstants.{MONITOR_PRIORITY};
 ghost use Rattle.kl1_model.specs.Rules.{limits_of};
+ghost use Rattle.kl1_model.specs.code.Steps.{clipped};
 ghost use Rattle.kl1_store.specs.Held.{IsIn, arguments_of};
 ghost use Rattle.kl1_shoen.specs.Shoens.{path_in};
 ghost use Rattle.kl1_user_effects.specs.Fitting.{Reading};
 ghost use Rattle.kl1_user_effects.specs.Kept.{IsOwned, IsShoenIn};
 ghost use Rattle.kl1_machine.specs.declared.machine.Machine.{Machine};
 ghost use Rattle.kl1_machine.specs.Machines.{IsMachine, Keeps};
-ghost use Rattle.kl1_machine.specs.Since.{Since, StillSince};
+ghost use Rattle.kl1_machine.specs.Since.{Since};
 ghost use Rattle.kl1_machine.specs.Moving.{JoinsAs, OpensAs, OpensChild};
 ghost use Rattle.kl1_machine.specs.Plain.{IsPlain, IsPlainShoen, ArePlain};
 
@@ -21,8 +22,15 @@ use kl1_model::{BuiltIn, Life};
 use kl1_shoen::Shoen;
 use kl1_store::{Cell, Qualified};
 use kl1_text::CellName;
-use kl1_user_effects::{clipped_in, last_of};
+use kl1_user_effects::last_of;
 use std::alloc::AllocError;
+
+/// A number clipped to the range of a shoen.
+fn clipped_in(shoen: &Shoen<CellName>, number: u64) -> u64
+    ensures { result ≡ clipped shoen.now.low shoen.now.high number }
+{
+    number.min(shoen.high).max(shoen.low)
+}
 
 impl Machine {
     /// Takes a shoen in, and after all other goals its monitor and its goal, which is this cell. Neither can step as yet.
@@ -33,8 +41,9 @@ impl Machine {
         requires shoen { IsShoenIn self.old.store.held shoen }
         requires goal { IsIn self.old.store.held goal }
         ensures ok { OnOk result (JoinsAs shoen goal self.old self.new) }
-        ensures plain { (f g : Reading) → IsPlainShoen f g shoen → IsPlain f g goal → ArePlain f g self.old → OnOk result (ArePlain f g self.new) }
-        ensures since { (b : Machine) → Since b self.old → StillSince result b self.new }
+        ensures plain { (f g : Reading) → IsPlainShoen f g shoen → IsPlain f g goal → OnOk result (ArePlain f g self.old → ArePlain f g self.new) }
+        ensures since { (b : Machine) → OnOk result (Since b self.old → Since b self.new) }
+        ensures keeps { Keeps self.old self.new }
     {
         self.open(shoen)?;
         self.put(shoen.number, MONITOR_PRIORITY, Task::Monitor)?;
@@ -58,8 +67,9 @@ impl Machine {
         requires shoen { IsShoenIn self.old.store.held shoen }
         requires goal { IsIn self.old.store.held goal }
         ensures ok { OnOk result (OpensAs shoen goal self.old self.new) }
-        ensures plain { (f g : Reading) → IsPlainShoen f g shoen → IsPlain f g goal → ArePlain f g self.old → OnOk result (ArePlain f g self.new) }
-        ensures since { (b : Machine) → Since b self.old → StillSince result b self.new }
+        ensures plain { (f g : Reading) → IsPlainShoen f g shoen → IsPlain f g goal → OnOk result (ArePlain f g self.old → ArePlain f g self.new) }
+        ensures since { (b : Machine) → OnOk result (Since b self.old → Since b self.new) }
+        ensures keeps { Keeps self.old self.new }
     {
         self.join(shoen, goal)?;
         self.report_name(shoen.number, BuiltIn::Started)?;
@@ -92,7 +102,8 @@ impl Machine {
         requires owned { IsOwned (length self.old.shoens.shoens) goal }
         requires level { goal.priority ≤ MONITOR_PRIORITY }
         ensures ok { OnOk result (OpensChild structure goal cell self.old self.new) }
-        ensures since { (b : Machine) → Since b self.old → StillSince result b self.new }
+        ensures since { (b : Machine) → OnOk result (Since b self.old → Since b self.new) }
+        ensures keeps { Keeps self.old self.new }
     {
         if !self.may_open(goal.shoen) {
             return self.raise(goal, BuiltIn::Exhaustion, cell);

@@ -14,10 +14,11 @@ ghost use Rattle.kl1_user_effects.specs.Kept.{IsOwned};
 ghost use Rattle.kl1_user_effects.specs.Moving.{priorities_by};
 ghost use Rattle.kl1_machine.specs.declared.machine.Machine.{Machine};
 ghost use Rattle.kl1_machine.specs.Machines.{IsMachine, Keeps};
-ghost use Rattle.kl1_machine.specs.Since.{Since, StillSince};
+ghost use Rattle.kl1_machine.specs.Since.{Since};
 ghost use Rattle.kl1_machine.specs.Effects.{Commits, with_goals};
 
 use crate::machine::Machine;
+use crate::streams::priority_in;
 use kl1_clause::Predicate;
 use kl1_goals::{Goal, Task};
 use kl1_goals_moves::{Needs, Trial, commit as put_body, needs_of, priorities_of};
@@ -25,8 +26,17 @@ use kl1_model::BuiltIn;
 use kl1_shoen::Shoen;
 use kl1_store::Qualified;
 use kl1_text::CellName;
-use kl1_user_effects::{is_within, priority_in};
 use std::alloc::AllocError;
+
+/// Whether `have` and `more` together are at most `most`.
+pub(super) fn keeps(most: u64, have: u64, more: u64) -> bool
+    ensures { result ≡ nat_le (have + more) most }
+{
+    if most < more {
+        return false;
+    }
+    have <= most - more
+}
 
 impl Machine {
     /// Whether what `needs` counts keeps to the limits on goals, variables and structures.
@@ -34,9 +44,9 @@ impl Machine {
         ensures { result ≡ (nat_le (count_by (λ g. not (is_monitor g)) self.now.goals.goals + needs.goals) (limits_of self.now.rules).goals && nat_le (self.now.counts.variables + needs.variables) (limits_of self.now.rules).variables && nat_le (self.now.counts.nodes + needs.nodes) (limits_of self.now.rules).nodes) }
     {
         let most = self.rules.limits();
-        is_within(self.goals.alive(), needs.goals, most.goals)
-            && is_within(self.counts.variables, needs.variables, most.variables)
-            && is_within(self.counts.nodes, needs.nodes, most.nodes)
+        keeps(most.goals, self.goals.alive(), needs.goals)
+            && keeps(most.variables, self.counts.variables, needs.variables)
+            && keeps(most.nodes, self.counts.nodes, needs.nodes)
     }
 
     /// Puts goals for cells after all others, of a shoen. Each has its own of these priorities, or if that is none, the one that is given.
@@ -56,7 +66,8 @@ impl Machine {
         requires cells { AreQualifiedIn self.old.store.held cells.now }
         ensures ok { OnOk result (self.new ≡ with_goals shoen.now.number (priorities_by (Some shoen.now) own priorities.now) cells.now self.old) }
         ensures machine { OnOk result (IsMachine self.new) }
-        ensures since { (b : Machine) → Since b self.old → StillSince result b self.new }
+        ensures since { (b : Machine) → OnOk result (Since b self.old → Since b self.new) }
+        ensures keeps { Keeps self.old self.new }
     {
         let mut left = cells;
         let mut named = priorities;
@@ -91,7 +102,8 @@ impl Machine {
         requires owned { IsOwned (length self.old.shoens.shoens) goal }
         requires level { goal.priority ≤ MONITOR_PRIORITY }
         ensures ok { OnOk result (Commits (record { predicate = predicate.entry; place = place; places = taken_places trial.old }) goal cell self.old self.new) }
-        ensures since { (b : Machine) → Since b self.old → StillSince result b self.new }
+        ensures since { (b : Machine) → OnOk result (Since b self.old → Since b self.new) }
+        ensures keeps { Keeps self.old self.new }
     {
         let needs = needs_of(predicate, place);
         if !self.has_room(needs) {

@@ -12,16 +12,15 @@ ghost use Rattle.kl1_user_effects.specs.Kept.{IsTaskIn, IsOwned, IsShoenIn};
 ghost use Rattle.kl1_user_effects.specs.Walks.{terminated};
 ghost use Rattle.kl1_machine.specs.declared.machine.Machine.{Machine};
 ghost use Rattle.kl1_machine.specs.Machines.{IsMachine, Keeps};
-ghost use Rattle.kl1_machine.specs.Since.{Since, IsOnlyMonitor, StillSince};
-ghost use Rattle.kl1_user_effects.specs.Drafts.{goal_at};
-ghost use Rattle.kl1_machine.specs.Effects.{Puts, Becomes, Charges, any_reached, having_goals, having_shoens, shifting_shoens, with_shoen};
+ghost use Rattle.kl1_machine.specs.Since.{Since, IsOnlyMonitor};
+ghost use Rattle.kl1_machine.specs.Effects.{Puts, Becomes, Charges, any_reached, goal_at, having_goals, having_shoens, shifting_shoens, with_shoen};
 
 use crate::machine::Machine;
 use kl1_goals::{Goal, Task};
 use kl1_model::Life;
 use kl1_shoen::Shoen;
 use kl1_store::Cell;
-use kl1_text::CellName;
+use kl1_text::{AtomText, CellName};
 use kl1_user_effects::last_of;
 use std::alloc::AllocError;
 
@@ -39,7 +38,8 @@ impl Machine {
         requires level { priority ≤ MONITOR_PRIORITY }
         requires monitor { is_monitor_task task ≡ true → list_any (is_monitor_of shoen) self.old.goals.goals ≡ false }
         ensures ok { OnOk result (Puts shoen priority task self.old self.new) }
-        ensures since { (b : Machine) → Since b self.old → StillSince result b self.new }
+        ensures since { (b : Machine) → OnOk result (Since b self.old → Since b self.new) }
+        ensures keeps { Keeps self.old self.new }
     {
         let number = last_of(self.counts.last_goal, 1)?;
         self.goals.put(Goal {
@@ -58,7 +58,8 @@ impl Machine {
     pub(crate) fn remove(&mut self, number: u64) -> Result<(), AllocError>
         requires machine { IsMachine self.old }
         ensures ok { OnOk result (Becomes (having_goals (filter (is_other number) self.old.goals.goals) self.old) self.new) }
-        ensures since { (b : Machine) → Since b self.old → StillSince result b self.new }
+        ensures since { (b : Machine) → OnOk result (Since b self.old → Since b self.new) }
+        ensures keeps { Keeps self.old self.new }
     {
         self.goals.remove(number)
     }
@@ -67,7 +68,8 @@ impl Machine {
     pub(crate) fn remove_monitor(&mut self, shoen: u64) -> Result<(), AllocError>
         requires machine { IsMachine self.old }
         ensures ok { OnOk result (Becomes (having_goals (filter (λ g. not (is_monitor_of shoen g)) self.old.goals.goals) self.old) self.new) }
-        ensures since { (b : Machine) → Since b self.old → StillSince result b self.new }
+        ensures since { (b : Machine) → OnOk result (Since b self.old → Since b self.new) }
+        ensures keeps { Keeps self.old self.new }
     {
         self.goals.remove_monitor(shoen)
     }
@@ -76,7 +78,8 @@ impl Machine {
     pub(crate) fn remove_all(&mut self, shoen: u64) -> Result<(), AllocError>
         requires machine { IsMachine self.old }
         ensures ok { OnOk result (Becomes (having_goals (filter (λ g. not (is_in shoen g)) self.old.goals.goals) self.old) self.new) }
-        ensures since { (b : Machine) → Since b self.old → StillSince result b self.new }
+        ensures since { (b : Machine) → OnOk result (Since b self.old → Since b self.new) }
+        ensures keeps { Keeps self.old self.new }
     {
         self.goals.remove_all(shoen)
     }
@@ -88,7 +91,8 @@ impl Machine {
         requires parent { shoen.parent ≤ length self.old.shoens.shoens }
         requires inside { IsShoenIn self.old.store.held shoen }
         ensures ok { OnOk result (Becomes (with_shoen shoen self.new.shoens.room self.old) self.new) }
-        ensures since { (b : Machine) → Since b self.old → StillSince result b self.new }
+        ensures since { (b : Machine) → OnOk result (Since b self.old → Since b self.new) }
+        ensures keeps { Keeps self.old self.new }
     {
         // Only for the proof: the shoens are numbered in order.
         let _numbered = self.shoens.len();
@@ -102,7 +106,8 @@ impl Machine {
     pub(crate) fn break_stream(&mut self, number: u64) -> Result<(), AllocError>
         requires machine { IsMachine self.old }
         ensures ok { OnOk result (Becomes (having_shoens (changed number (λ h. record h { is_broken = true }) self.old.shoens.shoens) self.old) self.new) }
-        ensures since { (b : Machine) → Since b self.old → StillSince result b self.new }
+        ensures since { (b : Machine) → OnOk result (Since b self.old → Since b self.new) }
+        ensures keeps { Keeps self.old self.new }
     {
         // Only for the proof: the shoens are numbered in order.
         let _numbered = self.shoens.len();
@@ -118,7 +123,8 @@ impl Machine {
         requires machine { IsMachine self.old }
         requires inside { IsIn self.old.store.held control }
         ensures ok { OnOk result (Becomes (having_shoens (changed number (λ h. record h { origin = option_map (with_control control) h.origin }) self.old.shoens.shoens) self.old) self.new) }
-        ensures since { (b : Machine) → Since b self.old → StillSince result b self.new }
+        ensures since { (b : Machine) → OnOk result (Since b self.old → Since b self.new) }
+        ensures keeps { Keeps self.old self.new }
     {
         // Only for the proof: the shoens are numbered in order.
         let _numbered = self.shoens.len();
@@ -137,12 +143,28 @@ impl Machine {
         requires monitor { IsOnlyMonitor monitor number self.old.goals.goals }
         ensures ok { OnOk result (Becomes (record (having_shoens (changed number (λ h. record h { control = control }) self.old.shoens.shoens) self.old) { told = self.new.told }) self.new) }
         ensures told { OnOk result (self.new.told.items ≡ self.old.told.items ++ monitor ∷ []) }
-        ensures since { (b : Machine) → Since b self.old → StillSince result b self.new }
+        ensures since { (b : Machine) → OnOk result (Since b self.old → Since b self.new) }
+        ensures keeps { Keeps self.old self.new }
     {
         // Only for the proof: the shoens are numbered in order.
         let _numbered = self.shoens.len();
         self.told.push(monitor)?;
         self.shoens.set_control(number, control)
+    }
+
+    /// Whether a shoen on the path of shoen `number` was charged just what it may be.
+    fn has_reached(&self, number: u64) -> bool
+        ensures { result ≡ any_reached number self.now.shoens.shoens self.now.shoens.work }
+    {
+        let mut at = number;
+        while at > 0 {
+            let step = self.shoens.reached_step(at);
+            if step.holds {
+                return true;
+            }
+            at = step.up;
+        }
+        false
     }
 
     /// Charges a reduction that was done in a shoen: to it, and to each of its ancestors. It tells whether one of them has reached its
@@ -153,20 +175,25 @@ impl Machine {
         requires within { number ≤ length self.old.shoens.shoens }
         requires few { length self.old.shoens.work + 1 < 2 ^ 63 }
         ensures ok { IfOk result (Charges number self.old self.new) }
-        ensures since { (b : Machine) → length self.old.shoens.work ≤ length b.shoens.work → Since b self.old → StillSince result b self.new }
+        ensures since { (b : Machine) → length self.old.shoens.work ≤ length b.shoens.work → OnOk result (Since b self.old → Since b self.new) }
+        ensures keeps { Keeps self.old self.new }
     {
         // Only for the proof: the shoens are numbered in order.
         let _numbered = self.shoens.len();
-        let reached = self.shoens.charge(number)?;
-        self.shifts |= reached;
-        Ok(reached)
+        self.shoens.charge(number)?;
+        if self.has_reached(number) {
+            self.shifts = true;
+            return Ok(true);
+        }
+        Ok(false)
     }
 
     /// Ends the life of a shoen as terminated.
     pub(crate) fn end(&mut self, number: u64) -> Result<(), AllocError>
         requires machine { IsMachine self.old }
         ensures ok { OnOk result (Becomes (shifting_shoens (changed number terminated self.old.shoens.shoens) self.old) self.new) }
-        ensures since { (b : Machine) → Since b self.old → StillSince result b self.new }
+        ensures since { (b : Machine) → OnOk result (Since b self.old → Since b self.new) }
+        ensures keeps { Keeps self.old self.new }
     {
         // Only for the proof: the shoens are numbered in order.
         let _numbered = self.shoens.len();
@@ -178,7 +205,8 @@ impl Machine {
     pub(crate) fn abort_below(&mut self, number: u64) -> Result<(), AllocError>
         requires machine { IsMachine self.old }
         ensures ok { OnOk result (Becomes (shifting_shoens (map (aborted_below_in self.old.shoens.shoens number) self.old.shoens.shoens) self.old) self.new) }
-        ensures since { (b : Machine) → Since b self.old → StillSince result b self.new }
+        ensures since { (b : Machine) → OnOk result (Since b self.old → Since b self.new) }
+        ensures keeps { Keeps self.old self.new }
     {
         // Only for the proof: the shoens are numbered in order.
         let _numbered = self.shoens.len();
@@ -190,7 +218,8 @@ impl Machine {
     pub(crate) fn set_stopped(&mut self, number: u64, is_stopped: bool) -> Result<(), AllocError>
         requires machine { IsMachine self.old }
         ensures ok { OnOk result (Becomes (shifting_shoens (changed number (λ h. record h { is_stopped = is_stopped }) self.old.shoens.shoens) self.old) self.new) }
-        ensures since { (b : Machine) → Since b self.old → StillSince result b self.new }
+        ensures since { (b : Machine) → OnOk result (Since b self.old → Since b self.new) }
+        ensures keeps { Keeps self.old self.new }
     {
         // Only for the proof: the shoens are numbered in order.
         let _numbered = self.shoens.len();
@@ -202,11 +231,22 @@ impl Machine {
     pub(crate) fn allow(&mut self, number: u64, extra: u64) -> Result<(), AllocError>
         requires machine { IsMachine self.old }
         ensures ok { OnOk result (Becomes (shifting_shoens (changed number (λ h. record h { allowance = grown h.allowance extra }) self.old.shoens.shoens) self.old) self.new) }
-        ensures since { (b : Machine) → Since b self.old → StillSince result b self.new }
+        ensures since { (b : Machine) → OnOk result (Since b self.old → Since b self.new) }
+        ensures keeps { Keeps self.old self.new }
     {
         // Only for the proof: the shoens are numbered in order.
         let _numbered = self.shoens.len();
         self.shifts = true;
         self.shoens.allow(number, extra)
+    }
+
+    /// Uses a name that is new to the account.
+    pub(crate) fn set_name(&mut self, text: AtomText)
+        requires machine { IsMachine self.old }
+        ensures ok { Becomes (record self.old { name = Some text }) self.new }
+        ensures since { (b : Machine) → Since b self.old → Since b self.new }
+        ensures keeps { Keeps self.old self.new }
+    {
+        self.name = Some(text);
     }
 }

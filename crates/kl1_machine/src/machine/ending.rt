@@ -1,26 +1,74 @@
 // Shoens that terminate, and those that have reached their allowance.
 
-ghost use Rattle.std.specs.Prelude.{◌≡◌, [], true, List, ℕ, OnOk};
+ghost use Rattle.std.specs.Prelude.{◌≡◌, ◌++◌, ◌∷◌, [], ◌&&◌, not, true, List, ℕ, if◌then◌else◌, OnOk};
 ghost use Rattle.std.specs.List.{list_any};
 ghost use Rattle.kl1_model.specs.Term.{atom};
 ghost use Rattle.kl1_model.specs.Text.{text_of};
 ghost use Rattle.kl1_model.specs.Report.{report_each};
-ghost use Rattle.kl1_model.specs.Ending.{after_reduction};
+ghost use Rattle.kl1_model.specs.Ending.{settle, after_reduction};
+ghost use Rattle.kl1_model.specs.Module.{is_among};
 ghost use Rattle.kl1_goals.specs.Lists.{is_goal_of};
 ghost use Rattle.kl1_shoen.specs.Shoens.{path_in, lives_in};
-ghost use Rattle.kl1_user_effects.specs.Endings.{finished_each};
+ghost use Rattle.kl1_user_effects.specs.Endings.{finished, finished_each};
 ghost use Rattle.kl1_user_effects.specs.Walks.{ends_in, ending_in, reached_in};
 ghost use Rattle.kl1_machine.specs.declared.machine.Machine.{Machine};
 ghost use Rattle.kl1_machine.specs.Machines.{IsMachine, Keeps};
-ghost use Rattle.kl1_machine.specs.Since.{Since, StillSince};
+ghost use Rattle.kl1_machine.specs.Since.{Since};
 ghost use Rattle.kl1_machine.specs.Effects.{TurnsAs};
-ghost use Rattle.kl1_machine.specs.Rescheduling.{LetsStill};
 ghost use Rattle.kl1_machine.specs.Ending.{LifeEnds, LivesEnd};
 
 use crate::machine::Machine;
 use kl1_model::BuiltIn;
-use kl1_user_effects::{PathScan, put_reached};
-use std::alloc::AllocError;
+use std::alloc::{AllocError, Global};
+
+/// What is found on the path of a shoen: the shoens that terminate, and those that have just been charged what they may be and go on;
+/// both innermost first.
+#[derive(Drop)]
+pub struct PathScan {
+    pub ending: Vec<u64>,
+    pub reached: Vec<u64>,
+}
+
+impl PathScan {
+    /// Nothing found.
+    pub fn new(alloc: Global) -> Self {
+        PathScan {
+            ending: Vec::new(alloc),
+            reached: Vec::new(alloc),
+        }
+    }
+}
+
+/// Whether a number is among others.
+fn is_among(numbers: &[u64], number: u64) -> bool
+    ensures { result ≡ is_among number numbers.now }
+{
+    for other in numbers {
+        if number == *other {
+            return true;
+        }
+    }
+    false
+}
+
+/// Puts the number of a shoen down, if it was charged just what it may be and doesn't end.
+fn put_reached(
+    number: u64,
+    has_reached: bool,
+    ending: &[u64],
+    reached: &mut Vec<u64>,
+) -> Result<(), AllocError>
+    ensures { OnOk result (reached.new.items ≡ reached.old.items ++ (if has_reached && not (is_among number ending.now) then number ∷ [] else [])) }
+{
+    if !has_reached {
+        return Ok(());
+    }
+    if is_among(ending, number) {
+        return Ok(());
+    }
+    reached.push(number)?;
+    Ok(())
+}
 
 impl Machine {
     /// Whether a shoen has a goal other than its monitor.
@@ -44,17 +92,22 @@ impl Machine {
         !self.shoens.has_living_child(number)
     }
 
-    /// Whether a shoen has a goal and still lets its goals step: then none on its path ends, and none has reached its allowance.
-    pub(crate) fn is_calm(&self, number: u64) -> bool
-        requires { LetsStill number self.now }
+    /// Whether the path of a shoen is that shoen alone, which has a goal and was not charged just what it may be: then none ends, and
+    /// none has reached its allowance.
+    fn is_calm(&self, number: u64) -> bool
         ensures lives { result ≡ true → ending_in self.now.goals.goals (path_in self.now.shoens.shoens number) self.now.shoens.shoens ≡ [] }
         ensures unreached { (ending : List ℕ) → result ≡ true → reached_in self.now.shoens.shoens self.now.shoens.work ending (path_in self.now.shoens.shoens number) ≡ [] }
     {
-        if self.shifts {
+        if number == 0 {
             return false;
         }
-        // Only for the proof: the shoens are numbered in order.
-        let _numbered = self.shoens.len();
+        let step = self.shoens.reached_step(number);
+        if step.up != 0 {
+            return false;
+        }
+        if step.holds {
+            return false;
+        }
         self.has_goal(number)
     }
 
@@ -63,7 +116,8 @@ impl Machine {
         requires machine { IsMachine self.old }
         requires lives { lives ≡ lives_in self.old.shoens.shoens number }
         ensures ok { OnOk result (LifeEnds number ending.old.items ending.new.items self.old self.new) }
-        ensures since { (b : Machine) → Since b self.old → StillSince result b self.new }
+        ensures since { (b : Machine) → OnOk result (Since b self.old → Since b self.new) }
+        ensures keeps { Keeps self.old self.new }
     {
         if !self.ends_now(number, lives) {
             return Ok(());
@@ -77,7 +131,8 @@ impl Machine {
     pub(crate) fn end_lives(&mut self, number: u64, ending: &mut Vec<u64>) -> Result<(), AllocError>
         requires machine { IsMachine self.old }
         ensures ok { OnOk result (LivesEnd number ending.new.items self.old self.new) }
-        ensures since { (b : Machine) → Since b self.old → StillSince result b self.new }
+        ensures since { (b : Machine) → OnOk result (Since b self.old → Since b self.new) }
+        ensures keeps { Keeps self.old self.new }
     {
         ending.clear();
         let mut at = number;
@@ -112,7 +167,8 @@ impl Machine {
     fn report_each(&mut self, numbers: &[u64], name: BuiltIn) -> Result<(), AllocError>
         requires machine { IsMachine self.old }
         ensures ok { OnOk result (TurnsAs (λ f. report_each numbers.now (atom (text_of name))) self.old self.new) }
-        ensures since { (b : Machine) → Since b self.old → StillSince result b self.new }
+        ensures since { (b : Machine) → OnOk result (Since b self.old → Since b self.new) }
+        ensures keeps { Keeps self.old self.new }
     {
         for number in numbers {
             self.report_name(*number, name)?;
@@ -120,19 +176,40 @@ impl Machine {
         Ok(())
     }
 
-    /// Does what is left of the terminations of these shoens after their lives have ended, in order: the monitor of each goes, it reports
-    /// that it has terminated, and its stream is closed.
-    pub(crate) fn finish_each(&mut self, numbers: &[u64]) -> Result<(), AllocError>
+    /// Does what is left of a termination after the shoen's life has ended: its monitor goes, it reports that, and its stream is closed.
+    fn finish(&mut self, number: u64) -> Result<(), AllocError>
+        requires machine { IsMachine self.old }
+        ensures ok { OnOk result (TurnsAs (λ f. finished number) self.old self.new) }
+        ensures since { (b : Machine) → OnOk result (Since b self.old → Since b self.new) }
+        ensures keeps { Keeps self.old self.new }
+    {
+        self.remove_monitor(number)?;
+        self.report_name(number, BuiltIn::Terminated)?;
+        self.close(number)
+    }
+
+    /// Does what is left of the terminations of these shoens, in order.
+    fn finish_each(&mut self, numbers: &[u64]) -> Result<(), AllocError>
         requires machine { IsMachine self.old }
         ensures ok { OnOk result (TurnsAs (λ f. finished_each numbers.now) self.old self.new) }
-        ensures since { (b : Machine) → Since b self.old → StillSince result b self.new }
+        ensures since { (b : Machine) → OnOk result (Since b self.old → Since b self.new) }
+        ensures keeps { Keeps self.old self.new }
     {
         for number in numbers {
-            self.remove_monitor(*number)?;
-            self.report_name(*number, BuiltIn::Terminated)?;
-            self.close(*number)?;
+            self.finish(*number)?;
         }
         Ok(())
+    }
+
+    /// Terminations on the path of a shoen, innermost first. What `scan` holds after it is of no use.
+    pub(crate) fn settle(&mut self, scan: &mut PathScan, number: u64) -> Result<(), AllocError>
+        requires machine { IsMachine self.old }
+        ensures ok { OnOk result (TurnsAs (λ f. settle number) self.old self.new) }
+        ensures since { (b : Machine) → OnOk result (Since b self.old → Since b self.new) }
+        ensures keeps { Keeps self.old self.new }
+    {
+        self.end_lives(number, &mut scan.ending)?;
+        self.finish_each(scan.ending.as_slice())
     }
 
     /// What comes after the effects of a reduction in a shoen: the shoens on its path that have just been charged what they may be, and
@@ -140,8 +217,12 @@ impl Machine {
     pub fn end_path(&mut self, scan: &mut PathScan, number: u64) -> Result<(), AllocError>
         requires machine { IsMachine self.old }
         ensures ok { OnOk result (TurnsAs (λ f. after_reduction number) self.old self.new) }
-        ensures since { (b : Machine) → Since b self.old → StillSince result b self.new }
+        ensures since { (b : Machine) → OnOk result (Since b self.old → Since b self.new) }
+        ensures keeps { Keeps self.old self.new }
     {
+        if self.is_calm(number) {
+            return Ok(());
+        }
         self.end_lives(number, &mut scan.ending)?;
         let ending = scan.ending.as_slice();
         self.find_reached(number, ending, &mut scan.reached)?;

@@ -9,13 +9,13 @@ ghost use Rattle.kl1_user_effects.specs.Drafts.{is_of_any};
 ghost use Rattle.kl1_machine.specs.declared.machine.Machine.{Machine};
 ghost use Rattle.kl1_machine.specs.Machines.{IsMachine, Keeps};
 ghost use Rattle.kl1_machine.specs.Effects.{Becomes, TurnsAs, having_goals};
-ghost use Rattle.kl1_machine.specs.Since.{Since, IsOnlyMonitor, StillSince};
+ghost use Rattle.kl1_machine.specs.Since.{Since, IsOnlyMonitor};
 
 use crate::machine::Machine;
+use crate::machine::ending::PathScan;
 use kl1_model::{BuiltIn, Message};
 use kl1_stream::Control;
 use kl1_text::CellName;
-use kl1_user_effects::PathScan;
 use std::alloc::AllocError;
 
 impl Machine {
@@ -23,7 +23,8 @@ impl Machine {
     fn obey_stop(&mut self, number: u64) -> Result<(), AllocError>
         requires machine { IsMachine self.old }
         ensures ok { OnOk result (TurnsAs (λ f. obeyed number Stop) self.old self.new) }
-        ensures since { (b : Machine) → Since b self.old → StillSince result b self.new }
+        ensures since { (b : Machine) → OnOk result (Since b self.old → Since b self.new) }
+        ensures keeps { Keeps self.old self.new }
     {
         let Some(shoen) = self.shoens.lend(number).copied() else {
             return Ok(());
@@ -39,7 +40,8 @@ impl Machine {
     fn obey_start(&mut self, number: u64) -> Result<(), AllocError>
         requires machine { IsMachine self.old }
         ensures ok { OnOk result (TurnsAs (λ f. obeyed number Start) self.old self.new) }
-        ensures since { (b : Machine) → Since b self.old → StillSince result b self.new }
+        ensures since { (b : Machine) → OnOk result (Since b self.old → Since b self.new) }
+        ensures keeps { Keeps self.old self.new }
     {
         let Some(shoen) = self.shoens.lend(number).copied() else {
             return Ok(());
@@ -55,7 +57,8 @@ impl Machine {
     fn remove_of_each(&mut self, numbers: &[u64]) -> Result<(), AllocError>
         requires machine { IsMachine self.old }
         ensures ok { OnOk result (Becomes (having_goals (filter (λ g. not (is_of_any numbers.now g)) self.old.goals.goals) self.old) self.new) }
-        ensures since { (b : Machine) → Since b self.old → StillSince result b self.new }
+        ensures since { (b : Machine) → OnOk result (Since b self.old → Since b self.new) }
+        ensures keeps { Keeps self.old self.new }
     {
         for number in numbers {
             self.remove_all(*number)?;
@@ -67,7 +70,8 @@ impl Machine {
     fn obey_abort(&mut self, number: u64, below: &mut Vec<u64>) -> Result<(), AllocError>
         requires machine { IsMachine self.old }
         ensures ok { OnOk result (TurnsAs (λ f. obeyed number Abort) self.old self.new) }
-        ensures since { (b : Machine) → Since b self.old → StillSince result b self.new }
+        ensures since { (b : Machine) → OnOk result (Since b self.old → Since b self.new) }
+        ensures keeps { Keeps self.old self.new }
     {
         self.shoens.below(number, below)?;
         self.remove_of_each(below.as_slice())?;
@@ -85,7 +89,8 @@ impl Machine {
     ) -> Result<(), AllocError>
         requires machine { IsMachine self.old }
         ensures ok { OnOk result (TurnsAs (λ f. obeyed number message) self.old self.new) }
-        ensures since { (b : Machine) → Since b self.old → StillSince result b self.new }
+        ensures since { (b : Machine) → OnOk result (Since b self.old → Since b self.new) }
+        ensures keeps { Keeps self.old self.new }
     {
         match message {
             Message::Stop => self.obey_stop(number),
@@ -107,7 +112,8 @@ impl Machine {
         requires monitor { IsOnlyMonitor monitor number self.old.goals.goals }
         requires control { ControlIn self.old.store.held control }
         ensures ok { OnOk result (TurnsAs (λ f. heard number (control_as f self.old.store.held control)) self.old self.new) }
-        ensures since { (b : Machine) → Since b self.old → StillSince result b self.new }
+        ensures since { (b : Machine) → OnOk result (Since b self.old → Since b self.new) }
+        ensures keeps { Keeps self.old self.new }
     {
         match control {
             Control::Awaits(_variable) => Ok(()),

@@ -10,14 +10,14 @@ ghost use Rattle.kl1_user_effects.specs.Fitting.{Reading};
 ghost use Rattle.kl1_user_effects.specs.Account.{meaning, shoen_with};
 ghost use Rattle.kl1_user_effects.specs.Late.{is_tail_of, IsNoTail, break_at, report_late, report_each_late, close_late, finished_late, finished_each_late, settle_charged_late};
 ghost use Rattle.kl1_machine.specs.declared.machine.Machine.{Machine};
-ghost use Rattle.kl1_machine.specs.Machines.{IsMachine};
-ghost use Rattle.kl1_machine.specs.Since.{Since, StillSince};
+ghost use Rattle.kl1_machine.specs.Machines.{IsMachine, Keeps};
+ghost use Rattle.kl1_machine.specs.Since.{Since};
 ghost use Rattle.kl1_machine.specs.Naming.{LateAs};
 
 use crate::machine::Machine;
+use crate::machine::ending::PathScan;
 use kl1_model::BuiltIn;
 use kl1_store::Cell;
-use kl1_user_effects::PathScan;
 use std::alloc::AllocError;
 
 impl Machine {
@@ -47,7 +47,8 @@ impl Machine {
         requires machine { IsMachine self.old }
         ensures ok { OnOk result (LateAs variable (λ f. break_at variable number) self.old self.new) }
         ensures untold { OnOk result (IsNoTail variable number self.new.store.held self.new.shoens.shoens) }
-        ensures since { (b : Machine) → Since b self.old → StillSince result b self.new }
+        ensures since { (b : Machine) → OnOk result (Since b self.old → Since b self.new) }
+        ensures keeps { Keeps self.old self.new }
     {
         if self.is_tail(number, variable) {
             return self.break_stream(number);
@@ -60,7 +61,8 @@ impl Machine {
         requires machine { IsMachine self.old }
         requires within { variable < self.old.store.held.variables }
         ensures ok { OnOk result (LateAs variable (λ f. report_late variable number (atom (text_of name))) self.old self.new) }
-        ensures since { (b : Machine) → Since b self.old → StillSince result b self.new }
+        ensures since { (b : Machine) → OnOk result (Since b self.old → Since b self.new) }
+        ensures keeps { Keeps self.old self.new }
     {
         self.break_late(number, variable)?;
         self.report_name(number, name)
@@ -76,7 +78,8 @@ impl Machine {
         requires machine { IsMachine self.old }
         requires within { variable < self.old.store.held.variables }
         ensures ok { OnOk result (LateAs variable (λ f. report_each_late variable numbers.now (atom (text_of name))) self.old self.new) }
-        ensures since { (b : Machine) → Since b self.old → StillSince result b self.new }
+        ensures since { (b : Machine) → OnOk result (Since b self.old → Since b self.new) }
+        ensures keeps { Keeps self.old self.new }
     {
         for number in numbers {
             self.report_late(*number, variable, name)?;
@@ -89,7 +92,8 @@ impl Machine {
         requires machine { IsMachine self.old }
         requires within { variable < self.old.store.held.variables }
         ensures ok { OnOk result (LateAs variable (λ f. close_late variable number) self.old self.new) }
-        ensures since { (b : Machine) → Since b self.old → StillSince result b self.new }
+        ensures since { (b : Machine) → OnOk result (Since b self.old → Since b self.new) }
+        ensures keeps { Keeps self.old self.new }
     {
         if self.is_tail(number, variable) {
             return Ok(());
@@ -102,7 +106,8 @@ impl Machine {
         requires machine { IsMachine self.old }
         requires within { variable < self.old.store.held.variables }
         ensures ok { OnOk result (LateAs variable (λ f. finished_late variable number) self.old self.new) }
-        ensures since { (b : Machine) → Since b self.old → StillSince result b self.new }
+        ensures since { (b : Machine) → OnOk result (Since b self.old → Since b self.new) }
+        ensures keeps { Keeps self.old self.new }
     {
         self.remove_monitor(number)?;
         self.report_late(number, variable, BuiltIn::Terminated)?;
@@ -114,7 +119,8 @@ impl Machine {
         requires machine { IsMachine self.old }
         requires within { variable < self.old.store.held.variables }
         ensures ok { OnOk result (LateAs variable (λ f. finished_each_late variable numbers.now) self.old self.new) }
-        ensures since { (b : Machine) → Since b self.old → StillSince result b self.new }
+        ensures since { (b : Machine) → OnOk result (Since b self.old → Since b self.new) }
+        ensures keeps { Keeps self.old self.new }
     {
         for number in numbers {
             self.finish_late(*number, variable)?;
@@ -133,7 +139,8 @@ impl Machine {
         requires machine { IsMachine self.old }
         requires within { variable < self.old.store.held.variables }
         ensures ok { OnOk result (LateAs variable (λ f. settle_charged_late variable number) self.old self.new) }
-        ensures since { (b : Machine) → Since b self.old → StillSince result b self.new }
+        ensures since { (b : Machine) → OnOk result (Since b self.old → Since b self.new) }
+        ensures keeps { Keeps self.old self.new }
     {
         self.end_lives(number, &mut scan.ending)?;
         let ending = scan.ending.as_slice();

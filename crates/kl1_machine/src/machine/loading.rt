@@ -4,14 +4,13 @@ ghost use Rattle.std.specs.Prelude.{◌≡◌, false, [], ◌∷◌, map, OnOk};
 ghost use Rattle.kl1_codes.specs.Numbered.{number_of};
 ghost use Rattle.kl1_codes.specs.Finding.{is_numbered};
 ghost use Rattle.kl1_codes.specs.Shelves.{with_last};
-ghost use Rattle.kl1_machine.specs.declared.machine.Machine.{Machine};
 ghost use Rattle.kl1_machine.specs.Machines.{IsMachine, Keeps};
 ghost use Rattle.kl1_machine.specs.Rescheduling.{Wakes, Reschedules, AllSettled, unready};
 
 use crate::machine::Machine;
+use crate::ready_beside::ready_clause_beside;
 use kl1_codes::{CodeSource, CodedModule, CodedModules};
 use kl1_goals_moves::Trial;
-use kl1_ready::ready_clause_beside;
 use kl1_text::CellName;
 use std::alloc::AllocError;
 
@@ -27,7 +26,7 @@ impl Machine {
         requires machine { IsMachine self.old }
         requires new { is_numbered modules.now.loaded (number_of loaded.now) ≡ false }
         ensures ok { OnOk result (Wakes (with_last modules.now loaded.now) (number ∷ []) self.old self.new) }
-        ensures keeps { (b : Machine) → Keeps b self.old → Keeps b self.new }
+        ensures keeps { Keeps self.old self.new }
     {
         let Some(goal) = self.goals.get(number) else {
             return Ok(());

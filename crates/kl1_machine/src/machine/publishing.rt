@@ -5,12 +5,13 @@ ghost use Rattle.kl1_model.specs.declared.limits.TheConstants.{MOST_NAMES};
 ghost use Rattle.kl1_clause.specs.NameList.{with_texts, IsNameList};
 ghost use Rattle.kl1_user_effects.specs.Account.{texts_of};
 ghost use Rattle.kl1_user_effects.specs.Naming.{AreSmall, Keeps as KeepsTable};
-ghost use Rattle.kl1_machine.specs.Bringing.{PublishesNames};
+ghost use Rattle.kl1_machine.specs.Exchanging.{PublishesNames};
 
+use crate::exchanging::exchange;
 use crate::machine::Machine;
 use kl1_atoms::AtomSource;
 use kl1_text::{AtomText, CellName};
-use kl1_user_effects::{exchange, publish};
+use kl1_user_effects::publish;
 
 impl Machine {
     /// Publishes these names, and puts their numbers where spare ones stand for them, in one pass over the cells. `numbers` and `row` are

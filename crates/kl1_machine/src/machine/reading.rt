@@ -7,12 +7,12 @@ ghost use Rattle.kl1_stream.specs.Controls.{control_as, ControlIn};
 ghost use Rattle.kl1_machine.specs.declared.machine.Machine.{Machine};
 ghost use Rattle.kl1_machine.specs.Machines.{IsMachine, Keeps};
 ghost use Rattle.kl1_machine.specs.Effects.{TurnsAs};
-ghost use Rattle.kl1_machine.specs.Since.{Since, IsOnlyMonitor, StillSince};
+ghost use Rattle.kl1_machine.specs.Since.{Since, IsOnlyMonitor};
 
 use crate::machine::Machine;
+use crate::machine::ending::PathScan;
 use kl1_stream::Control;
 use kl1_text::CellName;
-use kl1_user_effects::PathScan;
 use std::alloc::AllocError;
 
 impl Machine {
@@ -28,10 +28,10 @@ impl Machine {
         requires monitor { IsOnlyMonitor monitor number self.old.goals.goals }
         requires control { ControlIn self.old.store.held control }
         ensures ok { OnOk result (TurnsAs (λ f s. settle number (heard number (control_as f self.old.store.held control) s)) self.old self.new) }
-        ensures since { (b : Machine) → Since b self.old → StillSince result b self.new }
+        ensures since { (b : Machine) → OnOk result (Since b self.old → Since b self.new) }
+        ensures keeps { Keeps self.old self.new }
     {
         self.hear(scan, monitor, number, control)?;
-        self.end_lives(number, &mut scan.ending)?;
-        self.finish_each(scan.ending.as_slice())
+        self.settle(scan, number)
     }
 }

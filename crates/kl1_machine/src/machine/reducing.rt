@@ -1,50 +1,104 @@
 // Reductions of goals.
 
-ghost use Rattle.std.specs.Prelude.{◌≡◌, ℕ, ◌+◌, ◌<◌, ◌≤◌, ◌^◌, Bool, true, false, length, find, None, Some, IfOk, IfErr, OnOk, MatchOption};
+ghost use Rattle.std.specs.Prelude.{◌≡◌, ℕ, ◌+◌, ◌<◌, ◌≤◌, ◌^◌, true, false, length, find, None, Some, IfOk, OnOk, MatchOption};
 ghost use Rattle.kl1_model.specs.declared.limits.TheConstants.{MONITOR_PRIORITY};
 ghost use Rattle.kl1_stream.specs.Controls.{ControlIn};
 ghost use Rattle.kl1_goals_moves.specs.Moves.{taken_places};
 ghost use Rattle.kl1_goals.specs.declared.task.Task.TheVariants.{Monitor};
 ghost use Rattle.kl1_goals.specs.Lists.{has_number};
 ghost use Rattle.kl1_user_effects.specs.Naming.{AreSmall};
-ghost use Rattle.kl1_machine.specs.Machines.{made, Keeps, IsBegun};
+ghost use Rattle.kl1_machine.specs.Machines.{Keeps, IsBegun};
 ghost use Rattle.kl1_machine.specs.Rested.{IsRested};
 ghost use Rattle.kl1_machine.specs.Naming.{CanPublish};
-ghost use Rattle.kl1_user_effects.specs.Settled.{AreEnabled};
-ghost use Rattle.kl1_codes.specs.Shelves.{Program};
-ghost use Rattle.kl1_ready.specs.Plans.{ReadsBy, IsRunnable, MovesBy};
-ghost use Rattle.kl1_machine.specs.Reducing.{IsSteppable, ReadsAlike, Refuses, Reduces};
+ghost use Rattle.kl1_machine.specs.Reducing.{IsSteppable, ReadsBy, IsRunnable, MovesBy, ReadsAlike, Refuses, Reduces};
 
+use crate::call_cache::{CallCache, predicate_of};
 use crate::machine::Machine;
+use crate::machine::ending::PathScan;
+use crate::machine::planning::{Plan, PlannedMove};
 use kl1_codes::{CodeSource, CodedModules};
 use kl1_goals::Goal;
-use kl1_goals_moves::Trial;
-use kl1_ready::{CallCache, Plan, PlannedMove, plan_of};
+use kl1_goals_moves::{Kind, Trial};
 use kl1_store::Qualified;
 use kl1_stream::Control;
 use kl1_text::CellName;
-use kl1_user_effects::{PathScan, are_numbers};
 use kl1_user_events::Refusal;
 use std::alloc::AllocError;
 
 impl Machine {
-    /// Goal `number`, which may step, if a command may have these numbers; or why its reduction by clause `clause` is refused.
-    pub(crate) fn steppable(&self, number: u64, clause: u64) -> Result<Goal<CellName>, Refusal>
-        ensures refused { IfErr result (λ r. (program : Program) (full : Bool) → AreEnabled self.now.shoens.shoens self.now.shoens.work self.now.goals.goals → Refuses program full number clause self.now r) }
-        ensures found { IfOk result (IsSteppable self.now.goals.goals number clause) }
-        ensures number { IfOk result (λ g. g.number ≡ number) }
-        ensures level { IfOk result (λ g. g.priority ≤ MONITOR_PRIORITY) }
+    /// A monitor reads what stands before it, with what comes after it. An event has begun.
+    fn run_reading<C: CodeSource>(
+        &mut self,
+        modules: &CodedModules<'_, C>,
+        trial: &mut Trial<CellName>,
+        scan: &mut PathScan,
+        goal: Goal<CellName>,
+        control: Control<CellName>,
+    ) -> Result<(), AllocError>
+        requires begun { IsBegun self.old }
+        requires rested { IsRested modules.now self.old }
+        requires small { AreSmall self.old.names.names }
+        requires room { 0 < self.old.names.room }
+        requires there { find (has_number goal.number) self.old.goals.goals ≡ Some goal }
+        requires monitor { goal.task ≡ Monitor }
+        requires inside { ControlIn self.old.store.held control }
+        ensures ok { (clause : ℕ) → IsSteppable self.old.goals.goals goal.number clause goal → ReadsBy modules.now self.old goal clause control → OnOk result (Reduces modules.now goal.number clause self.old self.new) }
+        ensures rested { OnOk result (IsRested modules.now self.new × CanPublish self.new) }
+        ensures charged { OnOk result (length self.new.shoens.work ≤ length self.old.shoens.work + 1) }
+        ensures keeps { Keeps self.old self.new }
     {
-        if !are_numbers(number, clause) {
-            return Err(Refusal::Syntax);
-        }
-        let Some(goal) = self.goals.get(number) else {
-            return Err(Refusal::Step);
+        // Only for the proof: no shoen has two monitors.
+        let _single = self.goals.shoens();
+        self.read(scan, goal.number, goal.shoen, control)?;
+        let calls = CallCache {
+            modules,
+            known: Kind::Nothing,
+            predicate: predicate_of(modules, Kind::Nothing),
         };
-        if !goal.is_enabled {
-            return Err(Refusal::Step);
-        }
-        Ok(goal)
+        self.reschedule(&calls, trial, 0)
+    }
+
+    /// A goal makes a move, with what comes after it. An event has begun, and there is room for a name.
+    fn run_moving<C: CodeSource>(
+        &mut self,
+        modules: &CodedModules<'_, C>,
+        trial: &mut Trial<CellName>,
+        scan: &mut PathScan,
+        cells: &mut Vec<Qualified<CellName>>,
+        goal: Goal<CellName>,
+        planned: PlannedMove<'_>,
+    ) -> Result<(), AllocError>
+        requires begun { IsBegun self.old }
+        requires rested { IsRested modules.now self.old }
+        requires small { AreSmall self.old.names.names }
+        requires alike { ReadsAlike self.old }
+        requires room { 0 < self.old.names.room }
+        requires few { length self.old.shoens.work + 1 < 2 ^ 63 }
+        requires there { find (has_number goal.number) self.old.goals.goals ≡ Some goal }
+        requires enabled { goal.is_enabled ≡ true }
+        requires level { goal.priority ≤ MONITOR_PRIORITY }
+        requires runnable { IsRunnable modules.now self.old goal (taken_places trial.old) trial.old.text planned }
+        ensures ok { (clause : ℕ) → IsSteppable self.old.goals.goals goal.number clause goal → MovesBy modules.now self.old goal clause (taken_places trial.old) trial.old.text planned.entry → OnOk result (Reduces modules.now goal.number clause self.old self.new) }
+        ensures rested { OnOk result (IsRested modules.now self.new × CanPublish self.new) }
+        ensures charged { OnOk result (length self.new.shoens.work ≤ length self.old.shoens.work + 1) }
+        ensures keeps { Keeps self.old self.new }
+    {
+        self.remove(goal.number)?;
+        self.step_goal(
+            scan,
+            planned.predicate,
+            planned.made,
+            trial,
+            cells,
+            goal,
+            planned.cell,
+        )?;
+        let calls = CallCache {
+            modules,
+            known: planned.kind,
+            predicate: planned.predicate,
+        };
+        self.reschedule(&calls, trial, goal.shoen)
     }
 
     /// Does the reduction of goal `number` by clause `clause`, for an account whose journal may be full, or says why it is refused. An
@@ -75,7 +129,7 @@ impl Machine {
             Err(refusal) => return Ok(Some(refusal)),
             Ok(goal) => goal,
         };
-        let Some(plan) = plan_of(&self.store, &self.shoens, modules, trial, goal, clause)? else {
+        let Some(plan) = self.plan(modules, trial, goal, clause)? else {
             return Ok(Some(Refusal::Step));
         };
         if is_full {
@@ -83,23 +137,11 @@ impl Machine {
         }
         match plan {
             Plan::Reads(control) => {
-                // Only for the proof: no shoen has two monitors.
-                let _single = self.goals.shoens();
-                self.read(scan, number, goal.shoen, control)?;
-                self.reschedule_anew(modules, trial)?;
+                self.run_reading(modules, trial, scan, goal, control)?;
                 Ok(None)
             }
             Plan::Moves(planned) => {
-                self.remove(goal.number)?;
-                let predicate = planned.predicate;
-                let (made, cell) = (planned.made, planned.cell);
-                self.step_goal(scan, predicate, made, trial, cells, goal, cell)?;
-                let calls = CallCache {
-                    modules,
-                    known: planned.kind,
-                    predicate,
-                };
-                self.reschedule(&calls, trial, goal.shoen)?;
+                self.run_moving(modules, trial, scan, cells, goal, planned)?;
                 Ok(None)
             }
         }

@@ -14,17 +14,17 @@ ghost use Rattle.kl1_user_effects.specs.Kept.{IsOwned};
 ghost use Rattle.kl1_user_effects.specs.Late.{KeepsFree};
 ghost use Rattle.kl1_machine.specs.declared.machine.Machine.{Machine};
 ghost use Rattle.kl1_machine.specs.Machines.{IsMachine, Keeps};
-ghost use Rattle.kl1_machine.specs.Since.{Since, StillSince};
+ghost use Rattle.kl1_machine.specs.Since.{Since};
 ghost use Rattle.kl1_machine.specs.Effects.{Tells, TurnsAs};
 ghost use Rattle.kl1_machine.specs.Plain.{ArePlain};
 
 use crate::machine::Machine;
+use crate::streams::{keep_at_times, whole};
 use kl1_goals::{Goal, Task};
 use kl1_model::BuiltIn;
 use kl1_store::{Cell, Qualified};
 use kl1_stream::{Told, append_report, close_report, exception_of, exception_with};
 use kl1_text::{CellName, NameValue};
-use kl1_user_effects::{keep_at_times, whole};
 use std::alloc::AllocError;
 
 impl Machine {
@@ -33,8 +33,9 @@ impl Machine {
         requires machine { IsMachine self.old }
         requires message { IsIn self.old.store.held message }
         ensures ok { IfOk result (Tells number message self.old self.new) }
-        ensures plain { (f g : Reading) → ArePlain f g self.old → OnOk result (ArePlain f g self.new) }
-        ensures since { (b : Machine) → Since b self.old → StillSince result b self.new }
+        ensures plain { (f g : Reading) → OnOk result (ArePlain f g self.old → ArePlain f g self.new) }
+        ensures since { (b : Machine) → OnOk result (Since b self.old → Since b self.new) }
+        ensures keeps { Keeps self.old self.new }
     {
         // Only for the proof: the shoens are numbered in order.
         let _numbered = self.shoens.len();
@@ -68,8 +69,9 @@ impl Machine {
         requires machine { IsMachine self.old }
         ensures ok { OnOk result (TurnsAs (λ f. report number (atom (text_of name))) self.old self.new) }
         ensures free { OnOk result (KeepsFree number self.old.shoens.shoens self.old.store.held self.new.store.held) }
-        ensures plain { (f g : Reading) → ArePlain f g self.old → OnOk result (ArePlain f g self.new) }
-        ensures since { (b : Machine) → Since b self.old → StillSince result b self.new }
+        ensures plain { (f g : Reading) → OnOk result (ArePlain f g self.old → ArePlain f g self.new) }
+        ensures since { (b : Machine) → OnOk result (Since b self.old → Since b self.new) }
+        ensures keeps { Keeps self.old self.new }
     {
         self.tell(number, Cell::Atom(CellName::of(name)))?;
         Ok(())
@@ -80,7 +82,8 @@ impl Machine {
         requires machine { IsMachine self.old }
         ensures ok { OnOk result (TurnsAs (λ f. close number) self.old self.new) }
         ensures free { OnOk result (KeepsFree number self.old.shoens.shoens self.old.store.held self.new.store.held) }
-        ensures since { (b : Machine) → Since b self.old → StillSince result b self.new }
+        ensures since { (b : Machine) → OnOk result (Since b self.old → Since b self.new) }
+        ensures keeps { Keeps self.old self.new }
     {
         let Some(shoen) = self.shoens.lend(number) else {
             return Ok(());
@@ -102,7 +105,8 @@ impl Machine {
         requires rules { has_substitutes self.old.rules ≡ true }
         requires level { goal.priority ≤ MONITOR_PRIORITY }
         ensures ok { OnOk result (TurnsAs (λ f. raised (goal_with (meaning f self.old.store.held) goal) (text_of kind) (meaning f self.old.store.held term)) self.old self.new) }
-        ensures since { (b : Machine) → Since b self.old → StillSince result b self.new }
+        ensures since { (b : Machine) → OnOk result (Since b self.old → Since b self.new) }
+        ensures keeps { Keeps self.old self.new }
     {
         let mark = self.store.mark();
         let new = Cell::Variable(self.store.fresh()?);
@@ -127,7 +131,8 @@ impl Machine {
         requires owned { IsOwned (length self.old.shoens.shoens) goal }
         requires level { goal.priority ≤ MONITOR_PRIORITY }
         ensures ok { OnOk result (TurnsAs (λ f. raised (goal_with (meaning f self.old.store.held) goal) (text_of kind) (aim f self.old.store.held cell)) self.old self.new) }
-        ensures since { (b : Machine) → Since b self.old → StillSince result b self.new }
+        ensures since { (b : Machine) → OnOk result (Since b self.old → Since b self.new) }
+        ensures keeps { Keeps self.old self.new }
     {
         let term = whole(&mut self.store, cell)?;
         if !self.rules.has_substitutes() {
@@ -146,7 +151,8 @@ impl Machine {
         requires machine { IsMachine self.old }
         requires goal { IsIn self.old.store.held goal }
         ensures ok { OnOk result (TurnsAs (λ f. report number (exception (text_of kind) (meaning f self.old.store.held goal))) self.old self.new) }
-        ensures since { (b : Machine) → Since b self.old → StillSince result b self.new }
+        ensures since { (b : Machine) → OnOk result (Since b self.old → Since b self.new) }
+        ensures keeps { Keeps self.old self.new }
     {
         let message = exception_of(&mut self.store, kind, goal)?;
         self.tell(number, message)?;

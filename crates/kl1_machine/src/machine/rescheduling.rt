@@ -4,19 +4,46 @@ ghost use Rattle.std.specs.Prelude.{◌≡◌, ℕ, suc, true, [], ◌∷◌, On
 ghost use Rattle.std.specs.List.Sorted.{IsStrictlyIncreasing};
 ghost use Rattle.kl1_model.specs.Module.{is_among};
 ghost use Rattle.kl1_shoen.specs.Shoens.{is_enabled_at};
+ghost use Rattle.kl1_user_effects.specs.Installing.{shifted_by};
 ghost use Rattle.kl1_machine.specs.declared.machine.Machine.{Machine};
 ghost use Rattle.kl1_machine.specs.Machines.{IsMachine, IsBegun, Keeps};
 ghost use Rattle.kl1_machine.specs.Since.{Since};
 ghost use Rattle.kl1_machine.specs.Rested.{IsRested};
-ghost use Rattle.kl1_ready.specs.Serving.{IsServed};
+ghost use Rattle.kl1_machine.specs.Serving.{IsServed};
 ghost use Rattle.kl1_machine.specs.Rescheduling.{Wakes, Schedules, Shifts, all_told, Reschedules, LetsStill};
 
+use crate::call_cache::CallCache;
 use crate::machine::Machine;
-use kl1_codes::{CodeSource, CodedModules};
-use kl1_goals_moves::{Kind, Trial};
-use kl1_ready::{CallCache, enable_each, may_step, predicate_of, put_in_order, ready_clause};
+use crate::ready_clause::{may_step, ready_clause};
+use kl1_codes::CodeSource;
+use kl1_goals::GoalRow;
+use kl1_goals_moves::Trial;
+use kl1_shoen::Shift;
 use kl1_text::CellName;
 use std::alloc::AllocError;
+
+/// Puts numbers in order, each once.
+#[inline(always)]
+fn put_in_order(numbers: &mut Vec<u64>)
+    ensures same { (n : ℕ) → is_among n numbers.new.items ≡ is_among n numbers.old.items }
+    ensures once { IsStrictlyIncreasing numbers.new.items }
+{
+    if numbers.len() > 1 {
+        numbers.sort_unstable();
+        numbers.dedup();
+    }
+}
+
+/// Lets the goals of shoens step, or holds them back, one shift after another.
+fn enable_each(goals: &mut GoalRow<CellName>, shifts: &[Shift]) -> Result<(), AllocError>
+    ensures ok { OnOk result (goals.new.goals ≡ shifted_by shifts.now goals.old.goals) }
+    ensures rest { goals.new ≡ record goals.old { goals = goals.new.goals } }
+{
+    for shift in shifts {
+        goals.enable(shift.shoen, shift.is_enabled)?;
+    }
+    Ok(())
+}
 
 impl Machine {
     /// Tells the numbers that hang on variables which were bound since the event began. All that are told stand in order, each once.
@@ -43,12 +70,12 @@ impl Machine {
         requires machine { IsMachine self.old }
         requires served { IsServed calls.now.modules.now.loaded calls.now.known calls.now.predicate }
         ensures ok { OnOk result (Wakes calls.now.modules.now (number ∷ []) self.old self.new) }
-        ensures keeps { (b : Machine) → Keeps b self.old → Keeps b self.new }
+        ensures keeps { Keeps self.old self.new }
     {
-        let Some(goal) = self.goals.lend(number) else {
+        let Some(goal) = self.goals.get(number) else {
             return Ok(());
         };
-        let clause = ready_clause(&mut self.store, &self.shoens, calls, trial, goal)?;
+        let clause = ready_clause(&mut self.store, &self.shoens, calls, trial, &goal)?;
         self.goals.set_standing(number, clause)
     }
 
@@ -61,7 +88,7 @@ impl Machine {
         requires machine { IsMachine self.old }
         requires served { IsServed calls.now.modules.now.loaded calls.now.known calls.now.predicate }
         ensures ok { OnOk result (Wakes calls.now.modules.now self.old.told.items self.old self.new) }
-        ensures keeps { (b : Machine) → Keeps b self.old → Keeps b self.new }
+        ensures keeps { Keeps self.old self.new }
     {
         for place in 0..self.told.len() {
             let number = self.told[place];
@@ -83,13 +110,13 @@ impl Machine {
         requires served { IsServed calls.now.modules.now.loaded calls.now.known calls.now.predicate }
         requires lets { is_enabled_at self.old.shoens.shoens self.old.shoens.work running ≡ true }
         ensures ok { (n : ℕ) → number ≡ suc n → OnOk result (Schedules calls.now.modules.now n number self.old self.new) }
-        ensures keeps { (b : Machine) → Keeps b self.old → Keeps b self.new }
+        ensures keeps { Keeps self.old self.new }
     {
-        let Some(goal) = self.goals.lend(number) else {
+        let Some(goal) = self.goals.get(number) else {
             return Ok(());
         };
-        let clause = ready_clause(&mut self.store, &self.shoens, calls, trial, goal)?;
-        let is_enabled = may_step(&self.shoens, running, goal);
+        let clause = ready_clause(&mut self.store, &self.shoens, calls, trial, &goal)?;
+        let is_enabled = may_step(&self.shoens, running, &goal);
         self.goals.look(number, clause, is_enabled)
     }
 
@@ -106,7 +133,7 @@ impl Machine {
         requires served { IsServed calls.now.modules.now.loaded calls.now.known calls.now.predicate }
         requires lets { is_enabled_at self.old.shoens.shoens self.old.shoens.work running ≡ true }
         ensures ok { OnOk result (Schedules calls.now.modules.now self.old.begun.last_goal last self.old self.new) }
-        ensures keeps { (b : Machine) → Keeps b self.old → Keeps b self.new }
+        ensures keeps { Keeps self.old self.new }
     {
         let mut number = self.begun.last_goal;
         while number < last {
@@ -119,7 +146,7 @@ impl Machine {
     /// Lets goals step, or holds them back, of each shoen in which that may be other than when the event began, if it may be so in any.
     fn shift(&mut self) -> Result<(), AllocError>
         ensures ok { OnOk result (Shifts self.old self.new) }
-        ensures keeps { (b : Machine) → Keeps b self.old → Keeps b self.new }
+        ensures keeps { Keeps self.old self.new }
     {
         if !self.shifts {
             return Ok(());
@@ -161,24 +188,5 @@ impl Machine {
         let last = self.counts.last_goal;
         self.schedule_new(calls, trial, lets, last)?;
         self.shift()
-    }
-
-    /// Ends an event as `reschedule` does, with no clauses looked up before, and no shoen known that lets its goals step.
-    pub(crate) fn reschedule_anew<C: CodeSource>(
-        &mut self,
-        modules: &CodedModules<'_, C>,
-        trial: &mut Trial<CellName>,
-    ) -> Result<(), AllocError>
-        requires { IsMachine self.old }
-        ensures ok { OnOk result (Reschedules self.old self.new) }
-        ensures rested { (b : Machine) → IsBegun b → Since b self.old → IsRested modules.now b → OnOk result (IsRested modules.now self.new) }
-        ensures keeps { Keeps self.old self.new }
-    {
-        let calls = CallCache {
-            modules,
-            known: Kind::Nothing,
-            predicate: predicate_of(modules, Kind::Nothing),
-        };
-        self.reschedule(&calls, trial, 0)
     }
 }

@@ -1,19 +1,26 @@
 // Goals that the console starts.
 
-ghost use Rattle.std.specs.Prelude.{◌≡◌, ◌+◌, ◌<◌, ◌^◌, [], length, IsTrue, IfOk, OnOk};
+ghost use Rattle.std.specs.Prelude.{◌≡◌, ◌+◌, ◌<◌, ◌≤◌, ◌^◌, [], true, length, IsTrue, IfOk, OnOk};
+ghost use Rattle.kl1_model.specs.declared.limits.TheConstants.{MONITOR_PRIORITY};
+ghost use Rattle.kl1_model.specs.Goal.{is_goal};
 ghost use Rattle.kl1_model.specs.Meaning.{highest, is_numbered};
+ghost use Rattle.kl1_model.specs.Nodes.{goal_nodes};
 ghost use Rattle.kl1_model.specs.Opening.{start_goal};
 ghost use Rattle.kl1_model.specs.State.{names_of, with_names};
 ghost use Rattle.kl1_store.specs.Held.{IsIn};
 ghost use Rattle.kl1_machine.specs.declared.machine.Machine.{Machine};
-ghost use Rattle.kl1_machine.specs.Effects.{counting};
-ghost use Rattle.kl1_machine.specs.Bringing.{CanStart, Brings};
-ghost use Rattle.kl1_machine.specs.Machines.{IsMachine, Keeps};
-ghost use Rattle.kl1_machine.specs.Since.{Since, StillSince};
+ghost use Rattle.kl1_machine.specs.Bringing.{Brings};
+ghost use Rattle.kl1_machine.specs.Machines.{IsMachine, IsBegun, Keeps};
+ghost use Rattle.kl1_machine.specs.Rested.{IsRested};
+ghost use Rattle.kl1_machine.specs.Serving.{IsServed};
+ghost use Rattle.kl1_machine.specs.Since.{Since};
 ghost use Rattle.kl1_machine.specs.Starting.{BuildsGoal, OpensStreams};
 
+use crate::call_cache::CallCache;
 use crate::machine::Machine;
 use kl1_clause::GoalCode;
+use kl1_codes::CodeSource;
+use kl1_goals_moves::Trial;
 use kl1_match::{Scratch, put_goal, put_goal_variables, reserve_goal};
 use kl1_model::Life;
 use kl1_shoen::{Origin, Shoen};
@@ -34,32 +41,26 @@ pub struct Start<'a> {
 }
 
 impl Machine {
-    /// Builds a goal of the console, which has `variables` variables, with these numbers for its names in order of first use; `counted`
-    /// variables and `nodes` structures are counted for it.
+    /// Builds a goal of the console, which has `variables` variables, with these numbers for its names in order of first use.
     pub(crate) fn build_goal(
         &mut self,
         scratch: &mut Scratch<CellName>,
         code: &GoalCode,
         variables: u64,
         numbers: &[CellName],
-        counted: u64,
-        nodes: u64,
     ) -> Result<Cell<CellName>, AllocError>
         requires machine { IsMachine self.old }
         requires numbered { IsTrue (is_numbered code.now) }
         requires variables { variables ≡ highest code.now }
         requires numbers { length numbers.now ≡ length (with_names [] (names_of code.now)) }
-        requires few { self.old.counts.variables + counted < 2 ^ 64 }
-        requires small { self.old.counts.nodes + nodes < 2 ^ 64 }
-        ensures ok { IfOk result (BuildsGoal code.now numbers.now (counting (self.old.counts.variables + counted) (self.old.counts.nodes + nodes) self.old) self.new) }
-        ensures since { (b : Machine) → Since b self.old → StillSince result b self.new }
+        ensures ok { IfOk result (BuildsGoal code.now numbers.now self.old self.new) }
+        ensures since { (b : Machine) → OnOk result (Since b self.old → Since b self.new) }
+        ensures keeps { Keeps self.old self.new }
     {
         put_goal_variables(&mut self.store, variables, scratch)?;
         let row = code.row();
         reserve_goal(&mut self.store, row, scratch)?;
         let cell = put_goal(&mut self.store, numbers, row, scratch);
-        self.counts.variables += counted;
-        self.counts.nodes += nodes;
         Ok(cell)
     }
 
@@ -68,7 +69,8 @@ impl Machine {
         requires machine { IsMachine self.old }
         requires goal { IsIn self.old.store.held goal }
         ensures ok { IfOk result (OpensStreams goal self.old self.new) }
-        ensures since { (b : Machine) → Since b self.old → StillSince result b self.new }
+        ensures since { (b : Machine) → OnOk result (Since b self.old → Since b self.new) }
+        ensures keeps { Keeps self.old self.new }
     {
         // Only for the proof: what the store holds is formed.
         let _formed = self.store.mark();
@@ -83,25 +85,28 @@ impl Machine {
 
     /// Starts a goal in a shoen of its own, with these numbers for its names in order of first use. The names are to be used after it; goals
     /// aren't looked at.
-    pub(crate) fn start(
+    fn start(
         &mut self,
         scratch: &mut Scratch<CellName>,
         start: &Start<'_>,
         numbers: &[CellName],
     ) -> Result<(), AllocError>
         requires machine { IsMachine self.old }
-        requires can { CanStart self.old.counts.variables self.old.counts.nodes numbers.now start.now }
+        requires goal { is_goal start.now.code.now ≡ true }
+        requires numbered { IsTrue (is_numbered start.now.code.now) }
+        requires variables { start.now.variables ≡ highest start.now.code.now }
+        requires numbers { length numbers.now ≡ length (with_names [] (names_of start.now.code.now)) }
+        requires low { start.now.low ≤ MONITOR_PRIORITY }
+        requires high { start.now.high ≤ MONITOR_PRIORITY }
+        requires few { self.old.counts.variables + (start.now.variables + 2) < 2 ^ 64 }
+        requires small { self.old.counts.nodes + goal_nodes start.now.code.now < 2 ^ 64 }
         ensures ok { OnOk result (Brings (λ s. start_goal s start.now.allowance start.now.low start.now.high start.now.code.now) start.now.code.now numbers.now self.old self.new) }
-        ensures since { (b : Machine) → Since b self.old → StillSince result b self.new }
+        ensures since { (b : Machine) → OnOk result (Since b self.old → Since b self.new) }
+        ensures keeps { Keeps self.old self.new }
     {
-        let goal = self.build_goal(
-            scratch,
-            start.code,
-            start.variables,
-            numbers,
-            start.variables + 2,
-            start.code.nodes(),
-        )?;
+        self.counts.variables += start.variables + 2;
+        self.counts.nodes += start.code.nodes();
+        let goal = self.build_goal(scratch, start.code, start.variables, numbers)?;
         let origin = self.open_streams(goal)?;
         let number = last_of(self.shoens.len(), 1)?;
         let shoen = Shoen {
@@ -119,5 +124,34 @@ impl Machine {
         };
         self.open_shoen(shoen, goal)?;
         Ok(())
+    }
+
+    /// Starts a goal in a shoen of its own, with these numbers for its names in order of first use; goals are looked at. An event has
+    /// begun. The names are to be used after it, and those that are new to be published in place of the spare numbers that stand for them.
+    pub fn start_goal<C: CodeSource>(
+        &mut self,
+        calls: &CallCache<'_, '_, C>,
+        trial: &mut Trial<CellName>,
+        scratch: &mut Scratch<CellName>,
+        start: &Start<'_>,
+        numbers: &[CellName],
+    ) -> Result<(), AllocError>
+        requires begun { IsBegun self.old }
+        requires rested { IsRested calls.now.modules.now self.old }
+        requires served { IsServed calls.now.modules.now.loaded calls.now.known calls.now.predicate }
+        requires goal { is_goal start.now.code.now ≡ true }
+        requires numbered { IsTrue (is_numbered start.now.code.now) }
+        requires variables { start.now.variables ≡ highest start.now.code.now }
+        requires numbers { length numbers.now ≡ length (with_names [] (names_of start.now.code.now)) }
+        requires low { start.now.low ≤ MONITOR_PRIORITY }
+        requires high { start.now.high ≤ MONITOR_PRIORITY }
+        requires few { self.old.counts.variables + (start.now.variables + 2) < 2 ^ 64 }
+        requires small { self.old.counts.nodes + goal_nodes start.now.code.now < 2 ^ 64 }
+        ensures ok { OnOk result (Brings (λ s. start_goal s start.now.allowance start.now.low start.now.high start.now.code.now) start.now.code.now numbers.now self.old self.new) }
+        ensures rested { OnOk result (IsRested calls.now.modules.now self.new) }
+        ensures keeps { Keeps self.old self.new }
+    {
+        self.start(scratch, start, numbers)?;
+        self.reschedule(calls, trial, 0)
     }
 }

@@ -1,7 +1,6 @@
 // Charges, and what comes of them.
 
-ghost use Rattle.std.specs.Prelude.{◌≡◌, ◌<◌, ◌≤◌, ◌+◌, ◌^◌, ◌∷◌, length, map, not, ◌&&◌, IfOk, OnOk, OnErr};
-ghost use Rattle.std.specs.List.{list_any};
+ghost use Rattle.std.specs.Prelude.{◌≡◌, ◌<◌, ◌≤◌, ◌+◌, ◌^◌, ◌∷◌, length, map, not, ◌&&◌, OnOk, OnErr};
 ghost use Rattle.kl1_shoen.specs.Shoens.{path_in, charged_in, has_reached_in, is_blocking_in, is_enabled_at};
 
 use crate::counted::is_living;
@@ -11,20 +10,18 @@ use kl1_text::NameValue;
 use std::alloc::AllocError;
 
 impl<N: NameValue> ShoenTree<N> {
-    /// Charges a reduction that was done in a shoen: to it, and to each of its ancestors. It tells whether one of them was charged just what
-    /// it may be by it.
-    pub fn charge(&mut self, number: u64) -> Result<bool, AllocError>
+    /// Charges a reduction that was done in a shoen: to it, and to each of its ancestors.
+    pub fn charge(&mut self, number: u64) -> Result<(), AllocError>
         requires some { 0 < number }
         requires within { number ≤ length self.old.shoens }
         requires few { length self.old.work + 1 < 2 ^ 63 }
         ensures ok { OnOk result (self.new ≡ record self.old { work = number ∷ self.old.work }) }
-        ensures reaches { IfOk result (λ reaches. reaches ≡ list_any (has_reached_in self.new.shoens self.new.work) (path_in self.new.shoens number)) }
         ensures err { OnErr result (self.new ≡ self.old) }
     {
         self.charges.reserve_changes(number as usize)?;
-        let reaches = raise(self.shoens.items(), &mut self.charges, number);
+        raise(self.shoens.items(), &mut self.charges, number);
         self.work.add(number);
-        Ok(reaches)
+        Ok(())
     }
 
     /// What shoen `number` was charged, in reductions; 0 if no shoen has the number.

@@ -1,6 +1,5 @@
 // The checks by their names.
 
-use crate::ready::back::{a_number_is_put_again, an_event_is_taken_back, walks_are_taken_back};
 use crate::ready::goals::{
     ends_of_shoens_are_seen, goals_are_found, goals_of_a_shoen_are_removed,
     goals_wait_until_they_are_let, the_greatest_priority_then_the_least_number,
@@ -50,18 +49,4 @@ pub fn put_ready_checks(out: &mut Text) {
     );
     let done = few_goals_of_many_are_left(alloc);
     put_check(out, b"ready 9_goals_of_40_wait_and_are_removed", done);
-    let done = an_event_is_taken_back(alloc);
-    put_check(out, b"ready what_an_event_did_to_goals_is_taken_back", done);
-    let done = a_number_is_put_again(alloc);
-    put_check(
-        out,
-        b"ready a_number_that_was_taken_back_is_put_again",
-        done,
-    );
-    let done = walks_are_taken_back(alloc);
-    put_check(
-        out,
-        b"ready goals_that_were_removed_or_held_back_by_their_shoens_are_taken_back",
-        done,
-    );
 }

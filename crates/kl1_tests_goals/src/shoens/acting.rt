@@ -63,8 +63,7 @@ fn charge(tree: &mut ShoenTree<AtomNo>, number: u64) -> Result<(), AllocError>
     if tree.len() < number {
         return Err(AllocError);
     }
-    tree.charge(number)?;
-    Ok(())
+    tree.charge(number)
 }
 
 /// Changes a shoen, by an act that does so.

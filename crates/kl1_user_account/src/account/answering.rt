@@ -11,10 +11,13 @@ ghost use Rattle.kl1_codes.specs.Numbered.{ArePlaced};
 
 use crate::account::Account;
 use crate::answerable::{Answering, code_of_answer};
+use crate::name_rows::rows_for;
+use crate::runs::note_entry;
 use kl1_atoms::AtomSource;
 use kl1_clause::structures_of;
-use kl1_codes::CodeSource;
-use kl1_machine::{Answer, Brought};
+use kl1_codes::{CodeSource, CodedModules};
+use kl1_goals_moves::Kind;
+use kl1_machine::{Answer, CallCache, predicate_of};
 use kl1_term::Term;
 use kl1_user_events::Reply;
 use std::alloc::AllocError;
@@ -41,19 +44,60 @@ impl<C: CodeSource> Account<C> {
         ensures modules { self.new.modules ≡ self.old.modules }
     {
         let counted = self.counted();
-        let machine = &self.machine;
-        let answering = code_of_answer(self.alloc, machine, counted, number, report, goal)?;
+        let answering = code_of_answer(
+            self.alloc,
+            self.machine.rules,
+            &self.machine.store,
+            &self.machine.shoens,
+            &self.machine.names,
+            counted,
+            number,
+            report,
+            goal,
+        )?;
         let (code, variable) = match answering {
             Answering::Refused(refusal) => return Ok(Reply::Refused(refusal)),
             Answering::Coded(code, variable) => (code, variable),
         };
-        let answer = Brought::Answers(Answer {
+        let texts = code.names();
+        let mut rows = rows_for(self.alloc, &mut self.machine.names, texts)?;
+        let modules = CodedModules::over(self.machine.rules, &self.modules, codes);
+        let calls = CallCache {
+            modules: &modules,
+            known: Kind::Nothing,
+            predicate: predicate_of(&modules, Kind::Nothing),
+        };
+        let answer = Answer {
             code: &code,
             variables: goal.highest(),
             nodes: structures_of(goal),
             variable,
-        });
-        self.bring(names, seat, codes, code.names(), &answer)?;
+        };
+        let spares = rows.spares.as_slice();
+        self.machine.begin();
+        let answered = self.machine.answer(
+            &calls,
+            &mut self.trial,
+            &mut self.scratch,
+            &answer,
+            spares,
+        );
+        match answered {
+            Err(memory) => {
+                self.machine.back();
+                return Err(memory);
+            }
+            Ok(()) => {}
+        }
+        self.machine.publish_names(
+            names,
+            seat,
+            texts,
+            spares,
+            &mut rows.numbers,
+            &mut rows.pairs,
+        );
+        note_entry(&mut self.entries, &mut self.run);
         Ok(Reply::Sent)
     }
 }

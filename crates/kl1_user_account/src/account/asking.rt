@@ -10,14 +10,13 @@ ghost use Rattle.kl1_user_events.specs.Views.{reply_of};
 ghost use Rattle.kl1_codes.specs.Numbered.{ArePlaced};
 
 use crate::account::Account;
-use crate::asking::{alive_in, list_cells, modules_of};
-use crate::viewing::shoens::view_of;
+use crate::asking::{modules_of, reports_of, status_of};
+use crate::limits::is_number;
+use crate::printing::print_cell;
 use kl1_atoms::AtomSource;
 use kl1_codes::{CodeSource, CodedModules};
-use kl1_model::limits::MOST_LISTED;
-use kl1_stream::nth_cell;
-use kl1_user_effects::{are_numbers, is_number};
-use kl1_user_events::{Extent, Refusal, Reply};
+use kl1_model::limits::MOST_PRINTED_BYTES;
+use kl1_user_events::{Refusal, Reply};
 use std::alloc::AllocError;
 
 impl<C: CodeSource> Account<C> {
@@ -25,21 +24,12 @@ impl<C: CodeSource> Account<C> {
     pub fn status(&self, number: u64) -> Result<Reply, AllocError>
         ensures step { IfOk result (λ reply. (f : Reading) → Fits self.now.names f → step (state_of f self.now) (read (status number)) ≡ record { state = state_of f self.now; reply = reply_of reply }) }
     {
-        if !is_number(number) {
-            return Ok(Reply::Refused(Refusal::Syntax));
-        }
-        let Some(shoen) = self.machine.shoens.lend(number) else {
-            return Ok(Reply::Refused(Refusal::NoShoen));
-        };
-        let shown = view_of(&self.machine.shoens, &self.machine.goals, shoen);
-        let mut below = Vec::new(self.alloc);
-        self.machine.shoens.below(number, &mut below)?;
-        Ok(Reply::Status {
-            condition: shown.condition,
-            charged: shown.charged,
-            allowance: shown.allowance,
-            alive: alive_in(&self.machine.goals, below.as_slice()),
-        })
+        status_of(
+            self.alloc,
+            &self.machine.shoens,
+            &self.machine.goals,
+            number,
+        )
     }
 
     /// The reports of shoen `number`, which the console started, from one on, the first being 1: at most 64, each printed and cut.
@@ -56,19 +46,15 @@ impl<C: CodeSource> Account<C> {
         ensures keeps { Keeps A.is_of A.place A.knows A.published names.old names.new seat.old seat.new }
         ensures knows { A.knows seat.new ≡ self.now.names }
     {
-        if !are_numbers(number, from) {
-            return Ok(Reply::Refused(Refusal::Syntax));
-        }
-        if from < 1 {
-            return Ok(Reply::Refused(Refusal::Syntax));
-        }
-        let Some(origin) = self.machine.shoens.origin_at(number) else {
-            return Ok(Reply::Refused(Refusal::NoShoen));
-        };
-        let store = &self.machine.store;
-        let first = nth_cell(store, origin.reports, from - 1);
-        let listed = list_cells(self.alloc, names, seat, store, first, MOST_LISTED)?;
-        Ok(Reply::Listed(listed))
+        reports_of(
+            self.alloc,
+            names,
+            seat,
+            &self.machine.store,
+            &self.machine.shoens,
+            number,
+            from,
+        )
     }
 
     /// The modules, in order of loading.
@@ -98,9 +84,19 @@ impl<C: CodeSource> Account<C> {
         if !is_number(number) {
             return Ok(Reply::Refused(Refusal::Syntax));
         }
-        match self.value_text(names, seat, number, Extent::Cut)? {
+        match self.machine.shoens.origin_at(number) {
             None => Ok(Reply::Refused(Refusal::NoShoen)),
-            Some(text) => Ok(Reply::Shown(text)),
+            Some(origin) => {
+                let text = print_cell(
+                    self.alloc,
+                    names,
+                    seat,
+                    &self.machine.store,
+                    origin.goal,
+                    Some(MOST_PRINTED_BYTES),
+                )?;
+                Ok(Reply::Shown(text))
+            }
         }
     }
 }

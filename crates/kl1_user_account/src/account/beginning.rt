@@ -15,14 +15,14 @@ use crate::account::Account;
 use crate::account_name::AccountName;
 use kl1_atoms::AtomSource;
 use kl1_codes::{CodeSource, Modules};
-use kl1_goals::{GoalTable, Rules};
+use kl1_goals::{GoalRow, Rules};
 use kl1_goals_moves::Trial;
-use kl1_machine::{Counts, Machine};
+use kl1_machine::{Counts, Machine, PathScan};
 use kl1_match::Scratch;
 use kl1_shoen::ShoenTree;
 use kl1_store::Store;
 use kl1_text::{AtomText, CellName};
-use kl1_user_effects::{AccountNames, PathScan, publish};
+use kl1_user_effects::{AccountNames, publish};
 use std::alloc::{AllocError, Global};
 use std::mem;
 
@@ -98,6 +98,7 @@ impl<C: CodeSource> Account<C> {
 
     /// An account that keeps to these rules, in which nothing has happened but that it has used these names, and that `sessions`
     /// sessions are open. Its cells are those of a store that holds one variable: the variables of the account are numbered from 1.
+    #[tactic(auto, using(crate::proofs::Begun::begun_kept, crate::proofs::Begun::begun_counts))]
     fn blank(
         alloc: Global,
         name: AccountName,
@@ -120,7 +121,7 @@ impl<C: CodeSource> Account<C> {
         let machine = Machine {
             rules,
             store,
-            goals: GoalTable::new(alloc),
+            goals: GoalRow::new(alloc),
             shoens: ShoenTree::new(alloc),
             names,
             name: None,

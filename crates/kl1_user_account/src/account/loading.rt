@@ -10,10 +10,10 @@ ghost use Rattle.kl1_user_events.specs.Views.{reply_of};
 ghost use Rattle.kl1_codes.specs.Numbered.{ArePlaced};
 
 use crate::account::Account;
-use crate::loading::{Loading, draft_module, push_module, row_for};
+use crate::loading::{Loading, draft_module, look_beside, push_module, row_for};
 use crate::runs::note_entry;
 use kl1_atoms::AtomSource;
-use kl1_codes::{CodeSource, CodedModule, CodedModules};
+use kl1_codes::CodeSource;
 use kl1_user_effects::publish;
 use kl1_user_events::Reply;
 use std::alloc::AllocError;
@@ -44,19 +44,18 @@ impl<C: CodeSource> Account<C> {
             Loading::Drafted(draft) => draft,
         };
         self.modules.reserve(1)?;
-        let stored: &C = codes;
-        let texts = draft.code(stored).names();
+        let texts = draft.code(codes).names();
         let mut row = row_for(self.alloc, &mut self.machine.names, texts)?;
-        let modules = CodedModules::over(self.machine.rules, &self.modules, stored);
-        let loaded = CodedModule::over(&draft, stored);
-        self.machine.begin();
-        let looked = self
-            .machine
-            .reschedule_for_load(&modules, &loaded, &mut self.trial);
-        self.machine.or_back(looked)?;
+        look_beside(
+            &mut self.machine,
+            &self.modules,
+            codes,
+            &draft,
+            &mut self.trial,
+        )?;
         publish(names, seat, &mut self.machine.names, texts, &mut row);
-        let name = draft.code(stored).module_name();
-        push_module(&mut self.modules, stored, draft, row.as_slice());
+        let name = draft.code(codes).module_name();
+        push_module(&mut self.modules, codes, draft, row.as_slice());
         note_entry(&mut self.entries, &mut self.run);
         Ok(Reply::Loaded(name))
     }

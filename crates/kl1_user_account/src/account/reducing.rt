@@ -38,8 +38,8 @@ impl<C: CodeSource> Account<C> {
         let in_run = self.is_in_run(number, clause);
         let is_full = self.has_no_room(in_run);
         self.machine.names.reserve(1)?;
-        let modules = CodedModules::over(self.machine.rules, &self.modules, codes);
         self.machine.begin();
+        let modules = CodedModules::over(self.machine.rules, &self.modules, codes);
         let reduced = self.machine.reduce(
             &modules,
             &mut self.trial,
@@ -49,7 +49,13 @@ impl<C: CodeSource> Account<C> {
             number,
             clause,
         );
-        let refused = self.machine.or_back(reduced)?;
+        let refused = match reduced {
+            Err(memory) => {
+                self.machine.back();
+                return Err(memory);
+            }
+            Ok(refused) => refused,
+        };
         if let Some(refusal) = refused {
             return Ok(Some(refusal));
         }

@@ -11,6 +11,8 @@ ghost use Rattle.kl1_codes.specs.Numbered.{ArePlaced};
 use crate::account::Account;
 use crate::runs::note_entry;
 use kl1_codes::{CodeSource, CodedModules};
+use kl1_goals_moves::Kind;
+use kl1_machine::{CallCache, predicate_of};
 use kl1_model::Message;
 use kl1_user_events::Reply;
 use std::alloc::AllocError;
@@ -24,12 +26,23 @@ impl<C: CodeSource> Account<C> {
         ensures modules { self.new.modules ≡ self.old.modules }
         ensures err { OnErr result (self.new ≡ self.old) }
     {
-        let modules = CodedModules::over(self.machine.rules, &self.modules, codes);
         self.machine.begin();
+        let modules = CodedModules::over(self.machine.rules, &self.modules, codes);
+        let calls = CallCache {
+            modules: &modules,
+            known: Kind::Nothing,
+            predicate: predicate_of(&modules, Kind::Nothing),
+        };
         let sent = self
             .machine
-            .send(&modules, &mut self.trial, self.entries, number, message);
-        let refused = self.machine.or_back(sent)?;
+            .send(&calls, &mut self.trial, self.entries, number, message);
+        let refused = match sent {
+            Err(memory) => {
+                self.machine.back();
+                return Err(memory);
+            }
+            Ok(refused) => refused,
+        };
         if let Some(refusal) = refused {
             return Ok(Reply::Refused(refusal));
         }

@@ -10,10 +10,13 @@ ghost use Rattle.kl1_user_events.specs.Views.{reply_of};
 ghost use Rattle.kl1_codes.specs.Numbered.{ArePlaced};
 
 use crate::account::Account;
+use crate::name_rows::rows_for;
+use crate::runs::note_entry;
 use crate::startable::{Starting, code_of};
 use kl1_atoms::AtomSource;
-use kl1_codes::CodeSource;
-use kl1_machine::{Brought, Start};
+use kl1_codes::{CodeSource, CodedModules};
+use kl1_goals_moves::Kind;
+use kl1_machine::{CallCache, Start, predicate_of};
 use kl1_term::Term;
 use kl1_user_effects::last_of;
 use kl1_user_events::{Reply, ShoenNo};
@@ -47,14 +50,42 @@ impl<C: CodeSource> Account<C> {
             Starting::Coded(code) => code,
         };
         let shoen = last_of(counted.shoens, 1)?;
-        let start = Brought::Starts(Start {
+        let texts = code.names();
+        let mut rows = rows_for(self.alloc, &mut self.machine.names, texts)?;
+        let modules = CodedModules::over(self.machine.rules, &self.modules, codes);
+        let calls = CallCache {
+            modules: &modules,
+            known: Kind::Nothing,
+            predicate: predicate_of(&modules, Kind::Nothing),
+        };
+        let start = Start {
             code: &code,
             variables: goal.highest(),
             allowance,
             low,
             high,
-        });
-        self.bring(names, seat, codes, code.names(), &start)?;
+        };
+        let spares = rows.spares.as_slice();
+        self.machine.begin();
+        let started = self
+            .machine
+            .start_goal(&calls, &mut self.trial, &mut self.scratch, &start, spares);
+        match started {
+            Err(memory) => {
+                self.machine.back();
+                return Err(memory);
+            }
+            Ok(()) => {}
+        }
+        self.machine.publish_names(
+            names,
+            seat,
+            texts,
+            spares,
+            &mut rows.numbers,
+            &mut rows.pairs,
+        );
+        note_entry(&mut self.entries, &mut self.run);
         Ok(Reply::Opened(ShoenNo(shoen)))
     }
 }

@@ -11,7 +11,7 @@ ghost use Rattle.kl1_user_account.specs.Viewed.{AwaitsMessage, Awaits, ListsAwai
 use kl1_codes::{CodeSource, CodedModules};
 use kl1_goals::{Goal, Task};
 use kl1_goals_moves::{Trial, kind_of_qualified, standing_of, substitute_standing};
-use kl1_ready::predicate_of;
+use kl1_machine::predicate_of;
 use kl1_shoen::ShoenTree;
 use kl1_store::{Cell, Qualified, Store};
 use kl1_stream::{Control, read_control};

@@ -5,7 +5,7 @@ ghost use Rattle.kl1_goals.specs.Lists.{is_after};
 ghost use Rattle.kl1_goals.specs.Readies.{stands};
 ghost use Rattle.kl1_user_account.specs.Viewed.{kind_shown, goal_shown};
 
-use kl1_goals::{Goal, GoalTable, Task};
+use kl1_goals::{Goal, GoalRow, Task};
 use kl1_text::CellName;
 use kl1_user_events::{GoalNo, GoalView, ShoenNo, TaskKind};
 use std::alloc::{AllocError, Global};
@@ -37,7 +37,7 @@ fn view_of(goal: &Goal<CellName>) -> GoalView
 /// What is shown of the goals with numbers from one on, of the first `count` of them.
 pub(crate) fn goals_from(
     alloc: Global,
-    goals: &GoalTable<CellName>,
+    goals: &GoalRow<CellName>,
     from: u64,
     count: usize,
 ) -> Result<Vec<GoalView>, AllocError>

@@ -5,7 +5,7 @@ ghost use Rattle.kl1_user_events.specs.Viewing.{parent_shown};
 ghost use Rattle.kl1_user_account.specs.Viewed.{shoen_shown};
 
 use crate::asking::condition_of;
-use kl1_goals::GoalTable;
+use kl1_goals::GoalRow;
 use kl1_shoen::{Shoen, ShoenTree};
 use kl1_text::CellName;
 use kl1_user_events::{ShoenNo, ShoenView};
@@ -22,9 +22,9 @@ fn parent_of(number: u64) -> Option<ShoenNo>
 }
 
 /// What is shown of a shoen.
-pub(crate) fn view_of(
+fn view_of(
     shoens: &ShoenTree<CellName>,
-    goals: &GoalTable<CellName>,
+    goals: &GoalRow<CellName>,
     shoen: &Shoen<CellName>,
 ) -> ShoenView
     ensures { result ≡ shoen_shown shoens.now.shoens shoens.now.work goals.now.goals shoen.now }
@@ -44,7 +44,7 @@ pub(crate) fn view_of(
 pub(crate) fn shoens_from(
     alloc: Global,
     shoens: &ShoenTree<CellName>,
-    goals: &GoalTable<CellName>,
+    goals: &GoalRow<CellName>,
     from: u64,
     count: usize,
 ) -> Result<Vec<ShoenView>, AllocError>

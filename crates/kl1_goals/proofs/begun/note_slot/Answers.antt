@@ -1,13 +1,10 @@
 use Rattle.std.proofs.Common.{[], ◌∷◌, ◌++◌, get_or, take, set, sym, ap, ◌∙◌}
-use Rattle.std.proofs.lemmas.List.{set-get_or, take-set-le}
+use Rattle.std.proofs.lemmas.List.{set-get_or}
 use Rattle.kl1_shoen_paths.specs.declared.tracked.Was.{Was}
 use Rattle.kl1_shoen_paths.specs.Tracked.{put_back}
 use Rattle.kl1_shoen_paths.proofs.Putting.{put_more}
 use Rattle.kl1_goals.specs.declared.slot.Slot.{Slot}
 use Rattle.kl1_goals.proofs.begun.note_slot.Goals as goal
-
-pub returns-then-begun-place-clause-ok : goal.returns-then-begun-place-clause-ok
-returns-then-begun-place-clause-ok g c = λ s. ap (put_back c.args.begun.now.slots.items) (take-set-le c.args.begun.now.places c.args.slots.now.items c.args.place s c.if-begun-place.true)
 
 pub returns-clause-ok : goal.returns-clause-ok
 returns-clause-ok g c = λ s.

@@ -1,21 +1,17 @@
-use Rattle.std.proofs.Common.{◌≡◌, [], ◌∷◌, ◌++◌, ◌-◌, get_or, take, set, sym, ap, ◌∙◌}
+use Rattle.std.proofs.Common.{[], ◌∷◌, ◌++◌, ◌-◌, get_or, take, set, sym, ap, ◌∙◌}
 use Rattle.std.proofs.lemmas.List.{set-get_or}
 use Rattle.kl1_shoen_paths.specs.declared.tracked.Was.{Was}
 use Rattle.kl1_shoen_paths.specs.Tracked.{put_back}
 use Rattle.kl1_shoen_paths.proofs.Putting.{put_more}
 use Rattle.kl1_goals.specs.declared.tally.Tally.{Tally}
-use Rattle.kl1_goals.specs.Tallies.{tally_at}
-use Rattle.kl1_goals.proofs.Linking.{tallies_set}
 use Rattle.kl1_goals.proofs.begun.note_tally.Goals as goal
 
 pub returns-clause-ok : goal.returns-clause-ok
-returns-clause-ok g c = λ f vs is.
+returns-clause-ok g c = λ t.
     let ts = c.args.tallies.now.items in
     let b = c.args.begun.now in
-    let n = c.args.shoen in
-    let w : Was Tally = record { place = n - 1; value = c.index-value.result.now } in
-    let set_is : vs ≡ set ts (n - 1) (tally_at vs n) = tallies_set f ts vs n c.requires.low c.requires.high is in
-    ap (λ ws. put_back ws (take b.shoens vs)) c.in_ok-push.ensures.items ∙ ap (λ xs. put_back (b.tallies.items ++ w ∷ []) (take b.shoens xs)) set_is ∙ put_more b.tallies.items ts b.shoens w (tally_at vs n) c.index-value.ensures
+    let w : Was Tally = record { place = c.args.shoen - 1; value = c.index-value.result.now } in
+    ap (λ ws. put_back ws (take b.shoens (set ts (c.args.shoen - 1) t))) c.in_ok-push.ensures.items ∙ put_more b.tallies.items ts b.shoens w t c.index-value.ensures
 
 pub returns-clause-same : goal.returns-clause-same
 returns-clause-same g c =

@@ -1,10 +1,9 @@
-use Rattle.std.proofs.Common.{◌<◌, length, sym, arith}
+use Rattle.std.proofs.Common.{◌<◌, length, arith}
 use Rattle.std.proofs.lemmas.List.{length-map}
-use Rattle.kl1_goals.specs.Tallies.{HasChanged}
 use Rattle.kl1_goals.specs.Chains.{shoen_in}
 use Rattle.kl1_goals.proofs.Changing.{field_read}
-use Rattle.kl1_goals.proofs.Linking.{known_at, counts_counts, counts_exchanged, linked}
-use Rattle.kl1_goals.proofs.Chaining.{forget_next, forget_end}
+use Rattle.kl1_goals.proofs.Linking.{known_at}
+use Rattle.kl1_goals.proofs.Chaining.{forget_end}
 use Rattle.kl1_goals.proofs.chains.forget_last.Goals as goal
 
 pub exchange_last-requires-clause-low : goal.exchange_last-requires-clause-low
@@ -24,18 +23,3 @@ exchange_last-requires-clause-high g c =
 pub returns-clause-last : goal.returns-clause-last
 returns-clause-last g c = λ n.
     forget_end c.args.slots.now.items c.args.tallies.now.items c.loop-place.tallies.items c.loop-place.place c.requires c.loop-place.invariant.forgets (omega (arith, c.loop-place-test.false, c.len-place-end.ensures, c.args.slots.now.ok.0)) n
-
-pub loop-place-preserved : goal.loop-place-preserved
-loop-place-preserved g c =
-    let l = c.loop-place in
-    let ss = c.args.slots.now.items in
-    let ts = c.args.tallies.now.items in
-    let us = l.tallies.items in
-    let vs = c.exchange_last.new.tallies.items in
-    let x = c.index.result.now in
-    let within : l.place < length ss = omega arith in
-    let changed : HasChanged x.goal.shoen (linked 0) us vs = record { at = c.exchange_last.ensures.tallies; length = c.exchange_last.ensures.length } in
-    record {
-      forgets = forget_next ss ts us vs l.place x.goal.shoen l.invariant.forgets (sym (field_read shoen_in ss l.place x within c.index.ensures)) changed;
-      counts = counts_counts ts us vs l.invariant.counts (counts_exchanged us vs x.goal.shoen 0 changed);
-    }

@@ -32,8 +32,8 @@ returns-clause-chained g c =
     let within : k < length ss = omega (arith, size) in
     let last : length ss - 1 ≡ k = omega (arith, size) in
     let link : count ≡ k + 1 = omega (arith, c.len-count.ensures, c.args.slots.now.ok.0, c.requires.some) in
-    rw last (chained_left ss ts c.unlink.new.tallies.items k x.goal.shoen x.before c.requires.chained size (sym (field_read shoen_in ss k x within c.index-slot.ensures)) (sym (field_read before_in ss k x within c.index-slot.ensures))
-    (record { at = λ n. c.unlink.ensures.tallies n ∙ ap (λ i. cond (n == x.goal.shoen) (left i x.before (tally_at ts n)) (tally_at ts n)) link; length = c.unlink.ensures.length }))
+    rw last (chained_left ss ts c.unlink.new.tallies.items k x.goal.shoen x.before c.requires.chained size c.unlink.ensures.length (sym (field_read shoen_in ss k x within c.index-slot.ensures)) (sym (field_read before_in ss k x within c.index-slot.ensures))
+    (λ n. c.unlink.ensures.tallies n ∙ ap (λ i. cond (n == x.goal.shoen) (left i x.before (tally_at ts n)) (tally_at ts n)) link))
 
 pub returns-clause-counts : goal.returns-clause-counts
-returns-clause-counts g c = counts_left c.args.tallies.now.items c.unlink.new.tallies.items c.index-slot.result.now.goal.shoen c.len-count.result c.index-slot.result.now.before (record { at = c.unlink.ensures.tallies; length = c.unlink.ensures.length })
+returns-clause-counts g c = counts_left c.args.tallies.now.items c.unlink.new.tallies.items c.index-slot.result.now.goal.shoen c.len-count.result c.index-slot.result.now.before c.unlink.ensures.tallies c.unlink.ensures.length

@@ -1,6 +1,6 @@
 use Rattle.std.proofs.Common.{◌≡◌, map}
 use Rattle.kl1_goals.specs.Slots.{rank_in}
-use Rattle.kl1_goals.specs.Keeping.{places_then}
+use Rattle.kl1_goals.specs.Rows.{places_then}
 use Rattle.kl1_goals.proofs.Chaining.{LetFrom}
 use Rattle.kl1_goals.proofs.noting.let_each_step.Given as goal
 

@@ -1,7 +1,10 @@
-use Rattle.std.proofs.Common.{length, ap}
+use Rattle.std.proofs.Common.{length, refl, ap, ◌∙◌}
+use Rattle.std.proofs.lemmas.Bool.{ne_eqb}
 use Rattle.kl1_goals.specs.declared.tally.Tally.{Tally}
-use Rattle.kl1_goals.specs.Tallies.{HasChanged}
-use Rattle.kl1_goals.proofs.Linking.{chained_one, linked}
+use Rattle.kl1_goals.specs.Tallies.{tally_at}
+use Rattle.kl1_goals.specs.Rows.{kept_then}
+use Rattle.kl1_goals.proofs.Linking.{chained_one, last_here, last_other}
+use Rattle.kl1_goals.proofs.Rowing.{tallies_set}
 use Rattle.kl1_goals.proofs.Walking.{linked_known}
 use Rattle.kl1_goals.proofs.noting.relink.Goals as goal
 
@@ -12,13 +15,18 @@ returns-clause-chained g c =
     let us = c.exchange_last.new.tallies.items in
     let n = c.args.shoen in
     let l = c.held_link-link.result in
-    let changed : HasChanged n (linked l) ts us = record { at = c.exchange_last.ensures.tallies; length = c.exchange_last.ensures.length } in
+    let is = c.exchange_last.ensures.tallies in
     let link = c.held_link-link.ensures.link n (length ss) (rw (ap (λ (t : Tally). t.last) c.tally_of-last.ensures) (c.requires.lasts n)) in
-    chained_one ss ts us n l c.requires link changed
+    chained_one ss ts us n l c.requires c.exchange_last.ensures.length link (last_here ts us n l is) (last_other ts us n l is)
 
 pub returns-clause-was : goal.returns-clause-was
 returns-clause-was g c =
-    c.in_ok-note_tally.ensures.ok (linked c.held_link-link.result) c.exchange_last.new.tallies.items (record { at = c.exchange_last.ensures.tallies; length = c.exchange_last.ensures.length })
+    let ts = c.args.tallies.now.items in
+    let us = c.exchange_last.new.tallies.items in
+    let n = c.args.shoen in
+    let is = c.exchange_last.ensures.tallies in
+    let known = linked_known ts n c.tally_of-last.result.last c.held_link-link.result c.held_link-link.ensures.within (ap (λ (t : Tally). t.last) c.tally_of-last.ensures) c.if-link-last.false in
+    ap (kept_then c.note_tally.new.begun) (tallies_set ts us n known.0 c.exchange_last.ensures.length known.1 (λ m ne. is m ∙ rw (ne_eqb m n ne) refl)) ∙ c.in_ok-note_tally.ensures.ok (tally_at us n)
 
 pub returns-clause-link : goal.returns-clause-link
 returns-clause-link g c =

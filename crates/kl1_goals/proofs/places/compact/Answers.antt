@@ -1,10 +1,11 @@
 use Rattle.std.proofs.Common.{rules, refl, map, ◌∙◌, arith}
 use Rattle.std.proofs.lemmas.Fn.{filter_same}
 use Rattle.std.proofs.lemmas.List.Sums.{length-filter, count_by-le-length}
-use Rattle.kl1_goals.specs.Slots.{held_in, rank_in}
-use Rattle.kl1_goals.proofs.Changing.{slots_compacted, low_kept, below_kept, goals_kept}
+use Rattle.kl1_goals.specs.Slots.{held_in, rank_in, number_in}
+use Rattle.kl1_goals.specs.Chains.{unlinked_in}
+use Rattle.kl1_goals.proofs.Changing.{slots_compacted, low_kept, goals_kept, numbers_kept}
 use Rattle.kl1_goals.proofs.Linking.{known_held, counts_counts}
-use Rattle.kl1_goals.proofs.Chaining.{shapes_unlinked, low_shaped, below_shaped, slots_shaped, same_goals}
+use Rattle.kl1_goals.proofs.Chaining.{shapes_unlinked, low_shaped, slots_shaped, same_goals, same_fields}
 use Rattle.kl1_goals.proofs.places.compact.Goals as goal
 
 pub link_all-requires-clause-few : goal.link_all-requires-clause-few
@@ -42,10 +43,8 @@ returns-clause-goals g c =
     let e = filter_same _ (held_in {N = g.row.N.Denot}) _ (λ x b f' k. search rules) _ _ c.retain.ensures.filtered in
     same_goals ts c.link_all.new.slots.items c.link_all.ensures.slots ∙ rw e (goals_kept c.args.slots.now.items)
 
-pub returns-clause-below : goal.returns-clause-below
-returns-clause-below g c = λ n b.
-    let ss = c.args.slots.now.items in
+pub returns-clause-numbers : goal.returns-clause-numbers
+returns-clause-numbers g c =
     let ts = c.retain.new.self.items in
-    let us = c.link_all.new.slots.items in
     let e = filter_same _ (held_in {N = g.row.N.Denot}) _ (λ x b f' k. search rules) _ _ c.retain.ensures.filtered in
-    below_shaped n ts us (shapes_unlinked ts us c.link_all.ensures.slots) (rw e (below_kept n ss b))
+    same_fields unlinked_in number_in ts c.link_all.new.slots.items c.link_all.ensures.slots ∙ rw e (numbers_kept c.args.slots.now.items)

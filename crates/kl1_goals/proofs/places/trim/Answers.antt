@@ -1,5 +1,5 @@
 use Rattle.std.proofs.Common.{◌≡◌, ◌-◌, ◌∙◌, length, arith}
-use Rattle.kl1_goals.proofs.Changing.{goals_trimmed, slots_trimmed, empty_counted, below_taken}
+use Rattle.kl1_goals.proofs.Changing.{goals_trimmed, slots_trimmed, empty_counted}
 use Rattle.kl1_goals.proofs.Linking.{counts_counts}
 use Rattle.kl1_goals.proofs.places.trim.Goals as goal
 
@@ -16,9 +16,13 @@ loop-slots-preserved g c =
     let count : l.slots.len ≡ length l.slots.items = omega (arith, l.slots.ok.0) in
     let some = empty_counted l.slots.items l.empty l.queue.ranks l.invariant.slots end in
     record {
-      slots = rw c.pop.ensures.rest (slots_trimmed l.slots.items l.slots.len l.empty (l.empty - 1) l.queue.ranks c.drop_last.new.self.ranks l.invariant.slots count end (omega (arith, some)) c.drop_last.ensures.ranks);
+      slots = slots_trimmed l.slots.items c.pop.new.self.items l.slots.len l.empty (l.empty - 1) l.queue.ranks c.drop_last.new.self.ranks l.invariant.slots count c.pop.ensures.rest end (omega (arith, some)) c.drop_last.ensures.ranks;
       chained = rw (c.pop.ensures.rest, count) c.unlink_last.ensures.chained;
       counts = counts_counts c.args.tallies.now.items l.tallies.items c.unlink_last.new.tallies.items l.invariant.counts c.unlink_last.ensures.counts;
       goals = goals_trimmed l.slots.items c.pop.new.self.items l.slots.len count c.pop.ensures.rest end ∙ l.invariant.goals;
-      below = λ n b. below_taken n (l.slots.len - 1) l.slots.items c.pop.new.self.items c.pop.ensures.rest (l.invariant.below n b);
+      len = omega (arith, c.pop.ensures.len, l.invariant.len);
+      capacity = c.pop.ensures.capacity ∙ l.invariant.capacity;
+      room = omega (arith, c.drop_last.ensures.room, l.invariant.room);
+      tallies_len = c.unlink_last.ensures.len ∙ l.invariant.tallies_len;
+      tallies_capacity = c.unlink_last.ensures.capacity ∙ l.invariant.tallies_capacity;
     }

@@ -1,5 +1,5 @@
-use Rattle.std.proofs.Common.{◌≡◌, ℕ, length}
-use Rattle.kl1_goals.specs.Slots.{goals_in, numbers_of, AreBelow, AreSlots}
+use Rattle.std.proofs.Common.{◌≡◌, ◌≤◌, length, vec_len, vec_capacity}
+use Rattle.kl1_goals.specs.Slots.{goals_in, AreSlots}
 use Rattle.kl1_goals.specs.Chains.{AreChained, HaveSameCounts}
 use Rattle.kl1_goals.proofs.places.trim.Given as goal
 
@@ -10,7 +10,11 @@ invariant-loop-slots g l = record {
   chained : AreChained l.slots.items l.tallies.items;
   counts : HaveSameCounts l.fn.tallies.items l.tallies.items;
   goals : goals_in l.slots.items ≡ goals_in l.fn.slots.items;
-  below : (n : ℕ) → AreBelow n (numbers_of l.fn.slots.items) → AreBelow n (numbers_of l.slots.items);
+  len : vec_len l.slots ≤ vec_len l.fn.slots;
+  capacity : vec_capacity l.slots ≡ vec_capacity l.fn.slots;
+  room : l.fn.queue.room ≤ l.queue.room;
+  tallies_len : vec_len l.tallies ≡ vec_len l.fn.tallies;
+  tallies_capacity : vec_capacity l.tallies ≡ vec_capacity l.fn.tallies;
 }
 
 abbrev pub decreases-loop-slots : goal.decreases-loop-slots

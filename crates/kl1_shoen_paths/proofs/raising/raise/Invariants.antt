@@ -1,14 +1,10 @@
-use Rattle.std.proofs.Common.{◌≡◌, ℕ, suc, ◌+◌, ◌<◌, ◌≤◌, ◌||◌, if◌then◌else◌, length, get_or}
-use Rattle.std.specs.List.{list_any}
-use Rattle.kl1_shoen_paths.specs.Paths.{path_in, is_on_path_in, reaches_in}
+use Rattle.std.proofs.Common.{◌≡◌, ℕ, suc, ◌+◌, ◌≤◌, if◌then◌else◌, length, get_or}
+use Rattle.kl1_shoen_paths.specs.Paths.{is_on_path_in}
 use Rattle.kl1_shoen_paths.proofs.raising.raise.Given as goal
 
--- what is charged so far and what is left to be charged come to the whole path; so do the shoens that have reached their allowances; and
--- what is left has been charged nothing more
+-- what is charged so far and what is left to be charged come to the whole path
 abbrev pub invariant-loop-at : goal.invariant-loop-at
 invariant-loop-at g l = record {
-  reaches : (l.reaches || list_any (reaches_in l.shoens l.fn.charges.now) (path_in l.shoens l.at)) ≡ list_any (reaches_in l.shoens l.fn.charges.now) (path_in l.shoens l.number);
-  later : (k : ℕ) → k < l.at → get_or l.charges.now k 0 ≡ get_or l.fn.charges.now k 0;
   charged : (k : ℕ) → (if is_on_path_in l.shoens (suc k) l.at then 1 else 0) + get_or l.charges.now k 0 ≡ (if is_on_path_in l.shoens (suc k) l.number then 1 else 0) + get_or l.fn.charges.now k 0;
   count : length l.charges.now ≡ length l.fn.charges.now;
   changes : l.at ≤ l.charges.changes;

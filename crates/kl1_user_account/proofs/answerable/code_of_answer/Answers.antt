@@ -1,72 +1,82 @@
-use Rattle.kl1_user_account.proofs.Words.{◌≡◌, ◌&&◌, true, [], sym, ap, ap₂, ◌∙◌, refl, Option, Some, None, Term, may_answer, answer_by, State, has_substitutes, names_of, with_names, Transition, unless, Refusal, with_kept, origin_in, refusals_of, refused_or, has_room_to_answer_beside}
-use Rattle.kl1_user_account.proofs.AnswerSteps.{IsJudged, refused_wrong, refused_nowhere, refused_ended, answer_steps, answerable}
-use Rattle.kl1_user_account.proofs.StartChecks.{right_report}
-use Rattle.kl1_user_account.proofs.answerable.code_of_answer.Goals.{After-origin_at, After-refusal_of}
+use Rattle.std.proofs.Common.{◌&&◌, true, false, sym, ap, ap₂, ◌∙◌}
+use Rattle.kl1_model.specs.Answering.{may_answer}
+use Rattle.kl1_user_account.proofs.Origins.{origin_in}
+use Rattle.kl1_user_account.proofs.AnswerSteps.{right_report, refused_wrong, refused_nowhere, refused_ended, refused_crowd, refused_limit, refused_full, refused_answered, answerable, few_code, room_code}
 use Rattle.kl1_user_account.proofs.answerable.code_of_answer.Goals as goal
 
 pub returns-then-not-has_substitutes : goal.returns-then-not-has_substitutes
 returns-then-not-has_substitutes c =
-    let m = c.args.machine.now in
-    refused_wrong m.rules m.store.held m.shoens.shoens m.names.names c.args.counted c.args.number c.args.report c.args.goal.now
-    (ap (λ b. b && may_answer c.args.number c.args.report c.args.goal.now) (sym c.has_substitutes.ensures ∙ c.if-not-has_substitutes.true))
+    let h = c.args.store.now.held in
+    let ss = c.args.shoens.now.shoens in
+    let names = c.args.names.now.names in
+    refused_wrong c.args.rules h ss names c.args.counted c.args.number c.args.report c.args.goal.now (ap (λ b. b && may_answer c.args.number c.args.report c.args.goal.now) (sym c.has_substitutes.ensures ∙ c.if-not-has_substitutes.true))
 
 pub returns-then-not-branch : goal.returns-then-not-branch
 returns-then-not-branch c =
-    let m = c.args.machine.now in
-    refused_wrong m.rules m.store.held m.shoens.shoens m.names.names c.args.counted c.args.number c.args.report c.args.goal.now
-    (ap₂ (λ x y. x && y) (sym c.has_substitutes.ensures ∙ c.if-not-has_substitutes.false) (sym c.in_ok-may_answer.ensures ∙ c.if-not-branch.true))
-
--- an answer that is right
-right : (c : goal.After-origin_at) → (has_substitutes c.args.machine.now.rules && may_answer c.args.number c.args.report c.args.goal.now) ≡ true
-right c = ap₂ (λ x y. x && y) (sym c.has_substitutes.ensures ∙ c.if-not-has_substitutes.false) (sym c.in_ok-may_answer.ensures ∙ c.if-not-branch.false)
+    let h = c.args.store.now.held in
+    let ss = c.args.shoens.now.shoens in
+    let names = c.args.names.now.names in
+    refused_wrong c.args.rules h ss names c.args.counted c.args.number c.args.report c.args.goal.now (ap₂ (λ x y. x && y) (sym c.has_substitutes.ensures ∙ c.if-not-has_substitutes.false) (sym c.in_ok-may_answer.ensures ∙ c.if-not-branch.true))
 
 pub returns-in_default : goal.returns-in_default
 returns-in_default c =
-    let m = c.args.machine.now in
-    refused_nowhere m.rules m.store.held m.shoens.shoens m.names.names c.args.counted c.args.number c.args.report c.args.goal.now (right (goal.at.returns-in_default c).After-origin_at) (sym c.origin_at.ensures ∙ c.in_default.is)
+    let h = c.args.store.now.held in
+    let ss = c.args.shoens.now.shoens in
+    let names = c.args.names.now.names in
+    refused_nowhere c.args.rules h ss names c.args.counted c.args.number c.args.report c.args.goal.now (ap₂ (λ x y. x && y) (sym c.has_substitutes.ensures ∙ c.if-not-has_substitutes.false) (sym c.in_ok-may_answer.ensures ∙ c.if-not-branch.false)) (sym c.origin_at.ensures ∙ c.in_default.is)
 
 pub returns-then-not-lives : goal.returns-then-not-lives
 returns-then-not-lives c =
-    let m = c.args.machine.now in
-    refused_ended m.rules m.store.held m.shoens.shoens m.names.names c.args.counted c.args.number c.args.report c.args.goal.now c.in-Some.origin (right (goal.at.returns-then-not-lives c).After-origin_at) (sym c.origin_at.ensures ∙ c.in-Some.is) (sym c.lives.ensures ∙ c.if-not-lives.true)
+    let h = c.args.store.now.held in
+    let ss = c.args.shoens.now.shoens in
+    let names = c.args.names.now.names in
+    refused_ended c.args.rules h ss names c.args.counted c.args.number c.args.report c.args.goal.now c.in-Some.origin (ap₂ (λ x y. x && y) (sym c.has_substitutes.ensures ∙ c.if-not-has_substitutes.false) (sym c.in_ok-may_answer.ensures ∙ c.if-not-branch.false)) (sym c.origin_at.ensures ∙ c.in-Some.is) (sym c.lives.ensures ∙ c.if-not-lives.true)
 
-judged : (c : goal.After-refusal_of) (o : Option Refusal) → ((s : State) (after : Transition) → unless s (refusals_of c.args.counted c.args.machine.now.names.names c.names.result.now c.has_room_to_answer-has_room.result) after ≡ refused_or s after o) →
-    IsJudged c.args.machine.now.rules c.args.machine.now.shoens.shoens c.args.machine.now.names.names c.args.counted c.args.number c.args.report c.args.goal.now c.in-Some.origin c.names.result.now c.has_room_to_answer-has_room.result o
-judged c o refuses = record {
-  right = ap₂ (λ x y. x && y) (sym c.has_substitutes.ensures ∙ c.if-not-has_substitutes.false) (sym c.in_ok-may_answer.ensures ∙ c.if-not-branch.false);
-  kept = sym c.origin_at.ensures ∙ c.in-Some.is;
-  lives = sym c.lives.ensures ∙ c.if-not-lives.false;
-  texts_are = c.names.ensures.value ∙ ap (λ (t : Term). with_names [] (names_of t)) c.in_ok-code.ensures;
-  has = c.has_room_to_answer-has_room.ensures ∙ ap₂ (has_room_to_answer_beside c.args.counted) c.highest.ensures c.structures_of.ensures;
-  refuses = refuses;
-}
+pub returns-then-are_too_many : goal.returns-then-are_too_many
+returns-then-are_too_many c =
+    let h = c.args.store.now.held in
+    let ss = c.args.shoens.now.shoens in
+    let names = c.args.names.now.names in
+    refused_crowd c.args.rules h ss names c.args.counted c.args.number c.args.report c.args.goal.now c.in-Some.origin (ap₂ (λ x y. x && y) (sym c.has_substitutes.ensures ∙ c.if-not-has_substitutes.false) (sym c.in_ok-may_answer.ensures ∙ c.if-not-branch.false)) (sym c.origin_at.ensures ∙ c.in-Some.is) (sym c.lives.ensures ∙ c.if-not-lives.false) (few_code names c.args.goal.now c.in_ok-code.code c.names.result.now true c.names.ensures.value c.in_ok-code.ensures (sym c.are_too_many.ensures ∙ c.if-are_too_many.true))
 
-pub returns-in-Some-refusal_of : goal.returns-in-Some-refusal_of
-returns-in-Some-refusal_of c = λ f reads s goals same at.
-    let m = c.args.machine.now in
-    let refusal = c.in-Some-refusal_of.refusal in
-    answer_steps m.rules m.store.held m.shoens.shoens m.names.names c.args.counted c.args.number c.args.report c.args.goal.now c.in-Some.origin c.names.result.now c.has_room_to_answer-has_room.result (Some refusal)
-    (judged (goal.at.returns-in-Some-refusal_of c).After-refusal_of (Some refusal) c.in-Some-refusal_of.ensures.refuses) f s goals same at
+pub returns-then-not-has_room_to_answer : goal.returns-then-not-has_room_to_answer
+returns-then-not-has_room_to_answer c =
+    let h = c.args.store.now.held in
+    let ss = c.args.shoens.now.shoens in
+    let names = c.args.names.now.names in
+    refused_limit c.args.rules h ss names c.args.counted c.args.number c.args.report c.args.goal.now c.in-Some.origin (ap₂ (λ x y. x && y) (sym c.has_substitutes.ensures ∙ c.if-not-has_substitutes.false) (sym c.in_ok-may_answer.ensures ∙ c.if-not-branch.false)) (sym c.origin_at.ensures ∙ c.in-Some.is) (sym c.lives.ensures ∙ c.if-not-lives.false) (few_code names c.args.goal.now c.in_ok-code.code c.names.result.now false c.names.ensures.value c.in_ok-code.ensures (sym c.are_too_many.ensures ∙ c.if-are_too_many.false)) (room_code c.args.counted c.args.goal.now c.highest.result c.structures_of.result false c.highest.ensures c.structures_of.ensures (sym c.has_room_to_answer.ensures ∙ c.if-not-has_room_to_answer.true))
+
+pub returns-then-is_full : goal.returns-then-is_full
+returns-then-is_full c =
+    let h = c.args.store.now.held in
+    let ss = c.args.shoens.now.shoens in
+    let names = c.args.names.now.names in
+    refused_full c.args.rules h ss names c.args.counted c.args.number c.args.report c.args.goal.now c.in-Some.origin (ap₂ (λ x y. x && y) (sym c.has_substitutes.ensures ∙ c.if-not-has_substitutes.false) (sym c.in_ok-may_answer.ensures ∙ c.if-not-branch.false)) (sym c.origin_at.ensures ∙ c.in-Some.is) (sym c.lives.ensures ∙ c.if-not-lives.false) (few_code names c.args.goal.now c.in_ok-code.code c.names.result.now false c.names.ensures.value c.in_ok-code.ensures (sym c.are_too_many.ensures ∙ c.if-are_too_many.false)) (room_code c.args.counted c.args.goal.now c.highest.result c.structures_of.result true c.highest.ensures c.structures_of.ensures (sym c.has_room_to_answer.ensures ∙ c.if-not-has_room_to_answer.false)) (sym c.is_full.ensures ∙ c.if-is_full.true)
 
 pub unanswered_at-requires-clause-reports : goal.unanswered_at-requires-clause-reports
 unanswered_at-requires-clause-reports c =
-    let m = c.args.machine.now in
-    (origin_in m.store.held c.args.number m.shoens.shoens c.in-Some.origin c.requires.shoens (sym c.origin_at.ensures ∙ c.in-Some.is)).reports
+    let h = c.args.store.now.held in
+    let ss = c.args.shoens.now.shoens in
+    let names = c.args.names.now.names in
+    (origin_in h c.args.number ss c.in-Some.origin c.requires.shoens (sym c.origin_at.ensures ∙ c.in-Some.is)).reports
 
 pub unanswered_at-requires-clause-report : goal.unanswered_at-requires-clause-report
-unanswered_at-requires-clause-report c = right_report c.args.number c.args.report c.args.goal.now (sym c.in_ok-may_answer.ensures ∙ c.if-not-branch.false)
+unanswered_at-requires-clause-report c =
+    let h = c.args.store.now.held in
+    let ss = c.args.shoens.now.shoens in
+    let names = c.args.names.now.names in
+    right_report c.args.number c.args.report c.args.goal.now (sym c.in_ok-may_answer.ensures ∙ c.if-not-branch.false)
 
 pub returns-in-None : goal.returns-in-None
-returns-in-None c = λ f reads s goals same at.
-    let m = c.args.machine.now in
-    let S = with_kept f s m.store.held goals m.shoens.shoens in
-    answer_steps m.rules m.store.held m.shoens.shoens m.names.names c.args.counted c.args.number c.args.report c.args.goal.now c.in-Some.origin c.names.result.now c.has_room_to_answer-has_room.result None
-    (judged (goal.at.returns-in-None c).After-refusal_of None (rw c.in_default-refusal_of.is at c.refusal_of.ensures.refuses)) f s goals same at
-    ∙ ap (answer_by S c.args.goal.now) (c.unanswered_at.ensures.variable f reads ∙ c.in-None.is)
+returns-in-None c =
+    let h = c.args.store.now.held in
+    let ss = c.args.shoens.now.shoens in
+    let names = c.args.names.now.names in
+    refused_answered c.args.rules h ss names c.args.counted c.args.number c.args.report c.args.goal.now c.in-Some.origin (ap₂ (λ x y. x && y) (sym c.has_substitutes.ensures ∙ c.if-not-has_substitutes.false) (sym c.in_ok-may_answer.ensures ∙ c.if-not-branch.false)) (sym c.origin_at.ensures ∙ c.in-Some.is) (sym c.lives.ensures ∙ c.if-not-lives.false) (few_code names c.args.goal.now c.in_ok-code.code c.names.result.now false c.names.ensures.value c.in_ok-code.ensures (sym c.are_too_many.ensures ∙ c.if-are_too_many.false)) (room_code c.args.counted c.args.goal.now c.highest.result c.structures_of.result true c.highest.ensures c.structures_of.ensures (sym c.has_room_to_answer.ensures ∙ c.if-not-has_room_to_answer.false)) (sym c.is_full.ensures ∙ c.if-is_full.false) (λ f reads. c.unanswered_at.ensures.variable f reads ∙ c.in-None.is)
 
 pub returns-in-Some-unanswered_at : goal.returns-in-Some-unanswered_at
 returns-in-Some-unanswered_at c =
-    let m = c.args.machine.now in
-    answerable m.rules m.store.held m.shoens.shoens m.names.names c.args.counted c.args.number c.args.report c.args.goal.now c.in-Some.origin c.in_ok-code.code c.in-Some-unanswered_at.variable c.names.result.now c.has_room_to_answer-has_room.result
-    (judged (goal.at.returns-in-Some-unanswered_at c).After-refusal_of None (rw c.in_default-refusal_of.is at c.refusal_of.ensures.refuses)) (c.refusal_of.ensures.free c.in_default-refusal_of.is) c.in_ok-code.ensures
-    (rw c.in-Some-unanswered_at.is at c.unanswered_at.ensures.unbound) (λ f reads. c.unanswered_at.ensures.variable f reads ∙ c.in-Some-unanswered_at.is)
+    let h = c.args.store.now.held in
+    let ss = c.args.shoens.now.shoens in
+    let names = c.args.names.now.names in
+    answerable c.args.rules h ss names c.args.counted c.args.number c.args.report c.args.goal.now c.in-Some.origin c.in_ok-code.code c.in-Some-unanswered_at.variable (ap₂ (λ x y. x && y) (sym c.has_substitutes.ensures ∙ c.if-not-has_substitutes.false) (sym c.in_ok-may_answer.ensures ∙ c.if-not-branch.false)) (sym c.origin_at.ensures ∙ c.in-Some.is) (sym c.lives.ensures ∙ c.if-not-lives.false) (few_code names c.args.goal.now c.in_ok-code.code c.names.result.now false c.names.ensures.value c.in_ok-code.ensures (sym c.are_too_many.ensures ∙ c.if-are_too_many.false)) (room_code c.args.counted c.args.goal.now c.highest.result c.structures_of.result true c.highest.ensures c.structures_of.ensures (sym c.has_room_to_answer.ensures ∙ c.if-not-has_room_to_answer.false)) (sym c.is_full.ensures ∙ c.if-is_full.false) c.in_ok-code.ensures (rw c.in-Some-unanswered_at.is at c.unanswered_at.ensures.unbound) (λ f reads. c.unanswered_at.ensures.variable f reads ∙ c.in-Some-unanswered_at.is)

@@ -1,4 +1,6 @@
-use Rattle.kl1_user_account.proofs.Words.{◌≡◌, ◌+◌, get_or, drop, count_by, arith, at_drop_more, at_drop_all, is_goal_of}
+use Rattle.std.proofs.Common.{◌≡◌, ◌+◌, get_or, drop, count_by, arith}
+use Rattle.std.proofs.lemmas.List.{at_drop_more, at_drop_all}
+use Rattle.kl1_goals.specs.Lists.{is_goal_of}
 use Rattle.kl1_user_account.proofs.Statuses.{alive_each, alive_all, alive_few}
 use Rattle.kl1_user_account.proofs.asking.alive_in.Goals as goal
 

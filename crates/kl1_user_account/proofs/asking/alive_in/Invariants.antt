@@ -1,4 +1,4 @@
-use Rattle.kl1_user_account.proofs.Words.{◌≡◌, ◌+◌, drop}
+use Rattle.std.proofs.Common.{◌≡◌, ◌+◌, drop}
 use Rattle.kl1_user_account.proofs.Statuses.{alive_each}
 use Rattle.kl1_user_account.proofs.asking.alive_in.Given as goal
 

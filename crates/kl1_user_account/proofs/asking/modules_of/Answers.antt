@@ -1,4 +1,4 @@
-use Rattle.kl1_user_account.proofs.Words.{◌≡◌, ℕ, suc, ◌+◌, List, [], ◌∷◌, ◌++◌, take, sym, ap, ◌∙◌, arith}
+use Rattle.std.proofs.Common.{◌≡◌, ℕ, suc, ◌+◌, List, [], ◌∷◌, ◌++◌, take, sym, ap, ◌∙◌, arith}
 use Rattle.kl1_user_account.proofs.Statuses.{lines_of, lines_more}
 use Rattle.kl1_user_account.proofs.asking.modules_of.Goals as goal
 

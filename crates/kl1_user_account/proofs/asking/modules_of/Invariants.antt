@@ -1,4 +1,4 @@
-use Rattle.kl1_user_account.proofs.Words.{◌≡◌, take}
+use Rattle.std.proofs.Common.{◌≡◌, take}
 use Rattle.kl1_user_account.proofs.Statuses.{lines_of}
 use Rattle.kl1_user_account.proofs.asking.modules_of.Given as goal
 

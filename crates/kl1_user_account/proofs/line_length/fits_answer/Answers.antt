@@ -1,4 +1,7 @@
-use Rattle.kl1_user_account.proofs.Words.{length, sym, arith, le-leb, answer_line, MOST_LINE_BYTES}
+use Rattle.std.proofs.Common.{length, sym, arith}
+use Rattle.std.proofs.lemmas.Bool.{le-leb}
+use Rattle.kl1_model.specs.Answering.{answer_line}
+use Rattle.kl1_model.specs.declared.limits.TheConstants.{MOST_LINE_BYTES}
 use Rattle.kl1_user_account.proofs.PrintLengths.{answer_short}
 use Rattle.kl1_user_account.proofs.line_length.fits_answer.Goals as goal
 

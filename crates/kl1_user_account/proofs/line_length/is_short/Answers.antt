@@ -1,4 +1,5 @@
-use Rattle.kl1_user_account.proofs.Words.{◌<◌, ◌^◌, arith, leb-true}
+use Rattle.std.proofs.Common.{◌<◌, ◌^◌, arith}
+use Rattle.std.proofs.lemmas.Bool.{leb-true}
 use Rattle.kl1_user_account.proofs.PrintLengths.{short_print}
 use Rattle.kl1_user_account.proofs.line_length.is_short.Goals as goal
 

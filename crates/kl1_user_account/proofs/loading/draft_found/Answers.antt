@@ -1,4 +1,6 @@
-use Rattle.kl1_user_account.proofs.Words.{◌∙◌, sym, ap, good, Numbered}
+use Rattle.std.proofs.Common.{◌∙◌, sym, ap}
+use Rattle.kl1_model.specs.Module.{good}
+use Rattle.kl1_codes.specs.Numbered.{Numbered}
 use Rattle.kl1_user_account.proofs.Loads.{load_good, same_parts, drafted_is}
 use Rattle.kl1_user_account.proofs.loading.draft_found.Goals as goal
 

@@ -1,4 +1,5 @@
-use Rattle.kl1_user_account.proofs.Words.{◌∙◌, sym, Numbered}
+use Rattle.std.proofs.Common.{◌∙◌, sym}
+use Rattle.kl1_codes.specs.Numbered.{Numbered}
 use Rattle.kl1_user_account.proofs.Loads.{load_good, same_parts, drafted_is}
 use Rattle.kl1_user_account.proofs.loading.draft_new.Goals as goal
 

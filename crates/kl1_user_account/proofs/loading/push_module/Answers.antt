@@ -1,4 +1,6 @@
-use Rattle.kl1_user_account.proofs.Words.{ap, ◌∙◌, Numbered, number_of, is_numbered}
+use Rattle.std.proofs.Common.{ap, ◌∙◌}
+use Rattle.kl1_codes.specs.Numbered.{Numbered, number_of}
+use Rattle.kl1_codes.specs.Finding.{is_numbered}
 use Rattle.kl1_user_account.proofs.loading.push_module.Goals as goal
 
 pub push-requires-clause-new : goal.push-requires-clause-new

@@ -1,42 +1,54 @@
-use Rattle.kl1_user_account.proofs.Words.{◌≡◌, true, false, length, refl, sym, ap, ◌∙◌, arith, is_some, lt-ltb, le-ltb, MOST_NAMES, MOST_MODULES, module_of, with_texts, own_names, contents, is_numbered, texts_of}
-use Rattle.std.specs.Prelude.{nat_lt}
-use Rattle.kl1_user_account.proofs.Loads.{tells_name, load_by, draft_loads}
-use Rattle.kl1_user_account.proofs.loading.refusal_of.Goals.{After-has, After-are_too_many}
+use Rattle.std.proofs.Common.{◌∙◌, refl, arith}
+use Rattle.kl1_codes.specs.Numbered.{Numbered}
+use Rattle.kl1_user_account.proofs.Loads.{tells_name, is_free, crowds_is, draft_exists, draft_crowds, draft_limit, draft_full, draft_loads}
 use Rattle.kl1_user_account.proofs.loading.refusal_of.Goals as goal
 
--- whether a module of its name is there
-there : (g : _) (c : goal.After-has g) → is_some (module_of (contents c.args.modules.now.loaded) c.args.code.now.name) ≡ c.has.result
-there g c =
-    tells_name c.args.modules.now.loaded c.args.names.now.names (record { content = c.args.code.now; row = c.args.row.now; place = (0, 0) }) c.number_by.result c.has.result c.requires.reads c.requires.rows c.number_by.ensures c.has.ensures.tells
-
--- whether its names are too many
-many : (g : _) (c : goal.After-are_too_many g) → nat_lt MOST_NAMES (length (with_texts (texts_of c.args.names.now.names) (own_names c.args.code.now))) ≡ c.are_too_many.result
-many g c = ap (λ ts. nat_lt MOST_NAMES (length (with_texts (texts_of c.args.names.now.names) ts))) (sym c.names.ensures.value) ∙ sym c.are_too_many.ensures
-
 pub returns-then-has : goal.returns-then-has
-returns-then-has g c = λ place.
-    load_by c.args.modules.now.loaded c.args.names.now.names c.args.is_full c.args.code.now true _ _ _ (there g (goal.at.returns-then-has g c).After-has ∙ c.if-has.true) refl refl refl
+returns-then-has g c =
+    let ms = c.args.modules.now.loaded in
+    let names = c.args.names.now.names in
+    λ place.
+    let d : Numbered = record { content = c.args.code.now; row = c.args.row.now; place = place } in
+    let there = tells_name ms names d c.number_by.result c.has.result c.requires.reads c.requires.rows c.number_by.ensures c.has.ensures.tells in
+    draft_exists ms names c.args.is_full d (there ∙ c.if-has.true)
 
 pub returns-then-are_too_many : goal.returns-then-are_too_many
-returns-then-are_too_many g c = λ place.
-    let at = goal.at.returns-then-are_too_many g c in
-    load_by c.args.modules.now.loaded c.args.names.now.names c.args.is_full c.args.code.now false true _ _ (there g at.After-has ∙ c.if-has.false) (many g at.After-are_too_many ∙ c.if-are_too_many.true) refl refl
+returns-then-are_too_many g c =
+    let ms = c.args.modules.now.loaded in
+    let names = c.args.names.now.names in
+    λ place.
+    let d : Numbered = record { content = c.args.code.now; row = c.args.row.now; place = place } in
+    let there = tells_name ms names d c.number_by.result c.has.result c.requires.reads c.requires.rows c.number_by.ensures c.has.ensures.tells in
+    let many = crowds_is names d c.args.code.now c.names.result.now c.are_too_many.result c.are_too_many.ensures c.names.ensures.value refl in
+    draft_crowds ms names c.args.is_full d (there ∙ c.if-has.false) (many ∙ c.if-are_too_many.true)
 
 pub returns-then-len-ge-MOST_MODULES : goal.returns-then-len-ge-MOST_MODULES
-returns-then-len-ge-MOST_MODULES g c = λ place.
-    let at = goal.at.returns-then-len-ge-MOST_MODULES g c in
+returns-then-len-ge-MOST_MODULES g c =
     let ms = c.args.modules.now.loaded in
-    load_by ms c.args.names.now.names c.args.is_full c.args.code.now false false false _ (there g at.After-has ∙ c.if-has.false) (many g at.After-are_too_many ∙ c.if-are_too_many.false) (le-ltb (length ms) MOST_MODULES (omega arith)) refl
+    let names = c.args.names.now.names in
+    λ place.
+    let d : Numbered = record { content = c.args.code.now; row = c.args.row.now; place = place } in
+    let there = tells_name ms names d c.number_by.result c.has.result c.requires.reads c.requires.rows c.number_by.ensures c.has.ensures.tells in
+    let many = crowds_is names d c.args.code.now c.names.result.now c.are_too_many.result c.are_too_many.ensures c.names.ensures.value refl in
+    draft_limit ms names c.args.is_full d (there ∙ c.if-has.false) (many ∙ c.if-are_too_many.false) (omega arith)
 
 pub returns-then-is_full : goal.returns-then-is_full
-returns-then-is_full g c = λ place.
-    let at = goal.at.returns-then-is_full g c in
+returns-then-is_full g c =
     let ms = c.args.modules.now.loaded in
-    load_by ms c.args.names.now.names c.args.is_full c.args.code.now false false true true (there g at.After-has ∙ c.if-has.false) (many g at.After-are_too_many ∙ c.if-are_too_many.false) (lt-ltb (length ms) MOST_MODULES (omega arith)) c.if-is_full.true
+    let names = c.args.names.now.names in
+    λ place.
+    let d : Numbered = record { content = c.args.code.now; row = c.args.row.now; place = place } in
+    let there = tells_name ms names d c.number_by.result c.has.result c.requires.reads c.requires.rows c.number_by.ensures c.has.ensures.tells in
+    let many = crowds_is names d c.args.code.now c.names.result.now c.are_too_many.result c.are_too_many.ensures c.names.ensures.value refl in
+    draft_full ms names c.args.is_full d (there ∙ c.if-has.false) (many ∙ c.if-are_too_many.false) (omega arith) c.if-is_full.true
 
 pub returns : goal.returns
-returns g c = λ place.
-    let at = goal.at.returns g c in
+returns g c =
     let ms = c.args.modules.now.loaded in
-    draft_loads ms c.args.names.now.names c.args.is_full (record { content = c.args.code.now; row = c.args.row.now; place = place }) c.requires.reads (ap (is_numbered ms) (sym c.number_by.ensures) ∙ sym c.has.ensures.value ∙ c.if-has.false)
-    (there g at.After-has ∙ c.if-has.false) (many g at.After-are_too_many ∙ c.if-are_too_many.false) (omega arith) c.if-is_full.false
+    let names = c.args.names.now.names in
+    λ place.
+    let d : Numbered = record { content = c.args.code.now; row = c.args.row.now; place = place } in
+    let there = tells_name ms names d c.number_by.result c.has.result c.requires.reads c.requires.rows c.number_by.ensures c.has.ensures.tells in
+    let free = is_free ms d c.number_by.result c.has.result c.has.ensures.value c.number_by.ensures in
+    let many = crowds_is names d c.args.code.now c.names.result.now c.are_too_many.result c.are_too_many.ensures c.names.ensures.value refl in
+    draft_loads ms names c.args.is_full d c.requires.reads (free ∙ c.if-has.false) (there ∙ c.if-has.false) (many ∙ c.if-are_too_many.false) (omega arith) c.if-is_full.false

@@ -1,4 +1,4 @@
-use Rattle.kl1_user_account.proofs.Words.{◌∙◌}
+use Rattle.std.proofs.Common.{◌∙◌}
 use Rattle.kl1_user_account.proofs.Prints.{named_cell}
 use Rattle.kl1_user_account.proofs.printing.is_list_cell.Goals as goal
 

@@ -1,5 +1,7 @@
-use Rattle.kl1_user_account.proofs.Words.{◌≡◌, unread, stacked_terms, weight}
+use Rattle.std.proofs.Common.{◌≡◌}
+use Rattle.kl1_store.specs.Meaning.{unread}
 use Rattle.kl1_user_effects.specs.Naming.{Keeps}
+use Rattle.kl1_user_account.specs.Tops.{stacked_terms, weight}
 use Rattle.kl1_user_account.proofs.Prints.{IsPrinting}
 use Rattle.kl1_user_account.proofs.printing.print_rest.Given as goal
 

@@ -1,4 +1,5 @@
-use Rattle.kl1_user_account.proofs.Words.{◌≡◌, ◌≤◌, ◌++◌, length, reverse, drop, arguments_of}
+use Rattle.std.proofs.Common.{◌≡◌, ◌≤◌, ◌++◌, length, reverse, drop}
+use Rattle.kl1_store.specs.Held.{arguments_of}
 use Rattle.kl1_user_account.proofs.printing.put_arguments.Given as goal
 
 -- the arguments after those that are left are put

@@ -1,4 +1,6 @@
-use Rattle.kl1_user_account.proofs.Words.{◌∙◌, ap, on_ok_weaker, node_with}
+use Rattle.std.proofs.Common.{◌∙◌, ap}
+use Rattle.std.proofs.lemmas.Result.{on_ok_weaker}
+use Rattle.kl1_user_account.specs.Tops.{node_with}
 use Rattle.kl1_user_account.proofs.Prints.{cell_printed}
 use Rattle.kl1_user_account.proofs.Stacks.{same_atom_node, same_structure_node}
 use Rattle.kl1_user_account.proofs.printing.put_top.Goals as goal

@@ -1,4 +1,5 @@
-use Rattle.kl1_user_account.proofs.Words.{arith, is_known, is_small, read_as}
+use Rattle.std.proofs.Common.{arith}
+use Rattle.kl1_user_effects.proofs.CellReadings.{is_known, is_small, read_as}
 use Rattle.kl1_user_account.proofs.printing.text_of.Goals as goal
 
 pub overflow_cast-number : goal.overflow_cast-number

@@ -1,23 +1,22 @@
-use Rattle.kl1_user_account.proofs.Words.{◌≡◌, [], sym, ap, ap₂, ◌∙◌, refl, Option, Some, None, Term, goal_nodes, State, names_of, with_names, Transition, unless, Refusal, has_room_beside, refusals_of, refused_or}
-use Rattle.kl1_user_account.proofs.StartSteps.{IsJudged, start_steps, startable}
-use Rattle.kl1_user_account.proofs.startable.code_of.Goals.{After-refusal_of}
+use Rattle.std.proofs.Common.{true, false, sym, ◌∙◌}
+use Rattle.kl1_user_account.proofs.StartSteps.{refused_crowd, refused_limit, refused_full, startable, room_for}
 use Rattle.kl1_user_account.proofs.startable.code_of.Goals as goal
 
-judged : (c : goal.After-refusal_of) (o : Option Refusal) → ((s : State) (after : Transition) → unless s (refusals_of c.args.counted c.args.names.now.names c.names.result.now c.has_room_to_start-has_room.result) after ≡ refused_or s after o) →
-    IsJudged c.args.names.now.names c.args.counted c.args.allowance c.args.low c.args.high c.args.goal.now c.names.result.now c.has_room_to_start-has_room.result o
-judged c o refuses = record {
-  may = sym c.in_ok-may_start.ensures ∙ c.if-not-branch.false;
-  texts_are = c.names.ensures.value ∙ ap (λ (t : Term). with_names [] (names_of t)) c.in_ok-code.ensures;
-  has = c.has_room_to_start-has_room.ensures ∙ ap₂ (has_room_beside c.args.counted) c.highest.ensures (c.nodes.ensures ∙ ap goal_nodes c.in_ok-code.ensures);
-  refuses = refuses;
-}
+pub returns-then-are_too_many : goal.returns-then-are_too_many
+returns-then-are_too_many c =
+    refused_crowd c.args.names.now.names c.args.counted c.args.allowance c.args.low c.args.high c.args.goal.now c.in_ok-code.code c.names.result.now (sym c.in_ok-may_start.ensures ∙ c.if-not-branch.false) c.in_ok-code.ensures c.names.ensures.value (sym c.are_too_many.ensures ∙ c.if-are_too_many.true)
 
-pub returns-in-Some : goal.returns-in-Some
-returns-in-Some c =
-    start_steps c.args.names.now.names c.args.counted c.args.allowance c.args.low c.args.high c.args.goal.now c.names.result.now c.has_room_to_start-has_room.result (Some c.in-Some.refusal)
-    (judged (goal.at.returns-in-Some c).After-refusal_of (Some c.in-Some.refusal) c.in-Some.ensures.refuses)
+pub returns-then-not-has_room_to_start : goal.returns-then-not-has_room_to_start
+returns-then-not-has_room_to_start c =
+    refused_limit c.args.names.now.names c.args.counted c.args.allowance c.args.low c.args.high c.args.goal.now c.in_ok-code.code c.names.result.now (sym c.in_ok-may_start.ensures ∙ c.if-not-branch.false) c.in_ok-code.ensures c.names.ensures.value (sym c.are_too_many.ensures ∙ c.if-are_too_many.false)
+    (room_for c.args.counted c.highest.result c.nodes.result c.args.goal.now c.in_ok-code.code false c.in_ok-code.ensures c.highest.ensures c.nodes.ensures (sym c.has_room_to_start.ensures ∙ c.if-not-has_room_to_start.true))
 
-pub returns-in-None : goal.returns-in-None
-returns-in-None c =
-    startable c.args.names.now.names c.args.counted c.args.allowance c.args.low c.args.high c.args.goal.now c.in_ok-code.code c.names.result.now c.has_room_to_start-has_room.result
-    (judged (goal.at.returns-in-None c).After-refusal_of None c.in-None.ensures.refuses) (c.in-None.ensures.free refl) c.in_ok-code.ensures
+pub returns-then-is_full : goal.returns-then-is_full
+returns-then-is_full c =
+    refused_full c.args.names.now.names c.args.counted c.args.allowance c.args.low c.args.high c.args.goal.now c.in_ok-code.code c.names.result.now (sym c.in_ok-may_start.ensures ∙ c.if-not-branch.false) c.in_ok-code.ensures c.names.ensures.value (sym c.are_too_many.ensures ∙ c.if-are_too_many.false)
+    (room_for c.args.counted c.highest.result c.nodes.result c.args.goal.now c.in_ok-code.code true c.in_ok-code.ensures c.highest.ensures c.nodes.ensures (sym c.has_room_to_start.ensures ∙ c.if-not-has_room_to_start.false)) (sym c.is_full.ensures ∙ c.if-is_full.true)
+
+pub returns : goal.returns
+returns c =
+    startable c.args.names.now.names c.args.counted c.args.allowance c.args.low c.args.high c.args.goal.now c.in_ok-code.code c.names.result.now (sym c.in_ok-may_start.ensures ∙ c.if-not-branch.false) c.in_ok-code.ensures c.names.ensures.value (sym c.are_too_many.ensures ∙ c.if-are_too_many.false)
+    (room_for c.args.counted c.highest.result c.nodes.result c.args.goal.now c.in_ok-code.code true c.in_ok-code.ensures c.highest.ensures c.nodes.ensures (sym c.has_room_to_start.ensures ∙ c.if-not-has_room_to_start.false)) (sym c.is_full.ensures ∙ c.if-is_full.false)

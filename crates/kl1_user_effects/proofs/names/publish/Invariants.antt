@@ -1,4 +1,5 @@
-use Rattle.kl1_user_effects.proofs.Words.{◌≡◌, ◌+◌, ◌≤◌, length, vec_capacity, Keeps}
+use Rattle.std.proofs.Common.{◌≡◌, ◌+◌, ◌≤◌, length, vec_capacity}
+use Rattle.kl1_user_effects.specs.Naming.{Keeps}
 use Rattle.kl1_user_effects.proofs.Publishing.{Published}
 use Rattle.kl1_user_effects.proofs.names.publish.Given as goal
 

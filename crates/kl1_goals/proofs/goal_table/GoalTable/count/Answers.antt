@@ -8,4 +8,4 @@ use Rattle.kl1_goals.proofs.goal_table.GoalTable.count.Goals as goal
 pub returns : goal.returns
 returns g c =
     let s = c.self.inside in
-    rw (← c.self.view_is) (ap (λ (t : Tally). t.goals) c.tally_of.ensures ∙ (c.self.invariant.now.tallied c.args.shoen).goals ∙ length-filter (is_goal_of {N = g.row.N.Denot} c.args.shoen) (goals_in s.slots.items))
+    rw (← c.self.view_is) (ap (λ (t : Tally). t.goals) c.tally_of.ensures ∙ (c.self.invariant.tallied c.args.shoen).goals ∙ length-filter (is_goal_of {N = g.row.N.Denot} c.args.shoen) (goals_in s.slots.items))

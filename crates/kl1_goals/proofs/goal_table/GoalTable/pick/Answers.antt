@@ -12,14 +12,14 @@ pub returns-in-None : goal.returns-in-None
 returns-in-None g c =
     let ss = c.self.inside.slots.items in
     let A : List ℕ → Type 0 = λ rs. AreNone rs in
-    rw (← c.self.view_is) (sym (ap (option_map chosen) (none_first None ss (subst A c.self.invariant.now.slots.ranked c.in-None.ensures))))
+    rw (← c.self.view_is) (sym (ap (option_map chosen) (none_first None ss (subst A c.self.invariant.slots.ranked c.in-None.ensures))))
 
 pub returns-in-None-standing : goal.returns-in-None-standing
 returns-in-None-standing g c =
     let ss = c.self.inside.slots.items in
     let x = c.index.result.now in
     let A : List ℕ → Type 0 = λ rs. IsFirst rs c.in-Some.place in
-    let first = subst A c.self.invariant.now.slots.ranked c.in-Some.ensures in
+    let first = subst A c.self.invariant.slots.ranked c.in-Some.ensures in
     let within : c.in-Some.place < length ss = omega (arith, first.within, length-map ss (rank_in {N = g.row.N.Denot})) in
     let at = field_read rank_in ss c.in-Some.place x within c.index.ensures in
     let stands = stands_some x.goal (ready_held x (omega (arith, at, first.ready))).1 in
@@ -30,6 +30,6 @@ returns-in-Some-standing g c =
     let ss = c.self.inside.slots.items in
     let x = c.index.result.now in
     let A : List ℕ → Type 0 = λ rs. IsFirst rs c.in-Some.place in
-    let first = subst A c.self.invariant.now.slots.ranked c.in-Some.ensures in
+    let first = subst A c.self.invariant.slots.ranked c.in-Some.ensures in
     let within : c.in-Some.place < length ss = omega (arith, first.within, length-map ss (rank_in {N = g.row.N.Denot})) in
-    rw (← c.self.view_is) (sym (ap (option_map chosen) (picked ss c.self.inside.queue.ranks c.in-Some.place x c.in-Some-standing.clause c.self.invariant.now.slots.ascend c.self.invariant.now.slots.ranked c.in-Some.ensures within c.index.ensures c.in-Some-standing.is)))
+    rw (← c.self.view_is) (sym (ap (option_map chosen) (picked ss c.self.inside.queue.ranks c.in-Some.place x c.in-Some-standing.clause c.self.invariant.slots.ascend c.self.invariant.slots.ranked c.in-Some.ensures within c.index.ensures c.in-Some-standing.is)))

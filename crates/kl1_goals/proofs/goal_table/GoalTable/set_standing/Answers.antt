@@ -1,54 +1,35 @@
-use Rattle.std.proofs.Common.{refl, ap, ◌∙◌, arith}
-use Rattle.std.proofs.lemmas.Result.{on_ok_weaker}
+use Rattle.std.proofs.Common.{map, ap, ◌∙◌, refl}
 use Rattle.kl1_goals.specs.Lists.{stood_by}
-use Rattle.kl1_goals.specs.Slots.{goals_in, looked_in}
-use Rattle.kl1_goals.specs.Keeping.{parts}
-use Rattle.kl1_goals.proofs.Changing.{goals_changed, held_here}
-use Rattle.kl1_goals.proofs.Chaining.{linked_shaped}
-use Rattle.kl1_goals.proofs.Tabling.{missing_stay, stood_here, stood_other}
-use Rattle.kl1_goals.proofs.Restoring.{HasNoted, moved_tables, noted_slots, noted_view}
-use Rattle.kl1_goals.proofs.Walking.{shaped_table, length_shaped}
+use Rattle.kl1_goals.specs.Slots.{goals_in}
+use Rattle.kl1_goals.specs.Tallies.{tally_at}
+use Rattle.kl1_goals.proofs.Changing.{held_itself}
+use Rattle.kl1_goals.proofs.Chaining.{chained_shaped}
+use Rattle.kl1_goals.proofs.Shoens.{stood_tally}
+use Rattle.kl1_goals.proofs.Tabling.{missing_stood}
+use Rattle.kl1_goals.proofs.Flagging.{alive_stood}
 use Rattle.kl1_goals.proofs.goal_table.GoalTable.set_standing.Goals as goal
-use Rattle.kl1_goals.proofs.goal_table.GoalTable.set_standing.Goals.{After-look_at}
 
-pub returns-in_default-clause-ok : goal.returns-in_default-clause-ok
-returns-in_default-clause-ok g c = rw (← c.self.view_is) (missing_stay (stood_by c.args.number c.args.standing) c.args.number (goals_in c.self.inside.slots.items) (stood_other c.args.number c.args.standing) c.in_default.ensures)
-
-pub look_at-requires-clause-place : goal.look_at-requires-clause-place
-look_at-requires-clause-place g c = c.in-Some.ensures.1.within
-
--- the table with another goal at the place
-noted : (g : _) (c : goal.After-look_at g) → HasNoted c.self.inside.slots.items c.look_at.new.slots.items c.self.inside.tallies.items c.self.inside.tallies.items c.self.inside.begun c.look_at.new.begun
-noted g c =
-    let ss = c.self.inside.slots.items in
-    let us = c.look_at.new.slots.items in
-    let e = c.look_at.ensures in
-    noted_slots ss us c.self.inside.tallies.items c.self.inside.begun c.look_at.new.begun e.rest e.was (omega (arith, length_shaped ss us e.shapes))
+pub stand-requires-clause-place : goal.stand-requires-clause-place
+stand-requires-clause-place g c = (c.in-Some.ensures.0, held_itself c.self.inside.slots.items c.args.number c.in-Some.place c.in-Some.ensures.0 c.in-Some.ensures.1)
 
 pub invariant_of-self : goal.invariant_of-self
 invariant_of-self g c =
     let s = c.self.inside in
-    let n = c.look_at.new in
-    let e = c.look_at.ensures in
-    let p = parts s.slots.items s.empty s.queue.ranks s.tallies.items s.alive s.last in
-    let h = c.self.invariant.now in
-    moved_tables p (record p { slots = n.slots.items; ranks = n.queue.ranks }) s.begun n.begun c.self.invariant (shaped_table p n.slots.items n.queue.ranks h e.slots.ranked (linked_shaped p.slots n.slots.items h.chained.links e.shapes e.links) e.shapes)
-    (noted g (goal.at.invariant_of-self g c).After-look_at)
+    let x = c.in-Some.ensures.0 in
+    let goals = c.stand.ensures.goals x (held_itself s.slots.items c.args.number c.in-Some.place x c.in-Some.ensures.1) in
+    record {
+      slots = c.stand.ensures.slots;
+      tallied = λ n. rw goals (stood_tally n x.goal.number c.args.standing (goals_in s.slots.items) (tally_at s.tallies.items n) (c.self.invariant.tallied n));
+      chained = chained_shaped s.slots.items c.stand.new.slots.items s.tallies.items c.self.invariant.chained c.stand.ensures.shapes c.stand.ensures.links;
+      alive = rw goals (alive_stood x.goal.number c.args.standing (goals_in s.slots.items) s.alive c.self.invariant.alive);
+    }
 
-pub returns-clause-rest : goal.returns-clause-rest
-returns-clause-rest g c =
+pub returns-in-None : goal.returns-in-None
+returns-in-None g c = rw (← c.self.view_is) (rw (missing_stood c.args.number c.args.standing (goals_in c.self.inside.slots.items) c.in-None.ensures) refl)
+
+pub returns-in-Some : goal.returns-in-Some
+returns-in-Some g c =
     let s = c.self.inside in
-    let n = c.look_at.new in
-    let p = parts s.slots.items s.empty s.queue.ranks s.tallies.items s.alive s.last in
-    rw (← c.self.view_is) (noted_view p (record p { slots = n.slots.items; ranks = n.queue.ranks }) s.begun n.begun (noted g (goal.at.returns-clause-rest g c).After-look_at) refl)
-
-pub returns-clause-ok : goal.returns-clause-ok
-returns-clause-ok g c =
-    let ss = c.self.inside.slots.items in
-    let x = c.index.result.now in
-    let n = c.args.number in
-    let k = c.in-Some.place in
-    let held = held_here ss n k x c.in-Some.ensures.0 c.in-Some.ensures.1 c.index.ensures in
-    on_ok_weaker c.look_at.result
-    (λ e. ap goals_in e ∙ rw (← c.self.view_is) (goals_changed (stood_by n c.args.standing) (looked_in c.args.standing x.goal.is_enabled) n 0 ss k x c.self.invariant.now.slots.ascend held held.held (stood_here n c.args.standing x held.number) (stood_other n c.args.standing)))
-    c.look_at.ensures.changed
+    let x = c.in-Some.ensures.0 in
+    let goals = c.stand.ensures.goals x (held_itself s.slots.items c.args.number c.in-Some.place x c.in-Some.ensures.1) ∙ ap (λ n. map (stood_by n c.args.standing) (goals_in s.slots.items)) c.in-Some.ensures.1.number in
+    rw (← c.self.view_is) (rw (goals, c.stand.ensures.len, c.stand.ensures.capacity, c.stand.ensures.room) refl)

@@ -7,7 +7,7 @@ use Rattle.kl1_goals.proofs.Shoens.{one_at_most}
 use Rattle.kl1_goals.proofs.goal_table.GoalTable.shoens.Goals as goal
 
 pub returns-clause-order : goal.returns-clause-order
-returns-clause-order g c = rw (← c.self.view_is) (goals_ascend 0 c.self.inside.slots.items c.self.invariant.now.slots.ascend)
+returns-clause-order g c = rw (← c.self.view_is) (goals_ascend 0 c.self.inside.slots.items c.self.invariant.slots.ascend)
 
 pub returns-clause-single : goal.returns-clause-single
-returns-clause-single g c = rw (← c.self.view_is) (λ n. one_at_most (filter (is_monitor_of n) (goals_in c.self.inside.slots.items)) (tally_at c.self.inside.tallies.items n).monitor (c.self.invariant.now.tallied n).monitor)
+returns-clause-single g c = rw (← c.self.view_is) (λ n. one_at_most (filter (is_monitor_of n) (goals_in c.self.inside.slots.items)) (tally_at c.self.inside.tallies.items n).monitor (c.self.invariant.tallied n).monitor)

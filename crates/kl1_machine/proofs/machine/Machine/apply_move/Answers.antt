@@ -1,69 +1,48 @@
-use Rattle.kl1_machine.proofs.Words.{on_ok_weaker, taken_places, Making}
-use Rattle.kl1_machine.proofs.Keeping.{grown_machine}
-use Rattle.kl1_machine.proofs.Sincing.{still, since_store}
-use Rattle.kl1_machine.proofs.Moving.{moves_commit, moves_exception, moves_unification, moves_order, moves_nothing, moves_giving_way}
-use Rattle.kl1_machine.proofs.Unifying.{same_grows, unified_bound, unified_clash}
+use Rattle.std.proofs.Common.{◌≡◌, List, ℕ, ◌∙◌, subst}
+use Rattle.std.proofs.lemmas.Result.{on_ok_weaker}
+use Rattle.kl1_goals_moves.specs.Moves.{taken_places}
+use Rattle.kl1_machine.specs.Moving.{Making}
+use Rattle.kl1_machine.specs.Naming.{NamesAs}
+use Rattle.kl1_machine.proofs.Keeping.{keeps_same}
+use Rattle.kl1_machine.proofs.Moving.{moves_commit, moves_exception, moves_unification, moves_name, moves_order, moves_nothing, moves_giving_way}
 use Rattle.kl1_machine.proofs.machine.Machine.apply_move.Goals as goal
-
-pub unreachable-requires : goal.unreachable-requires
-unreachable-requires c = c.requires.nameless c.in-Names._target c.in-Names.is
 
 pub returns-in-Commits-clause-ok : goal.returns-in-Commits-clause-ok
 returns-in-Commits-clause-ok c =
     let a : Making = record { predicate = c.args.predicate; move = c.args.made; places = taken_places c.args.trial.now; text = c.args.trial.now.text } in
-    on_ok_weaker c.commit.result (moves_commit a c.in-Commits.place c.args.goal c.args.cell c.args.self.now c.commit.new.self c.in-Commits.is) c.commit.ensures.ok
+    on_ok_weaker c.commit.result (moves_commit a c.in-Commits.place c.args.goal c.args.cell c.args.self.now c.commit.new.self c.in-Commits.is c.requires.none) c.commit.ensures.ok
 
 pub returns-in-Raises-clause-ok : goal.returns-in-Raises-clause-ok
 returns-in-Raises-clause-ok c =
     let a : Making = record { predicate = c.args.predicate; move = c.args.made; places = taken_places c.args.trial.now; text = c.args.trial.now.text } in
-    on_ok_weaker c.raise.result (moves_exception a c.in-Raises.kind c.args.goal c.args.cell c.args.self.now c.raise.new.self c.in-Raises.is) c.raise.ensures.ok
+    on_ok_weaker c.raise.result (moves_exception a c.in-Raises.kind c.args.goal c.args.cell c.args.self.now c.raise.new.self c.in-Raises.is c.requires.none) c.raise.ensures.ok
+
+pub returns-in-Unifies-clause-ok : goal.returns-in-Unifies-clause-ok
+returns-in-Unifies-clause-ok c =
+    let a : Making = record { predicate = c.args.predicate; move = c.args.made; places = taken_places c.args.trial.now; text = c.args.trial.now.text } in
+    on_ok_weaker c.unify.result (moves_unification a c.in-Unifies.left c.in-Unifies.right c.args.goal c.args.cell c.args.self.now c.unify.new.self c.in-Unifies.is c.requires.none) c.unify.ensures.ok
+
+pub returns-in-Names-clause-ok : goal.returns-in-Names-clause-ok
+returns-in-Names-clause-ok c =
+    let m = c.args.self.now in
+    let n = c.name_term.new.self in
+    let a : Making = record { predicate = c.args.predicate; move = c.args.made; places = taken_places c.args.trial.now; text = c.args.trial.now.text } in
+    let same : c.of-text.result ≡ c.args.trial.now.text = c.of-text.ensures ∙ c.as_slice.ensures in
+    let N : List ℕ → Type 0 = λ text. NamesAs c.args.goal text c.in-Names.target c.args.cell m n in
+    on_ok_weaker c.name_term.result (λ named. moves_name a c.in-Names.target c.args.goal c.args.cell m n c.in-Names.is (subst N same named)) c.name_term.ensures.ok
 
 pub returns-in-Opens-clause-ok : goal.returns-in-Opens-clause-ok
 returns-in-Opens-clause-ok c =
     let a : Making = record { predicate = c.args.predicate; move = c.args.made; places = taken_places c.args.trial.now; text = c.args.trial.now.text } in
-    on_ok_weaker c.open_child.result (moves_order a c.in-Opens.structure c.order_at-order.result c.args.goal c.args.cell c.args.self.now c.open_child.new.self c.in-Opens.is c.order_at-order.ensures.order) c.open_child.ensures.ok
+    on_ok_weaker c.open_child.result (moves_order a c.in-Opens.structure c.order_at-order.result c.args.goal c.args.cell c.args.self.now c.open_child.new.self c.in-Opens.is c.requires.none c.order_at-order.ensures.order) c.open_child.ensures.ok
 
 pub returns-in-Goes-clause-ok : goal.returns-in-Goes-clause-ok
 returns-in-Goes-clause-ok c =
     let a : Making = record { predicate = c.args.predicate; move = c.args.made; places = taken_places c.args.trial.now; text = c.args.trial.now.text } in
-    moves_nothing a c.args.goal c.args.cell c.args.self.now c.in-Goes.is c.requires.machine
+    moves_nothing a c.args.goal c.args.cell c.args.self.now c.in-Goes.is c.requires.none c.requires.machine
 
--- ---- two terms that are unified
-
-pub returns-in-Bound-clause-ok : goal.returns-in-Bound-clause-ok
-returns-in-Bound-clause-ok c =
-    let a : Making = record { predicate = c.args.predicate; move = c.args.made; places = taken_places c.args.trial.now; text = c.args.trial.now.text } in
-    moves_unification a c.in-Unifies.left c.in-Unifies.right c.args.goal c.args.cell c.args.self.now _ c.in-Unifies.is
-    (unified_bound c.args.goal c.args.cell c.in-Unifies.left c.in-Unifies.right c.args.self.now c.unify.new.store c.requires.machine c.unify.ensures.hooks (rw c.in-Bound.is at c.in_ok-unify-in-Unifies.ensures.ok))
-
-pub returns-in-Clash-clause-ok : goal.returns-in-Clash-clause-ok
-returns-in-Clash-clause-ok c =
-    let a : Making = record { predicate = c.args.predicate; move = c.args.made; places = taken_places c.args.trial.now; text = c.args.trial.now.text } in
-    on_ok_weaker c.raise-in-Clash.result
-    (λ raised. moves_unification a c.in-Unifies.left c.in-Unifies.right c.args.goal c.args.cell c.args.self.now c.raise-in-Clash.new.self c.in-Unifies.is
-    (unified_clash c.args.goal c.args.cell c.in-Unifies.left c.in-Unifies.right c.args.self.now c.unify.new.store c.raise-in-Clash.new.self (rw c.in-Clash.is at c.in_ok-unify-in-Unifies.ensures.ok) raised))
-    c.raise-in-Clash.ensures.ok
-
-pub raise-requires-in-Clash-clause-machine : goal.raise-requires-in-Clash-clause-machine
-raise-requires-in-Clash-clause-machine c =
-    let u = rw c.in-Clash.is at c.in_ok-unify-in-Unifies.ensures.ok in
-    grown_machine c.args.self.now c.unify.new.store (same_grows c.args.self.now c.unify.new.store u.1 c.unify.ensures.hooks) c.requires.machine
-
-pub returns-in-Bound-clause-since : goal.returns-in-Bound-clause-since
-returns-in-Bound-clause-since c b s = let u = rw c.in-Bound.is at c.in_ok-unify-in-Unifies.ensures.ok in since_store b c.args.self.now c.unify.new.store (record { grown = u.1; hooks = c.unify.ensures.hooks }) s
-
-pub returns-in-Clash-clause-since : goal.returns-in-Clash-clause-since
-returns-in-Clash-clause-since c b s =
-    let m = c.args.self.now in
-    let k = c.unify.new.store in
-    let u = rw c.in-Clash.is at c.in_ok-unify-in-Unifies.ensures.ok in
-    c.raise-in-Clash.ensures.since b (since_store b m k (same_grows m k u.1 c.unify.ensures.hooks) s)
-
-pub returns-in_err-unify-in-Unifies-clause-since : goal.returns-in_err-unify-in-Unifies-clause-since
-returns-in_err-unify-in-Unifies-clause-since c b s =
-    let m = c.args.self.now in
-    let k = c.unify.new.store in
-    still c.from_residual.result b _ (since_store b m k (same_grows m k c.in_err-unify-in-Unifies.ensures.err c.unify.ensures.hooks) s)
+pub returns-in-Goes-clause-keeps : goal.returns-in-Goes-clause-keeps
+returns-in-Goes-clause-keeps c = keeps_same c.args.self.now
 
 -- ---- a substitute that gives way
 
@@ -76,4 +55,4 @@ put-requires-clause-monitor c = λ e. absurd (cc)
 pub returns-in-GivesWay-clause-ok : goal.returns-in-GivesWay-clause-ok
 returns-in-GivesWay-clause-ok c =
     let a : Making = record { predicate = c.args.predicate; move = c.args.made; places = taken_places c.args.trial.now; text = c.args.trial.now.text } in
-    on_ok_weaker c.put.result (moves_giving_way a c.args.goal c.args.cell c.args.self.now c.put.new.self c.in-GivesWay.is c.requires.machine c.requires.cell c.requires.owned) c.put.ensures.ok
+    on_ok_weaker c.put.result (moves_giving_way a c.args.goal c.args.cell c.args.self.now c.put.new.self c.in-GivesWay.is c.requires.none c.requires.machine c.requires.cell c.requires.owned) c.put.ensures.ok

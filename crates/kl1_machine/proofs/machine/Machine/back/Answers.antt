@@ -8,5 +8,4 @@ back-requires c =
 pub returns : goal.returns
 returns c = λ b begun keeps.
     let mark = begun_mark b c.args.self.now begun keeps in
-    went_back b c.args.self.now c.back.new.self c.back-2.new.self c.back-3.new.self c.clear.new.self begun keeps
-    (record { held = c.back.ensures.held b.store mark keeps.grown; hooks = c.back.ensures.hooks b.store mark keeps.grown; goals = c.back-2.ensures; shoens = c.back-3.ensures.shoens; work = c.back-3.ensures.work; told = c.clear.ensures.items })
+    went_back b c.args.self.now c.back.new.self c.back-2.new.self c.back-3.new.self c.clear.new.self begun keeps (c.back.ensures.held b.store mark keeps.grown) (c.back.ensures.hooks b.store mark keeps.grown) c.back-2.ensures c.back-3.ensures.shoens c.back-3.ensures.work c.clear.ensures.items

@@ -1,25 +1,35 @@
-use Rattle.kl1_machine.proofs.Words.{◌-◌, ℕ, List, [], length, sym, ap, ◌∙◌, arith, subst, names_of, with_names, CellName, Cell, Held, Grown, with_variables, goal_variables, AreGoalVariables, goal_row_below, built}
-use Rattle.kl1_match.specs.GoalCells.{BuildsGoal}
-use Rattle.kl1_machine.proofs.Sincing.{still, since_store, since_counts}
-use Rattle.kl1_machine.proofs.Starting.{IsPut, built_goal}
+use Rattle.std.proofs.Common.{◌-◌, ℕ, List, [], length, sym, ap, ◌∙◌, subst}
+use Rattle.kl1_model.specs.State.{names_of, with_names}
+use Rattle.kl1_text.specs.declared.cell_name.CellName.{CellName}
+use Rattle.kl1_store.specs.declared.cell.Cell.{Cell}
+use Rattle.kl1_store.specs.Held.{Held}
+use Rattle.kl1_store.specs.Sound.{Grown}
+use Rattle.kl1_store.proofs.Grows.{Grown-trans}
+use Rattle.kl1_match.specs.Built.{AreBelow}
+use Rattle.kl1_match.specs.Variables.{with_variables}
+use Rattle.kl1_match.specs.GoalCells.{goal_variables, AreGoalVariables, BuildsGoal}
+use Rattle.kl1_user_effects.specs.Fitting.{built}
+use Rattle.kl1_machine.proofs.Keeping.{keeps_store}
+use Rattle.kl1_machine.proofs.Sincing.{since_store}
+use Rattle.kl1_machine.proofs.Starting.{goal_below, goal_named, IsPut, built_goal}
 use Rattle.kl1_machine.proofs.machine.Machine.build_goal.Goals as goal
 
 pub put_goal_variables-requires : goal.put_goal_variables-requires
 put_goal_variables-requires c = record { some = c.requires.machine.inside.some }
 
 pub put_goal-cell-requires-clause-named : goal.put_goal-cell-requires-clause-named
-put_goal-cell-requires-clause-named c = rw c.requires.numbers c.row-row.ensures.named
+put_goal-cell-requires-clause-named c = goal_named c.args.code.now (with_names [] (names_of c.args.code.now)) c.row-row.result.now (length c.args.numbers.now) c.row-row.ensures c.requires.numbers
 
 pub put_goal-cell-requires-clause-below : goal.put_goal-cell-requires-clause-below
 put_goal-cell-requires-clause-below c =
-    let count = c.in_ok-put_goal_variables.ensures.variables.next.length_is in
-    let same = ap length c.in_ok-reserve_goal.ensures.scratch in
-    let own = c.requires.variables in
-    goal_row_below (with_names [] (names_of c.args.code.now)) c.row-row.result.now c.args.code.now _ c.row-row.ensures (omega (arith, count, same, own))
+    let N : ℕ → Type 0 = λ n. AreBelow n c.row-row.result.now in
+    subst N (sym (ap length c.in_ok-reserve_goal.ensures.scratch ∙ c.in_ok-put_goal_variables.ensures.variables.next.length_is))
+    (goal_below c.args.code.now (with_names [] (names_of c.args.code.now)) c.row-row.result.now c.args.variables c.row-row.ensures c.requires.variables)
 
 pub returns-clause-ok : goal.returns-clause-ok
 returns-clause-ok c =
-    let h = c.args.self.now.store.held in
+    let m = c.args.self.now in
+    let h = m.store.held in
     let one = c.put_goal_variables.new.store.held in
     let k = c.put_goal-cell.new.store in
     let cells = goal_variables c.put_goal_variables.new.scratch in
@@ -32,9 +42,8 @@ returns-clause-ok c =
     let H : Held CellName → Type 0 = λ z. BuildsGoal built c.args.numbers.now row cells z k.held x in
     let G : Held CellName → Type 0 = λ z. Grown z k.held in
     let V : ℕ → Type 0 = λ n. AreGoalVariables one (h.variables - 1) n cells in
-    let put : IsPut c.args.code.now c.args.numbers.now row c.args.self.now one k cells x =
+    let put : IsPut c.args.code.now c.args.numbers.now row h one k.held cells x =
     record {
-      machine = c.requires.machine;
       numbered = c.requires.numbered;
       row_is = c.row-row.ensures;
       one_is = v.held ∙ ap (with_variables h) c.requires.variables;
@@ -43,27 +52,41 @@ returns-clause-ok c =
       more = subst G r.same b.grown;
       bindings = b.bindings ∙ ap (λ (z : Held CellName). z.bindings) r.same;
       builds = subst H r.same (subst W r.scratch b.goal);
-      hooks = b.hooks ∙ r.hooks ∙ v.hooks;
     } in
-    built_goal _ _ _ c.args.self.now _ k _ x put _ _
+    built_goal c.args.code.now c.args.numbers.now row m one k cells x c.requires.machine put (b.hooks ∙ r.hooks ∙ v.hooks)
 
 -- ---- what stays
 
 pub returns-clause-since : goal.returns-clause-since
-returns-clause-since c b s =
+returns-clause-since c b =
     let m = c.args.self.now in
+    let h = m.store.held in
+    let one = c.put_goal_variables.new.store.held in
     let k = c.put_goal-cell.new.store in
-    let g = returns-clause-ok c in
-    since_counts b (record m { store = k }) _ _ m.counts.reports (since_store b m k (record { grown = g.grown; hooks = g.hooks }) s)
+    let v = c.in_ok-put_goal_variables.ensures in
+    let r = c.in_ok-reserve_goal.ensures in
+    let p = c.put_goal-cell.ensures in
+    let G : Held CellName → Type 0 = λ z. Grown z k.held in
+    since_store b m k (record { grown = Grown-trans h one k.held v.grown (subst G r.same p.grown); hooks = p.hooks ∙ r.hooks ∙ v.hooks })
 
-pub returns-in_err-put_goal_variables-clause-since : goal.returns-in_err-put_goal_variables-clause-since
-returns-in_err-put_goal_variables-clause-since c b s =
-    let v = c.put_goal_variables.ensures in
-    still c.from_residual.result b _ (since_store b c.args.self.now c.put_goal_variables.new.store (record { grown = v.grown; hooks = v.hooks }) s)
+pub returns-clause-keeps : goal.returns-clause-keeps
+returns-clause-keeps c =
+    let m = c.args.self.now in
+    let h = m.store.held in
+    let one = c.put_goal_variables.new.store.held in
+    let k = c.put_goal-cell.new.store in
+    let v = c.in_ok-put_goal_variables.ensures in
+    let r = c.in_ok-reserve_goal.ensures in
+    let p = c.put_goal-cell.ensures in
+    let G : Held CellName → Type 0 = λ z. Grown z k.held in
+    keeps_store m k (record { grown = Grown-trans h one k.held v.grown (subst G r.same p.grown); hooks = p.hooks ∙ r.hooks ∙ v.hooks })
 
-pub returns-in_err-reserve_goal-clause-since : goal.returns-in_err-reserve_goal-clause-since
-returns-in_err-reserve_goal-clause-since c b s =
+pub returns-in_err-put_goal_variables-clause-keeps : goal.returns-in_err-put_goal_variables-clause-keeps
+returns-in_err-put_goal_variables-clause-keeps c = keeps_store c.args.self.now c.put_goal_variables.new.store (record { grown = c.put_goal_variables.ensures.grown; hooks = c.put_goal_variables.ensures.hooks })
+
+pub returns-in_err-reserve_goal-clause-keeps : goal.returns-in_err-reserve_goal-clause-keeps
+returns-in_err-reserve_goal-clause-keeps c =
     let m = c.args.self.now in
     let v = c.in_ok-put_goal_variables.ensures in
     let G : Held CellName → Type 0 = λ z. Grown m.store.held z in
-    still c.from_residual-in_err-reserve_goal.result b _ (since_store b m c.reserve_goal.new.store (record { grown = subst G (sym c.reserve_goal.ensures.same) v.grown; hooks = c.reserve_goal.ensures.hooks ∙ v.hooks }) s)
+    keeps_store m c.reserve_goal.new.store (record { grown = subst G (sym c.reserve_goal.ensures.same) v.grown; hooks = c.reserve_goal.ensures.hooks ∙ v.hooks })

@@ -1,7 +1,18 @@
-use Rattle.kl1_machine.proofs.Words.{◌≡◌, ◌+◌, List, sym, ◌∙◌, arith, subst, Some, on_ok_weaker, CellName, Qualified, AreQualifiedIn, taken_places, priorities_by, on_ok_both, never_absent, found_shoen_in, with_goals}
-use Rattle.kl1_machine.proofs.Keeping.{grown_machine}
-use Rattle.kl1_machine.proofs.Sincing.{still, since_store, since_counts}
-use Rattle.kl1_machine.proofs.Bodies.{commits_exhausted, commits_body, with_needs, needs_machine}
+use Rattle.std.proofs.Common.{◌≡◌, ◌+◌, List, sym, ◌∙◌, arith, subst}
+use Rattle.std.specs.Prelude.{Some}
+use Rattle.std.proofs.lemmas.Result.{on_ok_weaker}
+use Rattle.kl1_text.specs.declared.cell_name.CellName.{CellName}
+use Rattle.kl1_store.specs.declared.qualified.Qualified.{Qualified}
+use Rattle.kl1_store.specs.InModules.{AreQualifiedIn}
+use Rattle.kl1_goals_moves.specs.Moves.{taken_places}
+use Rattle.kl1_user_effects.specs.Moving.{priorities_by}
+use Rattle.kl1_user_effects.proofs.Frames.{on_ok_both}
+use Rattle.kl1_user_effects.proofs.TreesIn.{never_absent}
+use Rattle.kl1_user_effects.proofs.States.{found_shoen_in}
+use Rattle.kl1_machine.specs.Effects.{with_goals}
+use Rattle.kl1_machine.proofs.Keeping.{keeps_store, keeps_then, grown_machine}
+use Rattle.kl1_machine.proofs.Sincing.{since_store, since_counts}
+use Rattle.kl1_machine.proofs.Bodies.{commits_exhausted, commits_body, with_needs, needs_machine, needs_keep}
 use Rattle.kl1_machine.proofs.machine.Machine.commit.Goals as goal
 
 pub unreachable-requires : goal.unreachable-requires
@@ -68,14 +79,26 @@ returns-clause-ok c =
     (record { is = subst G c.deref.ensures.value is; machine = after }))
     c.put_each.ensures.machine c.put_each.ensures.ok
 
--- ---- what stays
+pub returns-clause-keeps : goal.returns-clause-keeps
+returns-clause-keeps c =
+    let m = c.args.self.now in
+    let e = c.in_ok-commit.ensures in
+    keeps_then m _ _ (needs_keep c.needs_of-needs.result m _ (keeps_store m c.commit.new.store (record { grown = e.grown; hooks = e.hooks }))) c.put_each.ensures.keeps
+
+-- ---- since the event began
+
+pub returns-then-not-has_room-clause-since : goal.returns-then-not-has_room-clause-since
+returns-then-not-has_room-clause-since c = c.raise.ensures.since
 
 pub returns-clause-since : goal.returns-clause-since
-returns-clause-since c b s =
+returns-clause-since c b =
     let m = c.args.self.now in
     let k = c.commit.new.store in
     let e = c.in_ok-commit.ensures in
-    c.put_each.ensures.since b (since_counts b (record m { store = k }) _ _ m.counts.reports (since_store b m k (record { grown = e.grown; hooks = e.hooks }) s))
+    let n = c.needs_of-needs.result in
+    on_ok_weaker c.put_each.result (λ f s. f (since_counts b (record m { store = k }) (m.counts.variables + n.variables) (m.counts.nodes + n.nodes) m.counts.reports (since_store b m k (record { grown = e.grown; hooks = e.hooks }) s))) (c.put_each.ensures.since b)
 
-pub returns-in_err-commit-clause-since : goal.returns-in_err-commit-clause-since
-returns-in_err-commit-clause-since c b s = still c.from_residual.result b _ (since_store b c.args.self.now c.commit.new.store (record { grown = c.commit.ensures.grown; hooks = c.commit.ensures.hooks }) s)
+-- ---- if memory is refused
+
+pub returns-in_err-commit-clause-keeps : goal.returns-in_err-commit-clause-keeps
+returns-in_err-commit-clause-keeps c = keeps_store c.args.self.now c.commit.new.store (record { grown = c.commit.ensures.grown; hooks = c.commit.ensures.hooks })

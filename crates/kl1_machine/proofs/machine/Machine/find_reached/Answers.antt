@@ -1,4 +1,6 @@
-use Rattle.kl1_machine.proofs.Words.{◌++◌, ℕ, List, sym, ap, ◌∙◌, arith, append-nil, path_zero, reached_in}
+use Rattle.std.proofs.Common.{◌++◌, ℕ, List, sym, ap, ◌∙◌, arith, append-nil}
+use Rattle.kl1_shoen_paths.proofs.Paths.{path_zero}
+use Rattle.kl1_user_effects.specs.Walks.{reached_in}
 use Rattle.kl1_machine.proofs.machine.Machine.find_reached.Goals as goal
 
 pub returns : goal.returns

@@ -1,4 +1,6 @@
-use Rattle.kl1_machine.proofs.Words.{◌≡◌, ◌++◌, path_in, reached_in}
+use Rattle.std.proofs.Common.{◌≡◌, ◌++◌}
+use Rattle.kl1_shoen.specs.Shoens.{path_in}
+use Rattle.kl1_user_effects.specs.Walks.{reached_in}
 use Rattle.kl1_machine.proofs.machine.Machine.find_reached.Given as goal
 
 -- with those of the shoens that are left there are all

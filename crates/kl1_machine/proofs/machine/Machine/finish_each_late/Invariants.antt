@@ -1,9 +1,15 @@
 -- the terminations so far are done
-use Rattle.kl1_machine.proofs.Words.{take, finished_each_late, Machine, Since, LateAs}
+use Rattle.std.proofs.Common.{take}
+use Rattle.kl1_user_effects.specs.Late.{finished_each_late}
+use Rattle.kl1_machine.specs.declared.machine.Machine.{Machine}
+use Rattle.kl1_machine.specs.Machines.{Keeps}
+use Rattle.kl1_machine.specs.Since.{Since}
+use Rattle.kl1_machine.specs.Naming.{LateAs}
 use Rattle.kl1_machine.proofs.machine.Machine.finish_each_late.Given as goal
 
 abbrev pub invariant-loop-number : goal.invariant-loop-number
 invariant-loop-number l = record {
   late : LateAs l.variable (λ f. finished_each_late l.variable (take l.number-index l.numbers)) l.initial.self l.self;
   since : (b : Machine) → Since b l.initial.self → Since b l.self;
+  keeps : Keeps l.initial.self l.self;
 }

@@ -1,4 +1,6 @@
-use Rattle.kl1_machine.proofs.Words.{ap, ◌∙◌, nat_lt, is_goal_of}
+use Rattle.std.proofs.Common.{ap, ◌∙◌}
+use Rattle.std.specs.Prelude.{nat_lt}
+use Rattle.kl1_goals.specs.Lists.{is_goal_of}
 use Rattle.kl1_machine.proofs.Ending.{any_counted}
 use Rattle.kl1_machine.proofs.machine.Machine.has_goal.Goals as goal
 

@@ -1,4 +1,6 @@
-use Rattle.kl1_machine.proofs.Words.{◌==◌, false, sym, ◌∙◌, found_shoen_in, tail_is, tail_variable, tail_other}
+use Rattle.std.proofs.Common.{◌==◌, false, sym, ◌∙◌}
+use Rattle.kl1_user_effects.proofs.States.{found_shoen_in}
+use Rattle.kl1_user_effects.proofs.LateDrafts.{tail_is, tail_variable, tail_other}
 use Rattle.kl1_machine.proofs.machine.Machine.is_tail.Goals as goal
 
 pub walk-requires : goal.walk-requires

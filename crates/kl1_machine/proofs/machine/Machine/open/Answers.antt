@@ -1,4 +1,4 @@
-use Rattle.kl1_machine.proofs.Shoens.{IsOpened, opened, since_with_shoen}
+use Rattle.kl1_machine.proofs.Shoens.{IsOpened, opened, opened_since}
 use Rattle.kl1_machine.proofs.machine.Machine.open.Goals as goal
 
 pub returns-clause-ok : goal.returns-clause-ok
@@ -8,4 +8,8 @@ returns-clause-ok c =
     opened c.args.self.now c.args.shoen c.reserve.new.self c.open-2.new.self c.open.new.self c.requires.machine c.requires.inside o
 
 pub returns-clause-since : goal.returns-clause-since
-returns-clause-since c b = let n = c.len-numbered.ensures in since_with_shoen b c.args.self.now _ c.args.shoen _ (record { numbered = n.numbered; lower = n.lower; worked = n.worked }) c.requires.machine (returns-clause-ok c)
+returns-clause-since c b =
+    let e = c.reserve.ensures in
+    let n = c.len-numbered.ensures in
+    let o : IsOpened c.args.self.now c.args.shoen c.reserve.new.self c.open-2.new.self c.open.new.self = record { shoens = e.shoens; work = e.work; kept = e.kept; kept_work = e.kept_work; tree = c.open-2.ensures; row = c.open.ensures.rest; count = c.in_ok-open.ensures.ok } in
+    opened_since b c.args.self.now c.args.shoen c.reserve.new.self c.open-2.new.self c.open.new.self (record { numbered = n.numbered; lower = n.lower; worked = n.worked }) c.requires.machine o

@@ -1,4 +1,13 @@
-use Rattle.kl1_machine.proofs.Words.{◌≡◌, ◌≤◌, ℕ, suc, length, sym, ap, ◌∙◌, arith, subst, on_ok_weaker, MONITOR_PRIORITY, clipped, CellName, Shoen, found_shoen_in, never_absent, clipped_low, child_of, one_order}
+use Rattle.std.proofs.Common.{◌≡◌, ◌≤◌, ℕ, suc, length, sym, ap, ◌∙◌, arith, subst}
+use Rattle.std.proofs.lemmas.Result.{on_ok_weaker}
+use Rattle.kl1_model.specs.declared.limits.TheConstants.{MONITOR_PRIORITY}
+use Rattle.kl1_model.specs.code.Steps.{clipped}
+use Rattle.kl1_text.specs.declared.cell_name.CellName.{CellName}
+use Rattle.kl1_shoen_paths.specs.declared.shoen.Shoen.{Shoen}
+use Rattle.kl1_user_effects.proofs.States.{found_shoen_in}
+use Rattle.kl1_user_effects.proofs.TreesIn.{never_absent}
+use Rattle.kl1_user_effects.proofs.Arriving.{clipped_low}
+use Rattle.kl1_user_effects.proofs.Joining.{child_of, one_order}
 use Rattle.kl1_machine.proofs.Opening.{IsChild, child_refused, child_opened}
 use Rattle.kl1_machine.proofs.machine.Machine.open_child.Goals as goal
 
@@ -10,6 +19,9 @@ unreachable-requires c =
 
 pub open_shoen-requires-clause-number : goal.open_shoen-requires-clause-number
 open_shoen-requires-clause-number c = let number = c.in_ok-number.ensures in let count = c.len.ensures.value in omega (arith, number, count)
+
+pub open_shoen-requires-clause-parent : goal.open_shoen-requires-clause-parent
+open_shoen-requires-clause-parent c = let high = c.requires.owned.high in omega (arith, high)
 
 pub open_shoen-requires-clause-shoen : goal.open_shoen-requires-clause-shoen
 open_shoen-requires-clause-shoen c =

@@ -1,4 +1,9 @@
-use Rattle.kl1_machine.proofs.Words.{List, length, refl, sym, ap, ◌∙◌, subst, CellName, Known, AreNames, Held, held_exchanged}
+use Rattle.std.proofs.Common.{List, length, refl, sym, ap, ◌∙◌, subst}
+use Rattle.kl1_text.specs.declared.cell_name.CellName.{CellName}
+use Rattle.kl1_atoms.specs.declared.known.Known.{Known}
+use Rattle.kl1_atoms.specs.Names.{AreNames}
+use Rattle.kl1_store.specs.Held.{Held}
+use Rattle.kl1_machine.specs.Exchanging.{held_exchanged}
 use Rattle.kl1_machine.proofs.machine.Machine.publish_names.Goals as goal
 
 pub exchange-requires-clause-length : goal.exchange-requires-clause-length

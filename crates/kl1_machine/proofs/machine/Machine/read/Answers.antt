@@ -1,15 +1,21 @@
-use Rattle.kl1_machine.proofs.Words.{ℕ, List, sym, subst, on_ok_weaker, settle, heard, control_as, LivesEnd}
-use Rattle.kl1_machine.proofs.Ending.{as_then, settles}
+use Rattle.std.proofs.lemmas.Result.{on_ok_weaker}
+use Rattle.kl1_model.specs.Ending.{settle}
+use Rattle.kl1_model.specs.Reduction.{heard}
+use Rattle.kl1_stream.specs.Controls.{control_as}
+use Rattle.kl1_machine.proofs.Keeping.{keeps_then}
+use Rattle.kl1_machine.proofs.Ending.{as_then, since_then}
 use Rattle.kl1_machine.proofs.machine.Machine.read.Goals as goal
+
+pub settle-requires : goal.settle-requires
+settle-requires c = record { machine = c.in_ok-hear.ensures.ok.machine }
 
 pub returns-clause-ok : goal.returns-clause-ok
 returns-clause-ok c =
     let m = c.args.self.now in
-    let u = c.hear.new.self in
-    let v = c.end_lives.new.self in
-    let hear = c.in_ok-hear.ensures.ok in
-    let L : List ℕ → Type 0 = λ ns. LivesEnd c.args.number ns u v in
-    on_ok_weaker c.finish_each.result
-    (λ ok. as_then (λ f. heard c.args.number (control_as f m.store.held c.args.control)) (λ f. settle c.args.number) m u c.finish_each.new.self hear
-    (settles u v c.finish_each.new.self c.args.number c.as_slice.result.now hear.machine (subst L (sym c.as_slice.ensures.value) c.in_ok-end_lives.ensures.ok) ok))
-    c.finish_each.ensures.ok
+    on_ok_weaker c.settle.result (as_then (λ f. heard c.args.number (control_as f m.store.held c.args.control)) (λ f. settle c.args.number) m c.hear.new.self c.settle.new.self c.in_ok-hear.ensures.ok) c.settle.ensures.ok
+
+pub returns-clause-since : goal.returns-clause-since
+returns-clause-since c = λ b. since_then c.settle.result b c.args.self.now c.hear.new.self c.settle.new.self (c.in_ok-hear.ensures.since b) (c.settle.ensures.since b)
+
+pub returns-clause-keeps : goal.returns-clause-keeps
+returns-clause-keeps c = keeps_then c.args.self.now c.hear.new.self c.settle.new.self c.in_ok-hear.ensures.keeps c.settle.ensures.keeps

@@ -1,21 +1,37 @@
-use Rattle.kl1_machine.proofs.Words.{arith, atom, text_of, report_late, report_each_late}
-use Rattle.kl1_machine.proofs.Late.{late_none, reports_more, next_late, all_late, within_then}
+use Rattle.std.proofs.Common.{arith}
+use Rattle.kl1_model.specs.Term.{atom}
+use Rattle.kl1_model.specs.Text.{text_of}
+use Rattle.kl1_machine.proofs.Keeping.{keeps_same, keeps_then}
+use Rattle.kl1_machine.proofs.Late.{late_none, next_report_late, all_reports_late, within_then}
 use Rattle.kl1_machine.proofs.machine.Machine.report_each_late.Goals as goal
 
 pub loop-number-init : goal.loop-number-init
-loop-number-init c = record { late = late_none c.args.variable c.args.self.now c.requires.machine; since = λ b s. s }
+loop-number-init c = record { late = late_none c.args.variable c.args.self.now c.requires.machine; since = λ b s. s; keeps = keeps_same c.args.self.now }
+
+pub report_late-requires-clause-machine : goal.report_late-requires-clause-machine
+report_late-requires-clause-machine c = c.loop-number.invariant.late.machine
 
 pub report_late-requires-clause-within : goal.report_late-requires-clause-within
-report_late-requires-clause-within c = within_then c.args.variable c.args.self.now c.loop-number.self c.requires.within (c.loop-number.invariant.since c.args.self.now)
+report_late-requires-clause-within c = within_then c.args.variable c.args.self.now c.loop-number.self c.requires.within c.loop-number.invariant.keeps
 
 pub loop-number-preserved : goal.loop-number-preserved
 loop-number-preserved c =
     let i = c.loop-number.invariant in
     let one = c.in_ok-report_late.ensures in
     record {
-      late = next_late (λ ns. report_each_late c.args.variable ns (atom (text_of c.args.name))) (λ n. report_late c.args.variable n (atom (text_of c.args.name))) (reports_more c.args.variable (atom (text_of c.args.name))) c.args.self.now c.loop-number.self c.report_late.new.self c.args.variable c.args.numbers.now c.loop-number.number-index c.loop-number-test.true i.late one.ok;
+      late = next_report_late c.args.self.now c.loop-number.self c.report_late.new.self c.args.variable c.args.numbers.now c.loop-number.number-index (atom (text_of c.args.name)) c.loop-number-test.true i.late one.ok;
       since = λ b s. one.since b (i.since b s);
+      keeps = keeps_then c.args.self.now c.loop-number.self c.report_late.new.self i.keeps one.keeps;
     }
 
 pub returns-clause-ok : goal.returns-clause-ok
-returns-clause-ok c = all_late (λ ns. report_each_late c.args.variable ns (atom (text_of c.args.name))) c.args.self.now c.loop-number.self c.args.variable c.args.numbers.now c.loop-number.number-index (omega (arith, c.loop-number-test.false)) c.loop-number.invariant.late
+returns-clause-ok c = all_reports_late c.args.self.now c.loop-number.self c.args.variable c.args.numbers.now c.loop-number.number-index (atom (text_of c.args.name)) (omega (arith, c.loop-number-test.false)) c.loop-number.invariant.late
+
+pub returns-clause-since : goal.returns-clause-since
+returns-clause-since c = c.loop-number.invariant.since
+
+pub returns-clause-keeps : goal.returns-clause-keeps
+returns-clause-keeps c = c.loop-number.invariant.keeps
+
+pub returns-in_err-report_late-clause-keeps : goal.returns-in_err-report_late-clause-keeps
+returns-in_err-report_late-clause-keeps c = keeps_then c.args.self.now c.loop-number.self c.report_late.new.self c.loop-number.invariant.keeps c.report_late.ensures.keeps

@@ -1,4 +1,14 @@
-use Rattle.kl1_machine.proofs.Words.{sym, ap, ◌∙◌, text_of, Term, atom, report, CellName, Atom, term_of-Atom, meaning, worked, turns_as, made}
+use Rattle.std.proofs.Common.{sym, ap, ◌∙◌}
+use Rattle.kl1_model.specs.Text.{text_of}
+use Rattle.kl1_model.specs.Term.{Term, atom}
+use Rattle.kl1_model.specs.Report.{report}
+use Rattle.kl1_text.specs.declared.cell_name.CellName.{CellName}
+use Rattle.kl1_store.specs.declared.cell.Cell.TheVariants.{Atom}
+use Rattle.kl1_store.proofs.Terms.{term_of-Atom}
+use Rattle.kl1_user_effects.specs.Account.{meaning}
+use Rattle.kl1_user_effects.specs.Works.{worked}
+use Rattle.kl1_user_effects.proofs.Works.{turns_as}
+use Rattle.kl1_machine.specs.Machines.{made}
 use Rattle.kl1_machine.proofs.machine.Machine.report_name.Goals as goal
 
 pub returns-clause-ok : goal.returns-clause-ok
@@ -14,3 +24,12 @@ returns-clause-ok c =
       machine = c.in_ok-tell.ensures.ok.machine;
       named = c.in_ok-tell.ensures.ok.named;
     }
+
+pub returns-clause-free : goal.returns-clause-free
+returns-clause-free c = c.in_ok-tell.ensures.ok.keeps
+
+pub returns-clause-since : goal.returns-clause-since
+returns-clause-since c = c.in_ok-tell.ensures.since
+
+pub returns-clause-plain : goal.returns-clause-plain
+returns-clause-plain c = c.in_ok-tell.ensures.plain

@@ -1,4 +1,5 @@
-use Rattle.kl1_machine.proofs.Words.{sym, ◌∙◌, with_last}
+use Rattle.std.proofs.Common.{sym, ◌∙◌}
+use Rattle.kl1_codes.specs.Shelves.{with_last}
 use Rattle.kl1_machine.proofs.Looking.{looks_machine, looks_keeps}
 use Rattle.kl1_machine.proofs.Reaching.{reaches_zero, reaches_next, reaches_all, looks_reschedule}
 use Rattle.kl1_machine.proofs.machine.Machine.reschedule_for_load.Goals as goal

@@ -1,5 +1,6 @@
 -- the goals up to a number were looked at
-use Rattle.kl1_machine.proofs.Words.{◌-◌, with_last}
+use Rattle.std.proofs.Common.{◌-◌}
+use Rattle.kl1_codes.specs.Shelves.{with_last}
 use Rattle.kl1_machine.proofs.Reaching.{Reaches}
 use Rattle.kl1_machine.proofs.machine.Machine.reschedule_for_load.Given as goal
 

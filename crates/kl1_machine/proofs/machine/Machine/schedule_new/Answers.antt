@@ -1,4 +1,6 @@
-use Rattle.kl1_machine.proofs.Words.{◌≡◌, suc, ◌+◌, ap, ◌∙◌, arith, is_enabled_at, Machine}
+use Rattle.std.proofs.Common.{◌≡◌, suc, ◌+◌, ap, ◌∙◌, arith}
+use Rattle.kl1_shoen.specs.Shoens.{is_enabled_at}
+use Rattle.kl1_machine.specs.declared.machine.Machine.{Machine}
 use Rattle.kl1_machine.proofs.Looking.{looks_machine}
 use Rattle.kl1_machine.proofs.Scheduling.{schedules_nothing, schedules_then, schedules_less}
 use Rattle.kl1_machine.proofs.machine.Machine.schedule_new.Goals as goal

@@ -1,5 +1,6 @@
 -- the goals that came were looked at up to a number
-use Rattle.kl1_machine.proofs.Words.{◌≤◌, ◌-◌, Schedules}
+use Rattle.std.proofs.Common.{◌≤◌, ◌-◌}
+use Rattle.kl1_machine.specs.Rescheduling.{Schedules}
 use Rattle.kl1_machine.proofs.machine.Machine.schedule_new.Given as goal
 
 abbrev pub invariant-loop-number : goal.invariant-loop-number

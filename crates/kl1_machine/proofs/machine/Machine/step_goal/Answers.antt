@@ -1,102 +1,45 @@
-use Rattle.kl1_machine.proofs.Words.{◌≡◌, ◌<◌, true, ℕ, length, ap, ◌∙◌, sym, subst, arith, None, Some, on_ok_weaker, CellName, IsIn, Move, MoveIn, taken_places, IsOwned, Machine, Making, NamesIn}
-use Rattle.kl1_machine.proofs.Calm.{calm_after}
-use Rattle.kl1_machine.proofs.Late.{within_then}
-use Rattle.kl1_machine.proofs.Moving.{charged_still, runs}
-use Rattle.kl1_machine.proofs.Naming.{marked, makes_name, still_free}
-use Rattle.kl1_machine.proofs.Resting.{still_lets}
-use Rattle.kl1_machine.proofs.Sincing.{since_same}
-use Rattle.kl1_machine.proofs.Stepping.{steps_bound, steps_run}
+use Rattle.std.proofs.Common.{ℕ, List, ◌≡◌, ◌∙◌, ap, sym, subst}
+use Rattle.std.proofs.lemmas.Result.{on_ok_weaker}
+use Rattle.kl1_atoms.specs.Names.{number_by}
+use Rattle.kl1_goals_moves.specs.Moves.{taken_places}
+use Rattle.kl1_user_effects.specs.Calling.{keeps_names}
+use Rattle.kl1_machine.specs.Moving.{Making}
+use Rattle.kl1_machine.specs.Naming.{MakesName}
+use Rattle.kl1_machine.proofs.Stepping.{steps_run, steps_bound, bound_target}
 use Rattle.kl1_machine.proofs.machine.Machine.step_goal.Goals as goal
 
-pub use_name-requires-clause-none : goal.use_name-requires-clause-none
-use_name-requires-clause-none c = ap (λ (x : Machine). x.name) c.in_ok-charge.ensures.ok.is ∙ c.requires.none
-
-pub use_name-requires-clause-inside : goal.use_name-requires-clause-inside
-use_name-requires-clause-inside c =
-    let N : Machine → Type 0 = λ x. NamesIn c.args.made x.store.held c.args.trial.now.text in
-    let M : Move CellName → Type 0 = λ y. MoveIn c.args.self.now.store.held c.args.predicate (taken_places c.args.trial.now) c.args.trial.now.text (Some y) in
-    subst N (sym c.in_ok-charge.ensures.ok.is) (λ a e. subst M e c.requires.inside)
+pub returns-in_default-clause-ok : goal.returns-in_default-clause-ok
+returns-in_default-clause-ok c =
+    let a : Making = record { predicate = c.args.predicate; move = c.args.made; places = taken_places c.args.trial.now; text = c.args.trial.now.text } in
+    on_ok_weaker c.run_move.result (steps_run a c.args.goal c.args.cell c.args.self.now c.run_move.new.self (c.name_to_bind.ensures.none c.in_default.is) c.requires.unspelled) c.run_move.ensures.ok
 
 -- ---- a variable that becomes a name
 
-pub end_path_late-requires-clause-within : goal.end_path_late-requires-clause-within
-end_path_late-requires-clause-within c =
-    let p = c.in-Becomes.ensures.ok in
-    let W : Machine → Type 0 = λ x. c.in-Becomes.variable < x.store.held.variables in
-    subst W (sym p.is) p.can.within
-
-pub bind_spare-requires-clause-within : goal.bind_spare-requires-clause-within
-bind_spare-requires-clause-within c = within_then c.in-Becomes.variable c.charge.new.self c.end_path_late.new.self c.in-Becomes.ensures.ok.can.within (λ s. c.in_ok-end_path_late-in-Becomes.ensures.since c.charge.new.self (c.use_name.ensures.since c.charge.new.self s))
-
-pub bind_spare-requires-clause-free : goal.bind_spare-requires-clause-free
-bind_spare-requires-clause-free c =
-    let p = c.in-Becomes.ensures.ok in
-    still_free c.in-Becomes.variable c.charge.new.self c.use_name.new.self c.end_path_late.new.self p.can.unbound (ap (λ (x : Machine). x.store.held) p.is) c.in_ok-end_path_late-in-Becomes.ensures.ok.free
-
-pub returns-in_ok-end_path_late-in-Becomes-clause-ok : goal.returns-in_ok-end_path_late-in-Becomes-clause-ok
-returns-in_ok-end_path_late-in-Becomes-clause-ok c =
+pub bind_new_name-requires-clause-within : goal.bind_new_name-requires-clause-within
+bind_new_name-requires-clause-within c =
     let m = c.args.self.now in
-    let d = c.use_name.new.self in
-    let e = c.end_path_late.new.self in
-    let u = c.bind_spare.new.self in
-    let v = c.in-Becomes.variable in
-    let goal = c.args.goal in
-    let text = c.args.trial.now.text in
-    let p = c.in-Becomes.ensures.ok in
-    let a : Making = record { predicate = c.args.predicate; move = c.args.made; places = taken_places c.args.trial.now; text = text } in
-    let marks = marked goal.shoen v c.args.made text m c.charge.new.self d _ c.requires.none c.requires.machine c.in_ok-charge.ensures.ok p in
-    on_ok_weaker c.bind_spare.result
-    (λ spares. steps_bound a p.target goal c.args.cell m d u v p.uses c.requires.none marks (makes_name m d e u goal.shoen v text p.target marks c.in_ok-end_path_late-in-Becomes.ensures.ok spares))
-    c.bind_spare.ensures.ok
+    (bound_target c.args.made m.store.held m.names.names c.args.trial.now.text c.in-Some.variable c.in-Some.ensures.binds).1.1.within
 
--- ---- a move by which none does
-
-pub apply_move-requires : goal.apply_move-requires
-apply_move-requires c =
+pub bind_new_name-requires-clause-unbound : goal.bind_new_name-requires-clause-unbound
+bind_new_name-requires-clause-unbound c =
     let m = c.args.self.now in
-    let w = c.charge.new.self in
-    let d = c.use_name.new.self in
-    let places = taken_places c.args.trial.now in
-    let text = c.args.trial.now.text in
-    let charges = c.in_ok-charge.ensures.ok in
-    let stands = c.in-Does.ensures.ok c.args.predicate places in
-    let I : Machine → Type 0 = λ x. MoveIn x.store.held c.args.predicate places text (Some c.args.made) in
-    record {
-      machine = stands.machine;
-      nameless = stands.nameless;
-      predicate = c.requires.predicate;
-      inside = stands.inside (subst I (sym charges.is) c.requires.inside);
-      cell = charged_still (λ x. IsIn x.store.held c.args.cell.cell) c.args.goal.shoen m w d _ _ charges stands.is c.requires.cell;
-      owned = charged_still (λ x. IsOwned (length x.shoens.shoens) c.args.goal) c.args.goal.shoen m w d _ _ charges stands.is c.requires.owned;
-      level = c.requires.level;
-    }
+    (bound_target c.args.made m.store.held m.names.names c.args.trial.now.text c.in-Some.variable c.in-Some.ensures.binds).1.1.unbound
 
-pub is_calm-requires : goal.is_calm-requires
-is_calm-requires c =
+pub bind_new_name-requires-clause-new : goal.bind_new_name-requires-clause-new
+bind_new_name-requires-clause-new c =
     let m = c.args.self.now in
-    let high = c.requires.owned.high in
-    still_lets m c.apply_move.new.self c.args.goal.shoen (c.in_ok-apply_move-in-Does.ensures.since m (c.use_name.ensures.since m (c.in_ok-charge.ensures.since m (omega arith) (since_same m)))) (omega (arith, high)) c.requires.lets
+    ap (number_by m.names.names) (c.of-text.ensures ∙ c.as_slice.ensures) ∙ (bound_target c.args.made m.store.held m.names.names c.args.trial.now.text c.in-Some.variable c.in-Some.ensures.binds).1.1.new
 
-pub returns-then-is_calm-clause-ok : goal.returns-then-is_calm-clause-ok
-returns-then-is_calm-clause-ok c =
+pub bind_new_name-requires-clause-may_use : goal.bind_new_name-requires-clause-may_use
+bind_new_name-requires-clause-may_use c =
     let m = c.args.self.now in
-    let u = c.apply_move.new.self in
-    let goal = c.args.goal in
-    let places = taken_places c.args.trial.now in
-    let a : Making = record { predicate = c.args.predicate; move = c.args.made; places = places; text = c.args.trial.now.text } in
-    let calm = c.if-is_calm.true in
-    steps_run a goal c.args.cell m u u c.requires.unspelled
-    (runs a c.in-Does.found goal c.args.cell m c.charge.new.self c.use_name.new.self u _ c.in_ok-charge.ensures.ok (c.in-Does.ensures.ok c.args.predicate places) c.in_ok-apply_move-in-Does.ensures.ok)
-    (calm_after u goal.shoen c.in_ok-apply_move-in-Does.ensures.ok.machine (c.is_calm.ensures.lives calm) (λ ending. c.is_calm.ensures.unreached ending calm))
+    ap (keeps_names m.names.names) (c.of-text.ensures ∙ c.as_slice.ensures) ∙ (bound_target c.args.made m.store.held m.names.names c.args.trial.now.text c.in-Some.variable c.in-Some.ensures.binds).1.1.keeps
 
-pub returns-else-is_calm-clause-ok : goal.returns-else-is_calm-clause-ok
-returns-else-is_calm-clause-ok c =
+pub returns-clause-ok : goal.returns-clause-ok
+returns-clause-ok c =
     let m = c.args.self.now in
-    let u = c.apply_move.new.self in
-    let goal = c.args.goal in
-    let places = taken_places c.args.trial.now in
-    let a : Making = record { predicate = c.args.predicate; move = c.args.made; places = places; text = c.args.trial.now.text } in
-    on_ok_weaker c.end_path.result
-    (steps_run a goal c.args.cell m u c.end_path.new.self c.requires.unspelled
-    (runs a c.in-Does.found goal c.args.cell m c.charge.new.self c.use_name.new.self u _ c.in_ok-charge.ensures.ok (c.in-Does.ensures.ok c.args.predicate places) c.in_ok-apply_move-in-Does.ensures.ok))
-    c.end_path.ensures.ok
+    let v = c.in-Some.variable in
+    let a : Making = record { predicate = c.args.predicate; move = c.args.made; places = taken_places c.args.trial.now; text = c.args.trial.now.text } in
+    let by = bound_target c.args.made m.store.held m.names.names c.args.trial.now.text v c.in-Some.ensures.binds in
+    let N : List ℕ → Type 0 = λ text. MakesName c.args.goal.shoen text v m c.bind_new_name.new.self in
+    on_ok_weaker c.bind_new_name.result (λ makes. steps_bound a by.0 c.args.goal c.args.cell m c.bind_new_name.new.self v by.1.0 by.1.1 c.requires.none (subst N (c.of-text.ensures ∙ c.as_slice.ensures) makes)) c.bind_new_name.ensures.ok

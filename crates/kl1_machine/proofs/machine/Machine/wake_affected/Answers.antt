@@ -1,4 +1,4 @@
-use Rattle.kl1_machine.proofs.Words.{arith}
+use Rattle.std.proofs.Common.{arith}
 use Rattle.kl1_machine.proofs.Looking.{looks_machine}
 use Rattle.kl1_machine.proofs.Waking.{wakes_nothing, wakes_more, wakes_all}
 use Rattle.kl1_machine.proofs.machine.Machine.wake_affected.Goals as goal

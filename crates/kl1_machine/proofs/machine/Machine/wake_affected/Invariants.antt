@@ -1,5 +1,6 @@
 -- the goals of the numbers so far were looked at
-use Rattle.kl1_machine.proofs.Words.{take, Wakes}
+use Rattle.std.proofs.Common.{take}
+use Rattle.kl1_machine.specs.Rescheduling.{Wakes}
 use Rattle.kl1_machine.proofs.machine.Machine.wake_affected.Given as goal
 
 abbrev pub invariant-loop-place : goal.invariant-loop-place

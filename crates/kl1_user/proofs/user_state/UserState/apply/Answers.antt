@@ -6,7 +6,7 @@ use Rattle.kl1_user.proofs.user_state.UserState.apply.Goals as goal
 
 pub returns-in_ok-reduce-in-Reduce-clause-step : goal.returns-in_ok-reduce-in-Reduce-clause-step
 returns-in_ok-reduce-in-Reduce-clause-step g c =
-    reduces_same c.in_ok-reduce-in-Reduce.field-0 c.reply_to.result c.args.self.now c.self.inside.account c.reduce.new.self (model.reduce c.in-Reduce.goal.0 c.in-Reduce.clause.0) (event_of c.args.event.now) c.self.view_is (sym (ap event_of c.in-Reduce.is)) c.reply_to.ensures c.in_ok-reduce-in-Reduce.ensures.step
+    reduces_same c.in_ok-reduce-in-Reduce.field-0 c.reply_to.result c.args.self.now c.self.inside.account c.reduce.new.self c.in-Reduce.goal.0 c.in-Reduce.clause.0 (event_of c.args.event.now) c.self.view_is (sym (ap event_of c.in-Reduce.is)) c.reply_to.ensures c.in_ok-reduce-in-Reduce.ensures.step
 
 pub returns-in-Load-clause-step : goal.returns-in-Load-clause-step
 returns-in-Load-clause-step g c =

@@ -1,14 +1,7 @@
-use Rattle.kl1_user_account.proofs.Words.{refl, sym, ◌∙◌, meaning}
-use Rattle.kl1_user_account.proofs.Counting.{alive_read}
+use Rattle.std.proofs.Common.{refl}
+use Rattle.kl1_user_account.specs.Accounts.{kept_in}
+use Rattle.kl1_user_account.proofs.Counting.{counts}
 use Rattle.kl1_user_account.proofs.account.Account.counted.Goals as goal
 
 pub returns : goal.returns
-returns g c = rw (← c.self.view_is) (λ f. record {
-  names_are = refl;
-  goals_are = alive_read (meaning f c.self.inside.machine.store.held) c.self.inside.machine.goals.goals ∙ sym c.alive.ensures;
-  variables_are = refl;
-  nodes_are = refl;
-  shoens_are = sym c.len.ensures.value;
-  entries_are = refl;
-  most_are = sym c.limits.ensures.value;
-})
+returns g c = λ f. counts (kept_in c.self.inside) c.args.self.now _ f c.self.view_is c.alive.ensures refl refl c.len.ensures.value refl c.limits.ensures.value

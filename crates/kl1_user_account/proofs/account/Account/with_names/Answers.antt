@@ -1,4 +1,7 @@
-use Rattle.kl1_user_account.proofs.Words.{ℕ, ◌≤◌, List, length, sym, ap, ◌∙◌, subst, MOST_NAMES, fresh_with, state_of}
+use Rattle.std.proofs.Common.{ℕ, ◌≤◌, List, length, sym, ap, ◌∙◌, subst}
+use Rattle.kl1_model.specs.declared.limits.TheConstants.{MOST_NAMES}
+use Rattle.kl1_model.specs.State.{fresh_with}
+use Rattle.kl1_user_effects.specs.Account.{state_of}
 use Rattle.kl1_user_account.proofs.GivenNames.{put_to_none}
 use Rattle.kl1_user_account.proofs.account.Account.with_names.Goals as goal
 

@@ -1,4 +1,5 @@
-use Rattle.kl1_user_account.proofs.Words.{◌≡◌, true, is_account_name}
+use Rattle.std.proofs.Common.{◌≡◌, true}
+use Rattle.kl1_model.specs.AccountName.{is_account_name}
 use Rattle.kl1_user_account.proofs.NameTexts.{account_is_text}
 use Rattle.kl1_user_account.proofs.account_name.AccountName.read.Goals as goal
 

@@ -1,4 +1,7 @@
-use Rattle.kl1_user_account.proofs.Words.{dedup_is, Contains-dedup_nat, Contains-from_dedup, Contains-permutation, IsPermutation-sym, IsStrictlyIncreasing-dedup}
+use Rattle.std.proofs.lemmas.List.Filters.{dedup_is}
+use Rattle.std.proofs.lemmas.List.Kept.{Contains-dedup_nat, Contains-from_dedup}
+use Rattle.std.proofs.lemmas.List.Sorted.{Contains-permutation, IsPermutation-sym}
+use Rattle.std.proofs.lemmas.Map.Keys.{IsStrictlyIncreasing-dedup}
 use Rattle.kl1_user_account.proofs.Awaiting.{same_on}
 use Rattle.kl1_user_account.proofs.viewing.awaiting.awaited_by.Goals as goal
 

@@ -1,5 +1,9 @@
-use Rattle.kl1_user_account.proofs.Words.{◌-◌, ◌++◌, ◌∷◌, [], map, take, sym, ap, ◌∙◌, filter, is_after, GoalView, goal_shown}
-use Rattle.kl1_user_account.proofs.Paging.{one_more, no_more, none_pass, first_after}
+use Rattle.std.proofs.Common.{◌-◌, ◌++◌, ◌∷◌, List, [], map, take, sym, ap, ◌∙◌}
+use Rattle.std.specs.Prelude.{filter}
+use Rattle.kl1_goals.specs.Lists.{is_after}
+use Rattle.kl1_user_events.specs.declared.goal_view.GoalView.{GoalView}
+use Rattle.kl1_user_account.specs.Viewed.{goal_shown}
+use Rattle.kl1_user_account.proofs.Paging.{one_more, no_more, take_nil, none_pass, first_after}
 use Rattle.kl1_user_account.proofs.viewing.goals.goals_from.Goals as goal
 
 pub returns-in_default : goal.returns-in_default
@@ -7,7 +11,7 @@ returns-in_default c =
     let gs = c.args.goals.now.goals in
     let left = filter (is_after c.loop-left.before) gs in
     no_more goal_shown c.loop-left.views.items (map goal_shown (take c.args.count (filter (is_after (c.args.from - 1)) gs))) c.loop-left.left left
-    (none_pass (is_after c.loop-left.before) gs (sym c.in_default.is ∙ c.after.ensures.goal)) c.loop-left.invariant
+    (ap (take c.loop-left.left) (none_pass (is_after c.loop-left.before) gs (sym c.in_default.is ∙ c.after.ensures.goal)) ∙ take_nil c.loop-left.left) c.loop-left.invariant
 
 pub loop-left-preserved : goal.loop-left-preserved
 loop-left-preserved c =

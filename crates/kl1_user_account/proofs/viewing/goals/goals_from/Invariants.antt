@@ -1,4 +1,7 @@
-use Rattle.kl1_user_account.proofs.Words.{◌≡◌, ◌-◌, ◌++◌, map, take, filter, is_after, goal_shown}
+use Rattle.std.proofs.Common.{◌≡◌, ◌-◌, ◌++◌, map, take}
+use Rattle.std.specs.Prelude.{filter}
+use Rattle.kl1_goals.specs.Lists.{is_after}
+use Rattle.kl1_user_account.specs.Viewed.{goal_shown}
 use Rattle.kl1_user_account.proofs.viewing.goals.goals_from.Given as goal
 
 -- what is shown so far, with what is still to be shown, is what is to be shown of all

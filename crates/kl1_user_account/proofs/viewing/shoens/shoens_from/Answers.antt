@@ -1,5 +1,7 @@
-use Rattle.kl1_user_account.proofs.Words.{◌+◌, ◌-◌, ◌++◌, ◌∷◌, [], map, take, drop, ap, ◌∙◌, ShoenView, shoen_shown}
-use Rattle.kl1_user_account.proofs.Paging.{one_more, no_more, first_shoen, no_shoen}
+use Rattle.std.proofs.Common.{◌+◌, ◌-◌, ◌++◌, ◌∷◌, List, [], map, take, drop, ap, ◌∙◌}
+use Rattle.kl1_user_events.specs.declared.shoen_view.ShoenView.{ShoenView}
+use Rattle.kl1_user_account.specs.Viewed.{shoen_shown}
+use Rattle.kl1_user_account.proofs.Paging.{one_more, no_more, take_nil, first_shoen, no_shoen}
 use Rattle.kl1_user_account.proofs.viewing.shoens.shoens_from.Goals as goal
 
 pub returns-in_default : goal.returns-in_default
@@ -7,7 +9,7 @@ returns-in_default c =
     let ss = c.args.shoens.now.shoens in
     let view = shoen_shown ss c.args.shoens.now.work c.args.goals.now.goals in
     no_more view c.loop-left.views.items (map view (take c.args.count (drop (c.args.from - 1) ss))) c.loop-left.left (drop c.loop-left.before ss)
-    (no_shoen ss c.loop-left.before c.len.ensures.numbered c.in_default.ensures.value) c.loop-left.invariant
+    (ap (take c.loop-left.left) (no_shoen ss c.loop-left.before c.len.ensures.numbered c.in_default.ensures.value) ∙ take_nil c.loop-left.left) c.loop-left.invariant
 
 pub loop-left-preserved : goal.loop-left-preserved
 loop-left-preserved c =

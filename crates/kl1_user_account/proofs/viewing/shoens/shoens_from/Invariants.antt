@@ -1,4 +1,5 @@
-use Rattle.kl1_user_account.proofs.Words.{◌≡◌, ◌-◌, ◌++◌, map, take, drop, shoen_shown}
+use Rattle.std.proofs.Common.{◌≡◌, ◌-◌, ◌++◌, map, take, drop}
+use Rattle.kl1_user_account.specs.Viewed.{shoen_shown}
 use Rattle.kl1_user_account.proofs.viewing.shoens.shoens_from.Given as goal
 
 -- what is shown so far, with what is still to be shown, is what is to be shown of all

@@ -1,4 +1,6 @@
-use Rattle.kl1_user_effects.proofs.Words.{ℕ, not, ◌+◌, ◌≡◌, length, take, sym, ap, ◌∙◌, subst, arith, with_texts, texts_of}
+use Rattle.std.proofs.Common.{ℕ, not, ◌+◌, ◌≡◌, length, take, sym, ap, ◌∙◌, subst, arith}
+use Rattle.kl1_clause.specs.NameList.{with_texts}
+use Rattle.kl1_user_effects.specs.Account.{texts_of}
 use Rattle.kl1_user_effects.proofs.KnownNames.{found_some, found_none}
 use Rattle.kl1_user_effects.proofs.KnownTexts.{counted_first, counted_new, counted_known}
 use Rattle.kl1_user_effects.proofs.names.AccountNames.count_new.Goals as goal

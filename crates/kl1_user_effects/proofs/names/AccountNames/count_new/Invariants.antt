@@ -1,4 +1,6 @@
-use Rattle.kl1_user_effects.proofs.Words.{◌≡◌, ◌+◌, ◌≤◌, length, take, with_texts, texts_of}
+use Rattle.std.proofs.Common.{◌≡◌, ◌+◌, ◌≤◌, length, take}
+use Rattle.kl1_clause.specs.NameList.{with_texts}
+use Rattle.kl1_user_effects.specs.Account.{texts_of}
 use Rattle.kl1_user_effects.proofs.names.AccountNames.count_new.Given as goal
 
 -- `count` of the texts so far are new

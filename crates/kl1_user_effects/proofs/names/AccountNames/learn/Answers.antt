@@ -1,4 +1,4 @@
-use Rattle.kl1_user_effects.proofs.Words.{sym, ap, ◌∙◌}
+use Rattle.std.proofs.Common.{sym, ap, ◌∙◌}
 use Rattle.kl1_user_effects.proofs.KnownNames.{found_none, put_known, put_names}
 use Rattle.kl1_user_effects.proofs.names.AccountNames.learn.Goals as goal
 

@@ -1,5 +1,4 @@
-use Rattle.kl1_user_effects.proofs.Words.{ℕ, sym, ap, ◌∙◌}
-use Rattle.std.proofs.Common.{Some, None}
+use Rattle.std.proofs.Common.{ℕ, Some, None, sym, ap, ◌∙◌}
 use Rattle.kl1_user_effects.proofs.KnownNames.{number_is}
 use Rattle.kl1_user_effects.proofs.names.AccountNames.number_of.Goals as goal
 

@@ -1,4 +1,8 @@
-use Rattle.kl1_user_effects.proofs.Words.{sym, ap, ◌∙◌, map-map, Known, texts_of, known_of}
+use Rattle.std.proofs.Common.{sym, ap, ◌∙◌}
+use Rattle.std.proofs.lemmas.Simd.{map-map}
+use Rattle.kl1_atoms.specs.declared.known.Known.{Known}
+use Rattle.kl1_user_effects.specs.Account.{texts_of}
+use Rattle.kl1_user_effects.specs.Shelving.{known_of}
 use Rattle.kl1_user_effects.proofs.names.AccountNames.texts.Goals as goal
 
 pub returns : goal.returns

@@ -1,0 +1,152 @@
+-- Goals that nothing woke stay as they stood.
+use Rattle.std.proofs.Common.{◌≡◌, ℕ, suc, ◌==◌, Bool, true, false, if◌then◌else◌, List, [], ◌∷◌, map, refl, sym, ap, ◌∙◌, arith, subst}
+use Rattle.std.specs.Prelude.{Contains, Option, Some, None, option_map}
+use Rattle.std.proofs.lemmas.Bool.{ne_eqb}
+use Rattle.kl1_model.specs.Term.{Term, substituted, Replacement}
+use Rattle.kl1_model.specs.Control.{Control, awaits_message, tells, tells_other, ends, breaks_off, control_of}
+use Rattle.kl1_model.specs.code.Awaited.{awaited_by_control, awaited_by_found}
+use Rattle.kl1_model.specs.code.Waits.{LeavesEach, term_clause, awaited_by_term, awaited_by_substitute, look_clause, substitute_clause}
+use Rattle.kl1_model.specs.laws.WaitsLaws.{control_substituted}
+use Rattle.kl1_model.proofs.Substitutions.{values_of, replaced_is}
+use Rattle.kl1_model.proofs.LookStays.{substitutes_stay}
+use Rattle.kl1_model.proofs.TermStays.{term_stays, is_replaced, left_alone}
+use Rattle.kl1_model.proofs.ControlStays.{control_stays}
+use Rattle.kl1_text.specs.declared.cell_name.CellName.{CellName}
+use Rattle.kl1_store.specs.declared.cell.Cell.{Cell}
+use Rattle.kl1_store.specs.Hooks.{Hook}
+use Rattle.kl1_store.specs.Held.{Held, IsIn}
+use Rattle.kl1_store.specs.Meaning.{term_of}
+use Rattle.kl1_store.specs.Later.{bound_since}
+use Rattle.kl1_store.specs.Sound.{IsFormed, Grown}
+use Rattle.kl1_store.proofs.Later.{is_later}
+use Rattle.kl1_goals.specs.declared.task.Task.{Task}
+use Rattle.kl1_goals.specs.declared.task.Task.TheVariants.{Monitor, Reduces, Substitutes}
+use Rattle.kl1_goals.specs.declared.goal.Goal.{Goal}
+use Rattle.kl1_shoen_paths.specs.declared.shoen.Shoen.{Shoen}
+use Rattle.kl1_shoen.specs.Shoens.{shoen_in}
+use Rattle.kl1_codes.specs.Finding.{contents}
+use Rattle.kl1_codes.specs.Shelves.{Program}
+use Rattle.kl1_store_hooks.specs.Hanging.{HangsOnEach}
+use Rattle.kl1_user_effects.specs.Fitting.{Reading}
+use Rattle.kl1_user_effects.specs.Account.{meaning, task_with, aim}
+use Rattle.kl1_user_effects.specs.Kept.{IsTaskIn, AreShoensIn}
+use Rattle.kl1_user_effects.specs.Settled.{control_at, front_with, control_with, control_clause, monitor_clause, awaited_by_monitor, task_clause, awaited_by_task, IsSettled}
+use Rattle.kl1_user_effects.proofs.Aims.{aim_later}
+
+-- a number hangs on no variable of these
+abbrev pub HangsOnNone : List Hook → ℕ → List ℕ → Type 0
+HangsOnNone hooks n vs = (v : ℕ) → Contains vs v → Contains hooks (record { variable = v; number = n }) → ⊥
+
+never_replaced : (rs : List Replacement) (v : ℕ) → (Contains (map (λ r. r.number) rs) v → ⊥) → is_replaced rs v ≡ false
+never_replaced [] v h = refl
+never_replaced (r ∷ rs) v h =
+    ap (λ b. if b then true else is_replaced rs v) (ne_eqb v r.number (λ e. h (first_is e)))
+    ∙ never_replaced rs v (λ c. h (later c))
+  where
+    first_is : v ≡ r.number → Contains (r.number ∷ map (λ r. r.number) rs) v
+    first_is e = (0, omega arith, sym e)
+
+    later : Contains (map (λ r. r.number) rs) v → Contains (r.number ∷ map (λ r. r.number) rs) v
+    later c = (suc c.0, omega arith, c.2)
+
+-- a substitution that leaves each variable on which a number hangs
+leaves_hung : (rs : List Replacement) (hooks : List Hook) (n : ℕ) (vs : List ℕ) → HangsOnEach hooks n vs → HangsOnNone hooks n (map (λ r. r.number) rs) → LeavesEach (values_of rs) vs
+leaves_hung rs hooks n [] h free = tt
+leaves_hung rs hooks n (v ∷ vs) h free = (left_alone rs v (never_replaced rs v (λ c. free v c h.0)), leaves_hung rs hooks n vs h.1 free)
+
+-- ---- what a monitor reads
+
+-- the cell of a shoen's control stream is of the store
+pub control_in : (h : Held CellName) (shoens : List (Shoen CellName)) (n : ℕ) (x : Cell CellName) → AreShoensIn h shoens → control_at shoens n ≡ Some x → IsIn h x
+control_in h [] n x all e = absurd (cc)
+control_in h (s ∷ ss) n x all e = here (s.number == n) (control_in h ss n x all.1) e
+  where
+    here : (b : Bool) → (control_at ss n ≡ Some x → IsIn h x) → option_map (λ (k : Shoen CellName). k.control) (if b then Some s else shoen_in n ss) ≡ Some x → IsIn h x
+    here true later k = let I : Cell CellName → Type 0 = λ y. IsIn h y in subst I (let c : s.control ≡ x = cc in c) all.0.control
+    here false later k = later k
+
+clause_stays : (s : ℕ → Term) (c : Control) → control_clause (control_substituted s c) ≡ control_clause c
+clause_stays s (awaits_message v) = refl
+clause_stays s (tells m rest) = refl
+clause_stays s (tells_other m rest) = refl
+clause_stays s ends = refl
+clause_stays s (breaks_off t) = refl
+
+awaited_stays : (s : ℕ → Term) (c : Control) → awaited_by_control (control_substituted s c) ≡ awaited_by_control c
+awaited_stays s (awaits_message v) = refl
+awaited_stays s (tells m rest) = refl
+awaited_stays s (tells_other m rest) = refl
+awaited_stays s ends = refl
+awaited_stays s (breaks_off t) = refl
+
+-- a monitor that hangs on no variable that was bound waits as it did
+abbrev MonitorStays : Reading → Held CellName → Held CellName → Option (Cell CellName) → Type 0
+MonitorStays f old new x =
+    (monitor_clause (front_with (meaning f new) x) ≡ monitor_clause (front_with (meaning f old) x)) × (awaited_by_monitor (front_with (meaning f new) x) ≡ awaited_by_monitor (front_with (meaning f old) x))
+
+monitor_stays : (f : Reading) (hooks : List Hook) (old new : Held CellName) (n : ℕ) (x : Option (Cell CellName)) → IsFormed old → Grown old new → ((y : Cell CellName) → x ≡ Some y → IsIn old y) → HangsOnNone hooks n (bound_since old new) →
+    HangsOnEach hooks n (awaited_by_monitor (front_with (meaning f old) x)) → MonitorStays f old new x
+monitor_stays f hooks old new n None formed grown i free hung = (refl, refl)
+monitor_stays f hooks old new n (Some y) formed grown i free hung =
+    let l = is_later f old new formed grown in
+    let N : List ℕ → Type 0 = λ ns. HangsOnNone hooks n ns in
+    let t = term_of f old y in
+    let s = values_of l.replacements in
+    let is : term_of f new y ≡ substituted s t = l.means y (i y refl) ∙ replaced_is l.replacements t in
+    let stays : control_of (term_of f new y) ≡ control_substituted s (control_of t) =
+    ap control_of is ∙ control_stays s t (leaves_hung l.replacements hooks n (awaited_by_control (control_of t)) hung (subst N (sym l.numbers) free)) in
+    (ap control_clause stays ∙ clause_stays s (control_of t), ap awaited_by_control stays ∙ awaited_stays s (control_of t))
+
+-- ---- one goal
+
+-- what a task that hangs on no variable that was bound waits for, and its clause, stay
+abbrev TaskStays : Reading → Held CellName → Held CellName → Program → List (Shoen CellName) → List (Shoen CellName) → ℕ → Task CellName → Type 0
+TaskStays f old new program before after n t =
+    (task_clause program.rules (contents program.loaded) (control_with (meaning f new) after n) (task_with (meaning f new) t) ≡ task_clause program.rules (contents program.loaded) (control_with (meaning f old) before n) (task_with (meaning f old) t))
+    × (awaited_by_task program.rules (contents program.loaded) (control_with (meaning f new) after n) (task_with (meaning f new) t) ≡ awaited_by_task program.rules (contents program.loaded) (control_with (meaning f old) before n) (task_with (meaning f old) t))
+
+-- a store has grown from one that was formed, and the shoens that were there have its cells; a goal hangs on no variable that was bound
+-- since, and has the control stream before it that it had, if it's a monitor
+pub record StaysAlone (hooks : List Hook) (old new : Held CellName) (before after : List (Shoen CellName)) (g : Goal CellName) : Type 0 where
+  pub formed : IsFormed old
+  pub grown : Grown old new
+  pub inside : AreShoensIn old before
+  pub same : g.task ≡ Monitor → control_at after g.shoen ≡ control_at before g.shoen
+  pub free : HangsOnNone hooks g.number (bound_since old new)
+
+-- it is settled as it was
+pub stays_settled : (f : Reading) (hooks : List Hook) (old new : Held CellName) (program : Program) (before after : List (Shoen CellName)) (g : Goal CellName) → StaysAlone hooks old new before after g → IsTaskIn old g.task → IsSettled f hooks old program before g →
+    IsSettled f hooks new program after g
+stays_settled f hooks old new program before after g a i s =
+    let r = by_task g.task refl i s.hung in
+    let H : List ℕ → Type 0 = λ vs. HangsOnEach hooks g.number vs in
+    record { standing = s.standing ∙ sym r.0; hung = subst H (sym r.1) s.hung }
+  where
+    by_task : (t : Task CellName) → g.task ≡ t → IsTaskIn old t → HangsOnEach hooks g.number (awaited_by_task program.rules (contents program.loaded) (control_with (meaning f old) before g.shoen) (task_with (meaning f old) t)) → TaskStays f old new program before after g.shoen t
+    by_task Monitor e i hung =
+        let stays = monitor_stays f hooks old new g.number (control_at before g.shoen) a.formed a.grown (λ y c. control_in old before g.shoen y a.inside c) a.free hung in
+        let is = a.same e in
+        (ap (λ x. monitor_clause (front_with (meaning f new) x)) is ∙ stays.0, ap (λ x. awaited_by_monitor (front_with (meaning f new) x)) is ∙ stays.1)
+    by_task (Reduces x) e i hung =
+        let l = is_later f old new a.formed a.grown in
+        let N : List ℕ → Type 0 = λ ns. HangsOnNone hooks g.number ns in
+        let t = aim f old x in
+        let is : aim f new x ≡ substituted (values_of l.replacements) t = aim_later f old new x l i ∙ replaced_is l.replacements t in
+        let stays = term_stays program.rules (contents program.loaded) (values_of l.replacements) t (leaves_hung l.replacements hooks g.number (awaited_by_term program.rules (contents program.loaded) t) hung (subst N (sym l.numbers) a.free)) in
+        (ap (term_clause program.rules (contents program.loaded)) is ∙ stays.0, ap (awaited_by_term program.rules (contents program.loaded)) is ∙ stays.1)
+    by_task (Substitutes x) e i hung =
+        let l = is_later f old new a.formed a.grown in
+        let N : List ℕ → Type 0 = λ ns. HangsOnNone hooks g.number ns in
+        let t = term_of f old x in
+        let is : term_of f new x ≡ substituted (values_of l.replacements) t = l.means x i ∙ replaced_is l.replacements t in
+        let stays = substitutes_stay (values_of l.replacements) t (leaves_hung l.replacements hooks g.number (awaited_by_substitute t) hung (subst N (sym l.numbers) a.free)) in
+        (ap substitute_clause is ∙ ap look_clause stays, ap awaited_by_substitute is ∙ ap awaited_by_found stays)
+
+-- and stays so if more is hung
+pub hung_more : (hooks more : List Hook) (n : ℕ) (vs : List ℕ) → ((k : Hook) → Contains hooks k → Contains more k) → HangsOnEach hooks n vs → HangsOnEach more n vs
+hung_more hooks more n [] up h = tt
+hung_more hooks more n (v ∷ vs) up h = (up (record { variable = v; number = n }) h.0, hung_more hooks more n vs up h.1)
+
+pub settled_more : (f : Reading) (hooks more : List Hook) (h : Held CellName) (program : Program) (shoens : List (Shoen CellName)) (g : Goal CellName) → ((k : Hook) → Contains hooks k → Contains more k) → IsSettled f hooks h program shoens g → IsSettled f more h program shoens g
+settled_more f hooks more h program shoens g up s =
+    record { standing = s.standing; hung = hung_more hooks more g.number (awaited_by_task program.rules (contents program.loaded) (control_with (meaning f h) shoens g.shoen) (task_with (meaning f h) g.task)) up s.hung }
