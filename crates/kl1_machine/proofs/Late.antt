@@ -1,57 +1,44 @@
 -- What comes while the variable that is to become a name is still unbound.
-use Rattle.kl1_machine.proofs.Words.{◌≡◌, ℕ, ◌+◌, ◌-◌, ◌<◌, ◌≤◌, not, ◌&&◌, Bool, true, false, if◌then◌else◌, List, [], ◌∷◌, ◌++◌, length, take, get_or, refl, sym, ap, ◌∙◌, subst, find, Option, Some, None, option_map, OnOk, take_more, take_all, Term, State, shoen_at, path, broken_at, report, closed_at, close, exhausted_report, terminated_report, close_of, without_monitor, newly_exhausted, CellName, Held, has_number, changed, Reading, meaning, shoen_with, worked, ended_each, is_variable, is_tail_of, IsNoTail, StaysFree, KeepsFree, break_of, break_at, report_late, report_each_late, close_late_of, close_late, finished_late, finished_each_late, settle_charged_late, finds, turns_then, turns_as, turns_none, torn, changed_turns, changed_count, is_monitor_of, free_same, free_then, still_within, Machine, made, IsMachine, Since, Turns, TurnsAs, Becomes, having_goals, having_shoens, LivesEnd, LateAs}
-use Rattle.std.specs.Prelude.{filter, Result, Ok, Err}
+use Rattle.kl1_machine.proofs.Words.{◌≡◌, ℕ, ◌+◌, ◌-◌, ◌<◌, ◌≤◌, not, Bool, true, false, if◌then◌else◌, List, [], ◌∷◌, ◌++◌, length, take, get_or, refl, sym, ap, ◌∙◌, subst, find, Option, Some, None, option_map, OnOk, take_more, take_all, Term, State, shoen_at, path, broken_at, report, close, exhausted_report, terminated_report, close_of, without_monitor, newly_exhausted, CellName, Held, has_number, changed, Reading, meaning, shoen_with, worked, ended_each, is_tail_of, IsNoTail, StaysFree, KeepsFree, break_of, break_at, report_late, report_each_late, close_late_of, close_late, finished_late, finished_each_late, settle_charged_late, finds, torn, changed_turns, changed_count, is_monitor_of, free_same, free_then, still_within, Machine, made, IsMachine, Since, Turns, TurnsAs, Becomes, having_goals, having_shoens, LivesEnd, LateAs, ◌&&◌, is_variable, closed_at}
+use Rattle.std.specs.Prelude.{filter, Result}
+use Rattle.std.proofs.Common.{inl, inr}
+use Rattle.std.proofs.lemmas.Bool.{cases_Bool}
+use Rattle.kl1_user_effects.proofs.Frames.{on_ok_both}
 use Rattle.kl1_model.specs.State as model
 use Rattle.kl1_machine.proofs.Sincing.{since_same}
-use Rattle.kl1_machine.proofs.Ending.{unmonitored, lives_turn, ending_is, reached_is, AreReached}
+use Rattle.kl1_machine.proofs.Ending.{as_then, as_same, as_none, unmonitored, lives_turn, ending_is, reached_is, AreReached}
 
 -- ---- one change after another
 
 pub late_then : (v : ℕ) (f g : Reading → State → State) (m n o : Machine) → LateAs v f m n → LateAs v g n o → LateAs v (λ r s. g r (f r s)) m o
-late_then v f g m n o p q = record {
-  turns = λ ms. turns_then ms f g m.store.held n.store.held o.store.held (made m) (made n) (made o) (p.turns ms) (q.turns ms);
-  machine = q.machine;
-  named = record { name = q.named.name ∙ p.named.name; spelled = q.named.spelled ∙ p.named.spelled };
-  free = free_then v m.store.held n.store.held o.store.held p.free q.free;
-}
+late_then v f g m n o p q = record { does = as_then f g m n o p.does q.does; free = free_then v m.store.held n.store.held o.store.held p.free q.free }
 
 -- by a change that is the same for this machine
 late_as : (v : ℕ) (f g : Reading → State → State) (m n : Machine) → ((r : Reading) (s : State) → g r (worked r s m.store.held (made m)) ≡ f r (worked r s m.store.held (made m))) → LateAs v f m n → LateAs v g m n
-late_as v f g m n e p = record { turns = λ ms. turns_as ms f g m.store.held n.store.held (made m) (made n) (λ r knows s. e r s) (p.turns ms); machine = p.machine; named = p.named; free = p.free }
+late_as v f g m n e p = record { does = as_same f g m n e p.does; free = p.free }
 
 pub late_none : (v : ℕ) (m : Machine) → IsMachine m → LateAs v (λ f s. s) m m
-late_none v m i = record { turns = λ ms. turns_none ms (λ f s. s) m.store.held (made m) i.inside (λ f knows s. refl); machine = i; named = record { name = refl; spelled = refl }; free = free_same v m.store.held }
-
--- a change that leaves the variable
-pub late_free : (v : ℕ) (f : Reading → State → State) (m n : Machine) → StaysFree v m.store.held n.store.held → TurnsAs f m n → LateAs v f m n
-late_free v f m n free p = record { turns = p.turns; machine = p.machine; named = p.named; free = free }
+late_none v m i = record { does = as_none m i; free = free_same v m.store.held }
 
 -- a change that leaves the cells
 late_same : (v : ℕ) (f : Reading → State → State) (m n : Machine) → n.store.held ≡ m.store.held → TurnsAs f m n → LateAs v f m n
-late_same v f m n e p = let F : Held CellName → Type 0 = λ h. StaysFree v m.store.held h in late_free v f m n (subst F (sym e) (free_same v m.store.held)) p
+late_same v f m n e p = let F : Held CellName → Type 0 = λ h. StaysFree v m.store.held h in record { does = p; free = subst F (sym e) (free_same v m.store.held) }
 
 -- ---- tails that become a name
 
 break_by : (o : Option model.Shoen) (v n : ℕ) (s : State) (b : Bool) → is_tail_of v o ≡ b → break_of o v n s ≡ (if b then broken_at n s else s)
 break_by None v n s b e = ap (λ c. if c then broken_at n s else s) e
-break_by (Some h) v n s b e = by_case h.is_broken (is_variable v h.tail) ∙ ap (λ c. if c then broken_at n s else s) e
-  where
-    by_case : (c d : Bool) → (if c then s else if d then broken_at n s else s) ≡ (if not c && d then broken_at n s else s)
-    by_case true d = refl
-    by_case false d = refl
+break_by (Some h) v n s b e =
+    let is : break_of (Some h) v n s ≡ (if not h.is_broken && is_variable v h.tail then broken_at n s else s) =
+    elim (cases_Bool h.is_broken) [ inl broken ↦ rw broken | inr unbroken ↦ rw unbroken ] in
+    is ∙ ap (λ c. if c then broken_at n s else s) e
 
 close_by : (o : Option model.Shoen) (v : ℕ) (s : State) (b : Bool) → is_tail_of v o ≡ b → close_late_of o v s ≡ (if b then s else close_of o s)
-close_by None v s b e = by_case b
-  where
-    by_case : (c : Bool) → s ≡ (if c then s else s)
-    by_case true = refl
-    by_case false = refl
-close_by (Some h) v s b e = by_case h.is_broken (is_variable v h.tail) ∙ ap (λ c. if c then s else if h.is_broken then s else closed_at h.tail s) e
-  where
-    by_case : (c d : Bool) → (if c then s else if d then s else closed_at h.tail s) ≡ (if not c && d then s else if c then s else closed_at h.tail s)
-    by_case true d = refl
-    by_case false true = refl
-    by_case false false = refl
+close_by None v s b e = ap (λ c. if c then s else s) e
+close_by (Some h) v s b e =
+    let is : close_late_of (Some h) v s ≡ (if not h.is_broken && is_variable v h.tail then s else if h.is_broken then s else closed_at h.tail s) =
+    elim (cases_Bool h.is_broken) [ inl broken ↦ rw broken | inr unbroken ↦ rw unbroken ] in
+    is ∙ ap (λ c. if c then s else close_of (Some h) s) e
 
 -- whether the tail of a shoen's unbroken stream becomes a name
 abbrev pub IsTail : ℕ → ℕ → Bool → Machine → Type 0
@@ -75,7 +62,10 @@ late_torn m n v i is =
     let turns : Turns (λ f. B) m (with_torn n m) = λ ms. changed_turns ms h w n torn (λ x. record x { is_broken = true }) i.inside (λ s k. record { control = k.control; tail = k.tail; origin = k.origin; low = k.low; high = k.high }) (λ r s. refl) in
     late_as v (λ f. B) (λ f. break_at v n) m (with_torn n m)
     (λ f s. found_leads m n f s (λ o. break_of o v n) ∙ break_by (option_map (shoen_with (meaning f h)) (find (has_number n) m.shoens.shoens)) v n (worked f s h w) true (is f))
-    (record { turns = turns; machine = record { inside = (turns []).inside; last = i.last; placed = i.placed; known = i.known ∙ sym (changed_count n torn m.shoens.shoens) }; named = record { name = refl; spelled = refl }; free = free_same v h })
+    (record {
+      does = record { turns = turns; machine = record { inside = (turns []).inside; last = i.last; placed = i.placed; known = i.known ∙ sym (changed_count n torn m.shoens.shoens) }; named = record { name = refl; spelled = refl } };
+      free = free_same v h;
+    })
 
 -- a stream whose tail doesn't become a name stays as it is
 pub late_untorn : (m : Machine) (n v : ℕ) → IsMachine m → IsTail v n false m → LateAs v (λ f. break_at v n) m m
@@ -103,10 +93,6 @@ late_closed m k n v is p =
 
 -- ---- by what calls tell of their results
 
-both_ok : {T E : Type 0} (r : Result T E) (P Q R : Type 0) → (P → Q → R) → OnOk r P → OnOk r Q → OnOk r R
-both_ok (Ok x) P Q R f p q = f p q
-both_ok (Err x) P Q R f p q = tt
-
 -- a variable of a machine is one of what it has come to
 pub within_then : (v : ℕ) (m n : Machine) → v < m.store.held.variables → (Since m m → Since m n) → v < n.store.held.variables
 within_then v m n lt since = still_within v m.store.held n.store.held lt (since (since_same m)).keeps.grown.held
@@ -115,14 +101,15 @@ within_then v m n lt since = still_within v m.store.held n.store.held lt (since 
 pub late_told : {T E : Type 0} (r : Result T E) (m n o : Machine) (k v : ℕ) (t : Term) → v < n.store.held.variables → IsNoTail v k n.store.held n.shoens.shoens → LateAs v (λ f. break_at v k) m n →
     OnOk r (TurnsAs (λ f. report k t) n o) → OnOk r (KeepsFree k n.shoens.shoens n.store.held o.store.held) → OnOk r (LateAs v (λ f. report_late v k t) m o)
 late_told r m n o k v t within untold broke told free =
-    both_ok r (TurnsAs (λ f. report k t) n o) (KeepsFree k n.shoens.shoens n.store.held o.store.held) (LateAs v (λ f. report_late v k t) m o)
-    (λ p q. late_then v (λ f. break_at v k) (λ f. report k t) m n o broke (late_free v (λ f. report k t) n o (q v within untold) p)) told free
+    on_ok_both r
+    (λ p (q : KeepsFree k n.shoens.shoens n.store.held o.store.held).
+    late_then v (λ f. break_at v k) (λ f. report k t) m n o broke (record { does = p; free = q v within untold }))
+    told free
 
 -- the end of a stream whose tail doesn't become a name
 pub late_closes : {T E : Type 0} (r : Result T E) (m o : Machine) (k v : ℕ) → v < m.store.held.variables → IsTail v k false m → OnOk r (TurnsAs (λ f. close k) m o) → OnOk r (KeepsFree k m.shoens.shoens m.store.held o.store.held) → OnOk r (LateAs v (λ f. close_late v k) m o)
 late_closes r m o k v within is closing free =
-    both_ok r (TurnsAs (λ f. close k) m o) (KeepsFree k m.shoens.shoens m.store.held o.store.held) (LateAs v (λ f. close_late v k) m o)
-    (λ p q. late_closed m o k v is (late_free v (λ f. close k) m o (q v within is) p)) closing free
+    on_ok_both r (λ p (q : KeepsFree k m.shoens.shoens m.store.held o.store.held). late_closed m o k v is (record { does = p; free = q v within is })) closing free
 
 -- what is left of a termination
 pub late_finished : (m n o u : Machine) (k v : ℕ) → Becomes (having_goals (filter (λ g. not (is_monitor_of k g)) m.goals.goals) m) n → LateAs v (λ f. report_late v k terminated_report) n o → LateAs v (λ f. close_late v k) o u → LateAs v (λ f. finished_late v k) m u

@@ -1,11 +1,16 @@
 -- What a goal's move does to a machine, and a move with the charge before it.
-use Rattle.kl1_machine.proofs.Words.{◌≡◌, ℕ, suc, ◌||◌, Bool, List, [], ◌∷◌, length, refl, sym, ap, ◌∙◌, subst, Option, Some, None, BuiltIn, text_of, Candidate, State, charge, commits, raises, unifies, names, opens, goes, gives_way, raised, moved, CellName, Cell, Qualified, IsIn, Move, ExecuteArguments, order_at, IsOrder, IsCandidate, IsMove, Reduces, Goal, Numbered, Reading, meaning, goal_with, aim, IsOwned, worked, Knows, name_for, turns_as, replaced_turns, Machine, made, IsMachine, goal_at, Turns, with_goal, Puts, Charges, TurnsAs, Commits, UnifiesAs, OpensChild, Making, IsMade, MovesAs, ReadsAll, StandsFor}
+use Rattle.kl1_machine.proofs.Words.{◌≡◌, ℕ, suc, Bool, List, [], length, refl, sym, ap, ◌∙◌, subst, Some, BuiltIn, text_of, Candidate, State, charge, commits, raises, unifies, names, opens, goes, gives_way, raised, moved, CellName, Cell, Qualified, IsIn, Move, ExecuteArguments, order_at, IsOrder, IsCandidate, IsMove, Reduces, Goal, Numbered, Reading, meaning, goal_with, aim, IsOwned, worked, Knows, name_for, turns_as, replaced_turns, Machine, made, IsMachine, goal_at, Turns, with_goal, Puts, Charges, TurnsAs, Commits, UnifiesAs, OpensChild, Making, IsMade, MovesAs, ReadsAll, StandsFor, Predicate, taken_places}
 use Rattle.kl1_model.specs.Term as term
 use Rattle.kl1_model.specs.Reduction as model
 use Rattle.kl1_goals_moves.specs.declared.moves.Move.TheVariants as move
+use Rattle.kl1_goals_moves.specs.declared.trial.Trial.{Trial}
 use Rattle.kl1_user_effects.specs.Works as works
 use Rattle.kl1_machine.proofs.Ending.{as_none}
 use Rattle.kl1_machine.proofs.Naming.{found_is}
+
+-- a move of a goal by the clauses of a predicate, with what was tried of them
+abbrev pub tried : Predicate CellName → Move CellName → Trial CellName → Making
+tried p y t = record { predicate = p; move = y; places = taken_places t; text = t.text }
 
 -- what a goal does by a move
 abbrev moves_by : Goal CellName → Qualified CellName → Machine → (Reading → model.Move) → Reading → State → State
@@ -20,19 +25,10 @@ moves_as ms goal x m n k l is p =
 
 -- ---- commits
 
--- a candidate without a clause
-abbrev no_candidate : Candidate
-no_candidate = record { number = 0; clause = record { name = []; patterns = term.none; tests = []; section = 0; body = [] }; places = [] }
-
--- the candidate that a move commits to
+-- the candidate that a move commits to, or one without a clause
 abbrev candidate_in : model.Move → Candidate
 candidate_in (commits k) = k
-candidate_in (raises kind) = no_candidate
-candidate_in (unifies a b) = no_candidate
-candidate_in (names text a) = no_candidate
-candidate_in (opens o) = no_candidate
-candidate_in goes = no_candidate
-candidate_in gives_way = no_candidate
+candidate_in y = record { number = 0; clause = record { name = []; patterns = term.none; tests = []; section = 0; body = [] }; places = [] }
 
 pub moves_commit : (a : Making) (place : ℕ) (goal : Goal CellName) (x : Qualified CellName) (m n : Machine) → a.move ≡ move.Commits place → Commits (record { predicate = a.predicate; place = place; places = a.places }) goal x m n → MovesAs a goal x m n
 moves_commit a place goal x m n is c =
@@ -72,10 +68,8 @@ moves_nothing a goal x m is i = moves_one a move.Goes (λ f. goes) goal x m m is
 pub moves_giving_way : (a : Making) (goal : Goal CellName) (x : Qualified CellName) (m n : Machine) → a.move ≡ move.GivesWay → IsMachine m → IsIn m.store.held x.cell → IsOwned (length m.shoens.shoens) goal → Puts goal.shoen goal.priority (Reduces x) m n → MovesAs a goal x m n
 moves_giving_way a goal x m n is i inside own p =
     let come = with_goal (goal_at (suc m.counts.last_goal) goal.shoen goal.priority (Reduces x)) m in
-    let Q : Machine → Type 0 = λ z. IsMachine z → MovesAs a goal x m z in
-    subst Q (sym p.is)
-    (λ machine. moves_one a move.GivesWay (λ f. gives_way) goal x m come is (λ f k e. e) (record { turns = λ ms. replaced_turns ms m.store.held (made m) goal (Reduces x) i.inside inside own; machine = machine; named = record { name = refl; spelled = refl } }))
-    p.machine
+    let machine : IsMachine come = rw p.is at p.machine in
+    rw p.is (moves_one a move.GivesWay (λ f. gives_way) goal x m come is (λ f k e. e) (record { turns = λ ms. replaced_turns ms m.store.held (made m) goal (Reduces x) i.inside inside own; machine = machine; named = record { name = refl; spelled = refl } }))
 
 -- ---- a move with the charge before it
 
@@ -89,12 +83,11 @@ pub record RunsAs (a : Making) (goal : Goal CellName) (x : Qualified CellName) (
 
 pub runs : (a : Making) (b : Move CellName) (goal : Goal CellName) (x : Qualified CellName) (m c d u : Machine) (reached : Bool) → Charges goal.shoen m c reached → StandsFor b a c d → MovesAs (record a { move = b }) goal x d u → RunsAs a goal x m u
 runs a b goal x m c d u reached charges stands moves =
-    let y : Machine = record m { shoens = record m.shoens { work = goal.shoen ∷ m.shoens.work }; shifts = m.shifts || reached } in
-    let C : Machine → Type 0 = λ z. Turns (λ f. charge goal.shoen) m z → StandsFor b a z d → RunsAs a goal x m u in
-    let D : Machine → Type 0 = λ z. StandsFor b a y z → MovesAs (record a { move = b }) goal x z u → RunsAs a goal x m u in
-    subst C (sym charges.is)
-    (λ first stand. subst D (sym stand.is)
-    (λ p q. record {
+    let first = rw charges.is at charges.turns in
+    let stand = rw charges.is at stands in
+    let p = rw stand.is at stand in
+    let q = rw stand.is at moves in
+    record {
       turns = λ ms k key reads is.
           let then = q.turns ms (p.by k) (p.made_by ms k is) in
           record {
@@ -107,12 +100,4 @@ runs a b goal x m c d u reached charges stands moves =
       machine = q.machine;
       name = q.named.name;
       spelled = q.named.spelled;
-    })
-    stand moves)
-    charges.turns stands
-
--- a machine whose shoen was charged, and that was told a name, is what it was but for that
-pub charged_still : (P : Machine → Type 0) (n : ℕ) (m c d : Machine) (o : Option (List ℕ)) (reached : Bool) → Charges n m c reached → d ≡ record c { name = o } → P (record m { shoens = record m.shoens { work = n ∷ m.shoens.work }; shifts = m.shifts || reached; name = o }) → P d
-charged_still P n m c d o reached charges is p =
-    let Q : Machine → Type 0 = λ z. P (record z { name = o }) in
-    subst P (sym is) (subst Q (sym charges.is) p)
+    }

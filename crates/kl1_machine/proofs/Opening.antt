@@ -1,5 +1,5 @@
 -- Shoens that open, with their monitors and goals, and the children that goals open.
-use Rattle.kl1_machine.proofs.Words.{◌≡◌, ℕ, suc, ◌-◌, ◌<◌, ◌==◌, ◌&&◌, ◌||◌, Bool, true, false, if◌then◌else◌, List, [], ◌∷◌, ◌++◌, length, map, length-append, refl, sym, ap, ◌∙◌, subst, arith, nat_lt, find, Option, Some, list_any, ne_eqb, map-append, MONITOR_PRIORITY, number_of_term, State, limits_of, report, exhaustion, started_report, exhausted_report, clipped_to, open_child, clipped, opens, or_exhaustion, raised, moved, CellName, Cell, Qualified, ExecuteArguments, order_at, IsOrder, Monitor, Reduces, Task, Goal, is_monitor, is_monitor_of, Shoen, has_number, path_in, Reading, meaning, goal_with, shoen_with, aim, whole, AreOwned, worked, finds, path_read, child_of, Machine, made, IsMachine, goal_at, with_goal, with_shoen, Becomes, Puts, TurnsAs, JoinsAs, OpensAs, OpensChild}
+use Rattle.kl1_machine.proofs.Words.{◌≡◌, ℕ, suc, ◌-◌, ◌<◌, ◌==◌, ◌&&◌, ◌||◌, Bool, true, false, if◌then◌else◌, List, [], ◌∷◌, ◌++◌, length, map, length-append, refl, sym, ap, ◌∙◌, subst, arith, nat_lt, find, Option, Some, list_any, ne_eqb, map-append, MONITOR_PRIORITY, number_of_term, State, limits_of, report, exhaustion, started_report, exhausted_report, clipped_to, open_child, clipped, opens, or_exhaustion, raised, moved, CellName, Cell, Qualified, ExecuteArguments, order_at, IsOrder, Monitor, Reduces, Goal, is_monitor, is_monitor_of, Shoen, has_number, path_in, Reading, meaning, goal_with, shoen_with, aim, whole, AreOwned, worked, finds, path_read, child_of, Machine, made, IsMachine, goal_at, with_goal, with_shoen, Becomes, Puts, TurnsAs, JoinsAs, OpensAs, OpensChild}
 use Rattle.std.proofs.lemmas.List.{append_assoc}
 use Rattle.kl1_model.specs.State as model
 use Rattle.kl1_model.specs.Opening as opening
@@ -50,10 +50,6 @@ one_more h room m u b = ap (λ (y : Machine). length y.shoens.shoens) b.is ∙ l
 -- and it has no monitor as yet
 pub no_monitor_yet : (h : Shoen CellName) (room : ℕ) (m u : Machine) → IsMachine m → h.number ≡ suc (length m.shoens.shoens) → Becomes (with_shoen h room m) u → list_any (is_monitor_of h.number) u.goals.goals ≡ false
 no_monitor_yet h room m u i number b = ap (λ (y : Machine). list_any (is_monitor_of h.number) y.goals.goals) b.is ∙ no_monitor (length m.shoens.shoens) h.number m.goals.goals (omega (arith, number)) i.inside.owned
-
--- a goal that was put leaves shoens and store as they are
-pub put_beside : (shoen priority : ℕ) (task : Task CellName) (u v : Machine) → Puts shoen priority task u v → (v.store ≡ u.store) × (v.shoens ≡ u.shoens)
-put_beside shoen priority task u v p = (ap (λ (y : Machine). y.store) p.is, ap (λ (y : Machine). y.shoens) p.is)
 
 -- a shoen was taken in, then its monitor, and then its goal
 pub record Joins (h : Shoen CellName) (x : Cell CellName) (room : ℕ) (m u v w : Machine) : Type 0 where

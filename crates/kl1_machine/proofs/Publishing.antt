@@ -1,5 +1,5 @@
 -- A name that is published.
-use Rattle.kl1_machine.proofs.Words.{◌≡◌, ℕ, ◌+◌, ◌≤◌, ◌<◌, ◌^◌, true, List, [], ◌∷◌, length, refl, sym, ap, ◌∙◌, subst, inr, arith, leb-true, length-map, length_push, map-append, MOST_NAMES, with_name, AtomNo, CellName, Known, number_by, Adds, HasRoom, still_known, Kept, Spelled, texts_of, NameShelf, AreSmall, keeps_names, IsNewName, added_new, push_below, fits_less, new_named, Machine, made, Patches, CanPublish, IsNamed, Publishes}
+use Rattle.kl1_machine.proofs.Words.{◌≡◌, ℕ, ◌+◌, ◌≤◌, ◌<◌, ◌^◌, true, List, [], ◌∷◌, length, refl, sym, ap, ◌∙◌, subst, inr, arith, leb-true, length-map, length_push, map-append, MOST_NAMES, with_name, AtomNo, CellName, Known, number_by, Adds, HasRoom, still_known, Kept, Spelled, texts_of, NameShelf, AreSmall, keeps_names, IsNewName, added_new, fits_less, new_named, Machine, made, Patches, CanPublish, IsNamed, Publishes, all_append}
 use Rattle.std.proofs.Common.{Option, Some, None}
 
 -- a name that is new, which the account may use
@@ -26,7 +26,7 @@ named_one ks more t a k new small low number adds = record {
     fits = fits_less ks more (still_known ks t a more adds);
     reads = λ f fit. ap (λ n. f (record { number = n })) number ∙ fit.texts t a.number adds.number;
   };
-  small = subst AreSmall (sym (adds.known ∙ added_new ks t a new)) (push_below (2 ^ 32) ks (record { text = t; number = a }) small low);
+  small = subst AreSmall (sym (adds.known ∙ added_new ks t a new)) (all_append (λ (x : Known). x.number.number < 2 ^ 32) ks (record { text = t; number = a } ∷ []) small (low, tt));
 }
 
 -- no name is published if there is none

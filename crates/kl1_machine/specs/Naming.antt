@@ -35,7 +35,7 @@ use Rattle.kl1_machine.specs.declared.machine.Machine.{Machine}
 use Rattle.kl1_machine.specs.Machines.{made, IsMachine}
 use Rattle.kl1_machine.specs.declared.machine.naming.Named.{Named}
 use Rattle.kl1_machine.specs.declared.machine.naming.Named.TheVariants as named
-use Rattle.kl1_machine.specs.Effects.{Turns, KeepsName}
+use Rattle.kl1_machine.specs.Effects.{TurnsAs}
 use Rattle.kl1_machine.specs.Moving.{Making, IsMade}
 
 -- ---- which variable becomes a name
@@ -101,9 +101,7 @@ UsesName y text m n (named.Becomes v) = Spells v y text m n
 
 -- a machine has come on by this change of states, by which variable `v` stays as it is
 pub record LateAs (v : ℕ) (change : Reading → State → State) (m n : Machine) : Type 0 where
-  pub turns : Turns change m n
-  pub machine : IsMachine n
-  pub named : KeepsName m n
+  pub does : TurnsAs change m n
   pub free : StaysFree v m.store.held n.store.held
 
 -- ---- a variable that becomes a name

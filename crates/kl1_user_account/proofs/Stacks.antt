@@ -1,8 +1,9 @@
 -- Cells on a stack as nodes, one after another.
-use Rattle.kl1_user_account.proofs.Words.{◌≡◌, ℕ, suc, ◌+◌, ◌-◌, ◌<◌, ◌≤◌, List, [], ◌∷◌, ◌++◌, length, reverse, drop, refl, ap, ap₂, sym, ◌∙◌, subst, arith, Some, slice_get, get_or_from_slice_get, reverse-append, length-reverse, drop_more, Term, Terms, variable, atom, structure, none, more, size, sizes, list_of, count_of, structure-reads, with_node, CellName, Head, Cell, Held, IsWithin, IsIn, AreIn, AreWithin, arguments_of, term_of, terms_of, term_list, IsFormed, term_of-Structure, arguments_in, AreWithin-append, AreWithin-left, AreWithin-reverse, AreWithin-back, Top, Reading, meaning, node_with, count_at, stacked_terms, weight, ReadsTop, IsNext, Takes}
+use Rattle.kl1_user_account.proofs.Words.{◌≡◌, ℕ, ◌+◌, ◌-◌, ◌<◌, ◌≤◌, List, [], ◌∷◌, ◌++◌, length, reverse, drop, refl, ap, ap₂, sym, ◌∙◌, subst, arith, Some, slice_get, get_or_from_slice_get, reverse-append, length-reverse, drop_more, Term, Terms, variable, structure, none, more, size, sizes, list_of, structure-reads, with_node, CellName, Head, Cell, Held, IsWithin, IsIn, AreIn, AreWithin, arguments_of, term_of, terms_of, term_list, IsFormed, term_of-Structure, arguments_in, AreWithin-append, AreWithin-left, AreWithin-reverse, AreWithin-back, Top, Reading, meaning, node_with, count_at, stacked_terms, weight, ReadsTop, IsNext, Takes}
 use Rattle.std.proofs.Common.{length-append}
 use Rattle.kl1_term.specs.declared.node.Node.TheVariants as node
 use Rattle.kl1_store.specs.declared.cell.Cell.TheVariants.{Structure}
+use Rattle.kl1_store.proofs.Meetings.{count_of-terms_of}
 use Rattle.kl1_user_account.specs.declared.top.Top.TheVariants as top
 
 -- an argument more on a stack
@@ -28,18 +29,10 @@ plain_next h x n t stack inside e no_more reads some same = record {
   same = λ f g a b. record { node = same f g (sym (e f) ∙ a ∙ e g); terms = b };
 }
 
-pub same_atom : (a b : List ℕ) → atom a ≡ atom b → a ≡ b
-same_atom a b e = cc
-
 list_terms : (f : Reading) (h : Held CellName) (xs : List (Cell CellName)) → list_of (terms_of f h xs) ≡ term_list f h xs
 unfolding terms_of
 list_terms f h [] = refl
 list_terms f h (x ∷ xs) = ap (λ ts. term_of f h x ∷ ts) (list_terms f h xs)
-
-count_terms : (f : Reading) (h : Held CellName) (xs : List (Cell CellName)) → count_of (terms_of f h xs) ≡ length xs
-unfolding terms_of
-count_terms f h [] = refl
-count_terms f h (x ∷ xs) = ap suc (count_terms f h xs)
 
 term_list-append : (f : Reading) (h : Held CellName) (xs ys : List (Cell CellName)) → term_list f h (xs ++ ys) ≡ term_list f h xs ++ term_list f h ys
 term_list-append f h [] ys = refl
@@ -64,7 +57,7 @@ next_structure h x s head before after formed inside is found count put =
           let us = stacked_terms f h before in
           record {
             terms =
-                ap (λ n. with_node (node.Structure (f name) n) (stacked_terms f h after)) (count ∙ sym (count_terms f h xs))
+                ap (λ n. with_node (node.Structure (f name) n) (stacked_terms f h after)) (count ∙ sym (count_of-terms_of f h xs))
                 ∙ (structure-reads (f name) ts us (stacked_terms f h after) (all f) ∙ ap (λ t. t ∷ us) (sym (e f)));
             less = let w = ap weight (all f) in let z = ap size (e f) in omega (arith, w, z, weight-append ts us);
           };

@@ -1,5 +1,5 @@
 -- Terminations come apart: lives end first, and reports and closings come after.
-use Rattle.kl1_user_effects.proofs.Words.{◌≡◌, ℕ, suc, ◌==◌, true, if◌then◌else◌, List, [], ◌∷◌, refl, sym, ap, ◌∙◌, inl, inr, Option, Some, None, option_map, Terminated, Term, variable, integer, atom, structure, nil, cell, State, shoen_at, replace_in_shoen, replace_in_state, change_shoen, path, broken_at, has_made_last, report_tail, reported_on, reported_at, report, report_each, closed_at, close, exhausted_report, terminated_report, report_of, close_of, without_monitor, ended_at, terminate, terminate_each, ending_of, newly_exhausted, after_reduction, ended_each, finished, finished_each, cases_Bool}
+use Rattle.kl1_user_effects.proofs.Words.{◌≡◌, ℕ, suc, ◌==◌, true, if◌then◌else◌, List, [], ◌∷◌, refl, sym, ap, ◌∙◌, inl, inr, Option, Some, None, option_map, Terminated, Term, variable, nil, cell, State, shoen_at, replace_in_shoen, replace_in_state, change_shoen, path, has_made_last, report_tail, reported_on, reported_at, report, report_each, closed_at, close, exhausted_report, terminated_report, report_of, close_of, without_monitor, ended_at, terminate, terminate_each, ending_of, newly_exhausted, after_reduction, ended_each, finished, finished_each, cases_Bool}
 use Rattle.std.specs.Prelude.{map}
 use Rattle.kl1_model.specs.State.{Shoen}
 use Rattle.kl1_user_effects.proofs.Lists.{maps_both, find_by}
@@ -27,15 +27,14 @@ changed_ended n m f s e same = ap (λ (hs : List Shoen). let z : State = record 
       | inr p ↦ elim (cases_Bool (h.number == m)) [ inl q ↦ simp (p, q, ap (λ k. k == n) (same h) ∙ p) | inr q ↦ simp (p, q) ]
     ]
 
-broken_ended : (n m : ℕ) (s : State) → broken_at m (ended_at n s) ≡ ended_at n (broken_at m s)
-broken_ended n m s = changed_ended n m (λ h. record h { is_broken = true }) s (λ h. refl) (λ h. refl)
+-- a shoen changes before a variable is replaced, or after that
+pub change_replaced : (n v : ℕ) (t : Term) (f g : Shoen → Shoen) (s : State) → ((h : Shoen) → replace_in_shoen v t (f h) ≡ g (replace_in_shoen v t h)) → replace_in_state v t (change_shoen n f s) ≡ change_shoen n g (replace_in_state v t s)
+change_replaced n v t f g s e =
+    ap (λ (hs : List Shoen). let z : State = record (replace_in_state v t s) { shoens = hs } in z)
+    (maps_both (replace_in_shoen v t) (λ h. if h.number == n then f h else h) (λ h. if h.number == n then g h else h) (replace_in_shoen v t) (λ h. elim (cases_Bool (h.number == n)) [ inl p ↦ simp p (e h) | inr p ↦ simp p ]) s.shoens)
 
--- a variable replaced
-replace_ended : (n v : ℕ) (t : Term) (s : State) → replace_in_state v t (ended_at n s) ≡ ended_at n (replace_in_state v t s)
-replace_ended n v t s = ap (λ (hs : List Shoen). let z : State = record (replace_in_state v t s) { shoens = hs } in z) (maps_both (replace_in_shoen v t) (ended_if n) (ended_if n) (replace_in_shoen v t) one s.shoens)
-  where
-    one : (h : Shoen) → replace_in_shoen v t (ended_if n h) ≡ ended_if n (replace_in_shoen v t h)
-    one h = elim (cases_Bool (h.number == n)) [ inl p ↦ simp p | inr p ↦ simp p ]
+pub replace_ended : (n v : ℕ) (t : Term) (s : State) → replace_in_state v t (ended_at n s) ≡ ended_at n (replace_in_state v t s)
+replace_ended n v t s = change_replaced n v t over over s (λ h. refl)
 
 found_ended : (n m : ℕ) (hs : List Shoen) → shoen_at m (map (ended_if n) hs) ≡ option_map (ended_if n) (shoen_at m hs)
 found_ended n m hs = find_by (ended_if n) (λ h. h.number == m) (λ h. h.number == m) (λ h. elim (cases_Bool (h.number == n)) [ inl p ↦ simp p | inr p ↦ simp p ]) hs
@@ -43,7 +42,7 @@ found_ended n m hs = find_by (ended_if n) (λ h. h.number == m) (λ h. h.number 
 -- ---- reports and closings, after a shoen has ended
 
 told_ended : (n m : ℕ) (message : Term) (o : Option ℕ) (s : State) → reported_on m message o (ended_at n s) ≡ ended_at n (reported_on m message o s)
-told_ended n m message None s = broken_ended n m s
+told_ended n m message None s = changed_ended n m (λ h. record h { is_broken = true }) s (λ h. refl) (λ h. refl)
 told_ended n m message (Some v) s =
     let next = suc s.last_variable in
     let sent : State → State = λ z. record z { last_variable = next; reports = suc s.reports } in
@@ -71,9 +70,7 @@ close_ended n m s = ap (λ o. close_of o (ended_at n s)) (found_ended n m s.shoe
   where
     by_tail : (t : Term) → closed_at t (ended_at n s) ≡ ended_at n (closed_at t s)
     by_tail (variable v) = replace_ended n v nil s
-    by_tail (integer i) = refl
-    by_tail (atom a) = refl
-    by_tail (structure f ts) = refl
+    by_tail _ = refl
 
     by_case : (o : Option Shoen) → close_of (option_map (ended_if n) o) (ended_at n s) ≡ ended_at n (close_of o s)
     by_case None = refl

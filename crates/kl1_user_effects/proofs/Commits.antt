@@ -1,12 +1,11 @@
 -- Goals that commit, and goals that go.
-use Rattle.kl1_user_effects.proofs.Words.{◌≡◌, ℕ, suc, ◌+◌, ◌-◌, not, ◌&&◌, Bool, false, List, [], ◌∷◌, ◌++◌, length, map, refl, sym, ap, ap₂, ◌∙◌, arith, unwrap_or, nat_le, find, count_by, Option, Some, None, option_map, map-append, sum_by-cons, Term, Clause, goals_of, Candidate, body_instance, body_priorities, fresh_variables, goals_nodes, State, limits_of, shoen_at, clipped, priority_of, goals_from, has_room_for, committed, CellName, Qualified, Held, qualified_list, AreQualifiedIn, Grown, Monitor, Goal, is_monitor, Shoen, has_number, Needs, IsBody, AreNeeds, Numbered, Reading, Means, meaning, goal_with, shoen_with, AreGoalsIn, IsOwned, AreOwned, goals_for, priorities_by, Made, worked, IsMadeIn, Knows, Turns}
+use Rattle.kl1_user_effects.proofs.Words.{◌≡◌, ℕ, suc, ◌+◌, ◌-◌, not, ◌&&◌, Bool, false, List, [], ◌∷◌, ◌++◌, length, map, refl, sym, ap, ap₂, ◌∙◌, arith, unwrap_or, nat_le, find, count_by, Option, Some, None, option_map, map-append, sum_by-cons, Term, Clause, goals_of, Candidate, body_instance, body_priorities, fresh_variables, goals_nodes, State, limits_of, shoen_at, clipped, priority_of, goals_from, has_room_for, committed, CellName, Qualified, Held, qualified_list, AreQualifiedIn, Grown, Monitor, Goal, is_monitor, Shoen, has_number, Needs, IsBody, AreNeeds, Numbered, Reading, Means, meaning, goal_with, shoen_with, AreGoalsIn, IsOwned, AreOwned, goals_for, priorities_by, Made, worked, IsMadeIn, Knows, Turns, IsTaskIn, MONITOR_PRIORITY, le_trans, max-le, min-le_right, ◌≤◌}
 use Rattle.std.specs.Prelude.{cond}
 use Rattle.kl1_model.specs.State as model
-use Rattle.kl1_user_effects.proofs.Aims.{aim_is}
-use Rattle.kl1_user_effects.proofs.States.{Agree, same_goals, same_shoens}
+use Rattle.kl1_user_effects.proofs.States.{aim_is, Agree, same_goals, same_shoens}
 use Rattle.kl1_user_effects.proofs.Works.{finds, grown_made}
-use Rattle.kl1_user_effects.proofs.Goals.{goals_in_append, owned_append, count_read, monitor_read}
-use Rattle.kl1_user_effects.proofs.Lists.{maps_as}
+use Rattle.kl1_user_effects.proofs.Goals.{count_read, monitor_read}
+use Rattle.kl1_user_effects.proofs.Lists.{maps_as, all_append}
 
 -- ---- the goals of a body
 
@@ -34,6 +33,10 @@ priorities_read t (Some h) own ps = maps_as (priority_of (Some (shoen_with t h))
     one None = refl
     one (Some n) = refl
 
+-- a priority that is clipped to a range is at most a monitor's
+pub clipped_low : (low high n : ℕ) → low ≤ MONITOR_PRIORITY → high ≤ MONITOR_PRIORITY → clipped low high n ≤ MONITOR_PRIORITY
+clipped_low low high n a b = max-le a (le_trans (min-le_right n high) b)
+
 -- ---- a goal that commits
 
 -- what is made with the goals of a body after the others
@@ -60,9 +63,9 @@ commit_turns ms h k w goal o ps n cells candidate i a =
     record {
       inside = record {
         some = j.some;
-        goals = goals_in_append k w.goals added j.goals (goals_for_in k w.last_goal goal.shoen own_ps cells a.inside);
+        goals = all_append (λ (g : Goal CellName). IsTaskIn k g.task) w.goals added j.goals (goals_for_in k w.last_goal goal.shoen own_ps cells a.inside);
         shoens = j.shoens;
-        owned = owned_append (length w.shoens) w.goals added j.owned (goals_for_owned (length w.shoens) w.last_goal goal.shoen own_ps cells (record { low = a.owned.low; high = a.owned.high }));
+        owned = all_append (IsOwned (length w.shoens)) w.goals added j.owned (goals_for_owned (length w.shoens) w.last_goal goal.shoen own_ps cells (record { low = a.owned.low; high = a.owned.high }));
       };
       states = λ f knows s.
           let c = candidate f in

@@ -1,26 +1,22 @@
 -- A variable becomes a name before what comes after a goal's effects, or after that: it makes no difference.
-use Rattle.kl1_user_effects.proofs.Words.{◌≡◌, ℕ, suc, ◌≤◌, ◌==◌, ◌||◌, not, ◌&&◌, Bool, true, false, if◌then◌else◌, List, [], ◌∷◌, refl, sym, ap, ap₂, ◌∙◌, arith, inl, inr, codes, count_by, Option, Some, None, option_map, unwrap_or, cases_Bool, ne_eqb, map-map, Terminated, is_among, Term, variable, integer, atom, structure, Terms, none, more, occurs, replace, replace_each, nil, cell, monitor, reduces, substitutes, State, shoen_at, replace_in_task, replace_in_goal, replace_in_origin, replace_in_shoen, replace_in_state, change_shoen, is_living, parents_of, path_within, path, is_living_child, broken_at, has_made_last, report_tail, reported_on, reported_at, report, report_each, closed_at, close, exhausted_report, terminated_report, report_of, close_of, has_goal, has_living_child, lives, ends_now, without_monitor, ended_at, ending_of, has_reached, newly_exhausted, after_reduction, ended_each, finished, finished_each, is_variable, break_of, break_at, report_late, report_each_late, close_late_of, close_late, finished_late, finished_each_late, settle_charged_late}
+use Rattle.kl1_user_effects.proofs.Words.{◌≡◌, ℕ, suc, ◌≤◌, ◌==◌, ◌||◌, not, ◌&&◌, Bool, true, false, if◌then◌else◌, List, [], ◌∷◌, refl, sym, ap, ap₂, ◌∙◌, arith, inl, inr, codes, count_by, Option, Some, None, option_map, unwrap_or, cases_Bool, ne_eqb, map-map, is_among, Term, variable, atom, structure, Terms, none, more, occurs, replace, replace_each, nil, cell, monitor, reduces, substitutes, State, shoen_at, replace_in_task, replace_in_goal, replace_in_origin, replace_in_shoen, replace_in_state, change_shoen, is_living, parents_of, path_within, path, is_living_child, broken_at, has_made_last, report_tail, reported_on, reported_at, report, report_each, closed_at, close, exhausted_report, terminated_report, report_of, close_of, has_goal, has_living_child, lives, ends_now, without_monitor, ended_at, ending_of, has_reached, newly_exhausted, after_reduction, ended_each, finished, finished_each, is_variable, break_of, break_at, report_late, report_each_late, close_late_of, close_late, finished_late, finished_each_late, settle_charged_late}
 use Rattle.std.proofs.Common.{eqb-true}
 use Rattle.std.specs.Prelude.{map}
 use Rattle.kl1_model.specs.State.{Task, Goal, Origin, Shoen, is_monitor}
-use Rattle.kl1_user_effects.proofs.Apart.{settles_apart}
-use Rattle.kl1_user_effects.proofs.Lists.{maps_both, find_by, any_by, filter_each, held_by}
+use Rattle.kl1_user_effects.proofs.Apart.{change_replaced, replace_ended, settles_apart}
+use Rattle.kl1_user_effects.proofs.Lists.{maps_both, find_by, any_by, filter_each, found_by}
 
 -- ---- two variables replaced, one of them by an atom
-
-swapped_variable : (v w n : ℕ) (a : List ℕ) (u : Term) → (w == v) ≡ false → replace v (atom a) (if n == w then u else variable n) ≡ replace w (replace v (atom a) u) (if n == v then atom a else variable n)
-swapped_variable v w n a u e = elim (cases_Bool (n == w)) [
-  | inl p ↦ let other : (n == v) ≡ false = ap (λ x. x == v) (eqb-true n w p) ∙ e in simp (p, other)
-  | inr p ↦ elim (cases_Bool (n == v)) [ inl q ↦ simp (p, q) | inr q ↦ simp (p, q) ]
-]
 
 mutual
   -- a variable can become an atom before another is replaced, or after that
   pub swapped : (v w : ℕ) (a : List ℕ) (u : Term) → (w == v) ≡ false → (t : Term) → replace v (atom a) (replace w u t) ≡ replace w (replace v (atom a) u) (replace v (atom a) t)
-  swapped v w a u e (variable n) = swapped_variable v w n a u e
-  swapped v w a u e (integer i) = refl
-  swapped v w a u e (atom b) = refl
+  swapped v w a u e (variable n) = elim (cases_Bool (n == w)) [
+    | inl p ↦ let other : (n == v) ≡ false = ap (λ x. x == v) (eqb-true n w p) ∙ e in simp (p, other)
+    | inr p ↦ elim (cases_Bool (n == v)) [ inl q ↦ simp (p, q) | inr q ↦ simp (p, q) ]
+  ]
   swapped v w a u e (structure f ts) = ap (structure f) (swapped_each v w a u e ts)
+  swapped v w a u e _ = refl
 
   swapped_each : (v w : ℕ) (a : List ℕ) (u : Term) → (w == v) ≡ false → (ts : Terms) → replace_each v (atom a) (replace_each w u ts) ≡ replace_each w (replace v (atom a) u) (replace_each v (atom a) ts)
   swapped_each v w a u e none = refl
@@ -46,12 +42,6 @@ swapped_state v w a u e s =
     (maps_both (replace_in_shoen v (atom a)) (replace_in_shoen w u) (replace_in_shoen w (replace v (atom a) u)) (replace_in_shoen v (atom a)) (swapped_shoen v w a u e) s.shoens)
 
 -- ---- shoens that are changed and found
-
--- a shoen changes before a variable is replaced, or after that
-pub change_replaced : (n v : ℕ) (t : Term) (f g : Shoen → Shoen) (s : State) → ((h : Shoen) → replace_in_shoen v t (f h) ≡ g (replace_in_shoen v t h)) → replace_in_state v t (change_shoen n f s) ≡ change_shoen n g (replace_in_state v t s)
-change_replaced n v t f g s e =
-    ap (λ (hs : List Shoen). let z : State = record (replace_in_state v t s) { shoens = hs } in z)
-    (maps_both (replace_in_shoen v t) (λ h. if h.number == n then f h else h) (λ h. if h.number == n then g h else h) (replace_in_shoen v t) (λ h. elim (cases_Bool (h.number == n)) [ inl p ↦ simp p (e h) | inr p ↦ simp p ]) s.shoens)
 
 -- a shoen by its number, after a variable is replaced
 pub found_replaced : (n v : ℕ) (t : Term) (hs : List Shoen) → shoen_at n (map (replace_in_shoen v t) hs) ≡ option_map (replace_in_shoen v t) (shoen_at n hs)
@@ -96,16 +86,12 @@ told_on false n v w a b s le e =
 told_replaced : (n v : ℕ) (a b : List ℕ) (tail : Term) (s : State) → v ≤ s.last_variable → is_variable v tail ≡ false → reported_at n (atom b) (replace v (atom a) tail) (replace_in_state v (atom a) s) ≡ replace_in_state v (atom a) (reported_at n (atom b) tail s)
 told_replaced n v a b (variable w) s le e =
     ap (λ c. reported_at n (atom b) (if c then atom a else variable w) (replace_in_state v (atom a) s)) e ∙ told_on (occurs w (atom b) || has_made_last s) n v w a b s le e
-told_replaced n v a b (integer i) s le e = sym (broken_replaced n v (atom a) s)
-told_replaced n v a b (atom c) s le e = sym (broken_replaced n v (atom a) s)
-told_replaced n v a b (structure f ts) s le e = sym (broken_replaced n v (atom a) s)
+told_replaced n v a b _ s le e = sym (broken_replaced n v (atom a) s)
 
 -- a report on a stream whose tail has become a name breaks it
 told_bound : (n v : ℕ) (a b : List ℕ) (tail : Term) (s : State) → is_variable v tail ≡ true → reported_at n (atom b) (replace v (atom a) tail) s ≡ broken_at n s
 told_bound n v a b (variable w) s e = ap (λ c. reported_at n (atom b) (if c then atom a else variable w) s) e
-told_bound n v a b (integer i) s e = absurd (cc)
-told_bound n v a b (atom c) s e = absurd (cc)
-told_bound n v a b (structure f ts) s e = absurd (cc)
+told_bound n v a b _ s e = absurd (cc)
 
 report_found : (o : Option Shoen) (n v : ℕ) (a b : List ℕ) (s : State) → shoen_at n s.shoens ≡ o → v ≤ s.last_variable → report_of (option_map (replace_in_shoen v (atom a)) o) n (atom b) (replace_in_state v (atom a) s) ≡ replace_in_state v (atom a) (report n (atom b) (break_of o v n s))
 report_found None n v a b s p le = sym (ap (λ o. replace_in_state v (atom a) (report_of o n (atom b) s)) p)
@@ -128,15 +114,11 @@ report_replaced n v a b s le =
 
 closed_replaced : (v : ℕ) (a : List ℕ) (tail : Term) (s : State) → is_variable v tail ≡ false → closed_at (replace v (atom a) tail) (replace_in_state v (atom a) s) ≡ replace_in_state v (atom a) (closed_at tail s)
 closed_replaced v a (variable w) s e = ap (λ c. closed_at (if c then atom a else variable w) (replace_in_state v (atom a) s)) e ∙ sym (swapped_state v w a nil e s)
-closed_replaced v a (integer i) s e = refl
-closed_replaced v a (atom c) s e = refl
-closed_replaced v a (structure f ts) s e = refl
+closed_replaced v a _ s e = refl
 
 closed_bound : (v : ℕ) (a : List ℕ) (tail : Term) (s : State) → is_variable v tail ≡ true → closed_at (replace v (atom a) tail) s ≡ s
 closed_bound v a (variable w) s e = ap (λ c. closed_at (if c then atom a else variable w) s) e
-closed_bound v a (integer i) s e = refl
-closed_bound v a (atom c) s e = refl
-closed_bound v a (structure f ts) s e = refl
+closed_bound v a _ s e = refl
 
 close_found : (o : Option Shoen) (v : ℕ) (a : List ℕ) (s : State) → close_of (option_map (replace_in_shoen v (atom a)) o) (replace_in_state v (atom a) s) ≡ replace_in_state v (atom a) (close_late_of o v s)
 close_found None v a s = refl
@@ -152,17 +134,13 @@ close_replaced n v a s = ap (λ o. close_of o (replace_in_state v (atom a) s)) (
 -- ---- what doesn't depend on terms
 
 -- lives end before a variable is replaced or after that
-pub end_replaced : (n v : ℕ) (t : Term) (s : State) → ended_at n (replace_in_state v t s) ≡ replace_in_state v t (ended_at n s)
-end_replaced n v t s = sym (change_replaced n v t (λ h. record h { life = Terminated }) (λ h. record h { life = Terminated }) s (λ h. refl))
-
 pub ends_replaced : (ns : List ℕ) (v : ℕ) (t : Term) (s : State) → ended_each ns (replace_in_state v t s) ≡ replace_in_state v t (ended_each ns s)
 ends_replaced [] v t s = refl
-ends_replaced (n ∷ ns) v t s = ap (ended_each ns) (end_replaced n v t s) ∙ ends_replaced ns v t (ended_at n s)
+ends_replaced (n ∷ ns) v t s = ap (ended_each ns) (sym (replace_ended n v t s)) ∙ ends_replaced ns v t (ended_at n s)
 
 monitor_task : (v : ℕ) (t : Term) (k : Task) → is_monitor (replace_in_task v t k) ≡ is_monitor k
 monitor_task v t monitor = refl
-monitor_task v t (reduces u) = refl
-monitor_task v t (substitutes u) = refl
+monitor_task v t _ = refl
 
 -- a monitor goes before a variable is replaced or after that
 pub monitor_replaced : (n v : ℕ) (t : Term) (s : State) → without_monitor n (replace_in_state v t s) ≡ replace_in_state v t (without_monitor n s)
@@ -177,9 +155,7 @@ path_replaced : (n v : ℕ) (t : Term) (hs : List Shoen) → path (map (replace_
 path_replaced n v t hs = ap (λ (ns : List ℕ). path_within n ns n) (parents_replaced v t hs)
 
 lives_replaced : (n v : ℕ) (t : Term) (s : State) → lives n (replace_in_state v t s) ≡ lives n s
-lives_replaced n v t s =
-    ap (λ (o : Option Shoen). unwrap_or (option_map (λ h. is_living h.life) o) false) (found_replaced n v t s.shoens)
-    ∙ held_by (replace_in_shoen v t) (λ h. is_living h.life) (λ h. is_living h.life) (λ h. refl) (shoen_at n s.shoens)
+lives_replaced n v t s = found_by (replace_in_shoen v t) (λ h. h.number == n) (λ h. is_living h.life) (λ h. h.number == n) (λ h. is_living h.life) (λ h. refl) (λ h. refl) s.shoens
 
 ends_now_replaced : (n v : ℕ) (t : Term) (s : State) → ends_now n (replace_in_state v t s) ≡ ends_now n s
 ends_now_replaced n v t s =
@@ -192,13 +168,12 @@ pub ending_replaced : (ns : List ℕ) (v : ℕ) (t : Term) (s : State) → endin
 ending_replaced [] v t s = refl
 ending_replaced (n ∷ ns) v t s =
     ap (λ c. if c then n ∷ ending_of ns (ended_at n (replace_in_state v t s)) else ending_of ns (replace_in_state v t s)) (ends_now_replaced n v t s)
-    ∙ ap₂ (λ (xs ys : List ℕ). if ends_now n s then n ∷ xs else ys) (ap (ending_of ns) (end_replaced n v t s) ∙ ending_replaced ns v t (ended_at n s)) (ending_replaced ns v t s)
+    ∙ ap₂ (λ (xs ys : List ℕ). if ends_now n s then n ∷ xs else ys) (ap (ending_of ns) (sym (replace_ended n v t s)) ∙ ending_replaced ns v t (ended_at n s)) (ending_replaced ns v t s)
 
 has_reached_replaced : (n v : ℕ) (t : Term) (s : State) → has_reached (replace_in_state v t s) n ≡ has_reached s n
 has_reached_replaced n v t s =
     ap (λ (ps : List ℕ). unwrap_or (option_map (λ h. h.allowance == count_by (λ k. is_among n (path_within k ps k)) s.work) (shoen_at n (replace_in_state v t s).shoens)) false) (parents_replaced v t s.shoens)
-    ∙ ap (λ (o : Option Shoen). unwrap_or (option_map (λ h. h.allowance == count_by (λ k. is_among n (path s.shoens k)) s.work) o) false) (found_replaced n v t s.shoens)
-    ∙ held_by (replace_in_shoen v t) (λ h. h.allowance == count_by (λ k. is_among n (path s.shoens k)) s.work) (λ h. h.allowance == count_by (λ k. is_among n (path s.shoens k)) s.work) (λ h. refl) (shoen_at n s.shoens)
+    ∙ found_by (replace_in_shoen v t) (λ h. h.number == n) (λ h. h.allowance == count_by (λ k. is_among n (path s.shoens k)) s.work) (λ h. h.number == n) (λ h. h.allowance == count_by (λ k. is_among n (path s.shoens k)) s.work) (λ h. refl) (λ h. refl) s.shoens
 
 -- nor does which of them have reached their allowance
 pub reached_replaced : (ns ending : List ℕ) (v : ℕ) (t : Term) (s : State) → newly_exhausted (replace_in_state v t s) ending ns ≡ newly_exhausted s ending ns
@@ -232,9 +207,7 @@ report_late_more v n last message s le =
 
 closed_more : (last : ℕ) (tail : Term) (s : State) → last ≤ s.last_variable → last ≤ (closed_at tail s).last_variable
 closed_more last (variable w) s le = le
-closed_more last (integer i) s le = le
-closed_more last (atom a) s le = le
-closed_more last (structure f ts) s le = le
+closed_more last _ s le = le
 
 close_more_of : (o : Option Shoen) (v last : ℕ) (s : State) → last ≤ s.last_variable → last ≤ (close_late_of o v s).last_variable
 close_more_of None v last s le = le

@@ -1,5 +1,5 @@
 -- Reports, the end of a stream, exceptions and unifications.
-use Rattle.kl1_user_effects.proofs.Words.{◌≡◌, ℕ, ◌-◌, List, sym, ap, ◌∙◌, subst, inl, inr, find, Some, BuiltIn, text_of, Term, variable, integer, atom, structure, replace, replaced, nil, mgu, State, report, close, closed_at, exception, failure, close_of, raised, unified, equation, CellName, Qualified, Cell, Bound, Clash, Held, IsIn, Grown, UnifiesAs, EndsAt, ClosedAs, IsException, Goal, Shoen, has_number, Numbered, Reading, built, meaning, goal_with, aim, Made, worked, IsMadeIn, Turns, cases_Bool}
+use Rattle.kl1_user_effects.proofs.Words.{◌≡◌, ℕ, ◌-◌, List, sym, ap, ◌∙◌, subst, inl, inr, find, Some, BuiltIn, text_of, Term, variable, replace, replaced, nil, mgu, State, report, close, closed_at, exception, failure, close_of, raised, unified, equation, CellName, Qualified, Cell, Bound, Clash, Held, IsIn, Grown, UnifiesAs, EndsAt, ClosedAs, IsException, Goal, Shoen, has_number, Numbered, Reading, built, meaning, goal_with, aim, Made, worked, IsMadeIn, Turns, cases_Bool}
 use Rattle.kl1_user_effects.proofs.States.{replaced_state, all_replaced}
 use Rattle.kl1_user_effects.proofs.Works.{base, read_as, finds, rereads, turns_then, turns_as, grown_made}
 
@@ -10,9 +10,7 @@ ends_at f h k s w (variable v) i same e =
     replaced_state (base s w) v nil (meaning f h) (h.variables - 1) w.goals w.shoens
     ∙ rereads s (λ x. replace v nil (meaning f h x)) (meaning f k) (h.variables - 1) h w (λ x j. sym (e x)) i
     ∙ ap (λ n. read_as s (meaning f k) (n - 1) w) (sym same)
-ends_at f h k s w (integer n) i same e = ap (λ (x : Held CellName). worked f s x w) (sym e)
-ends_at f h k s w (atom a) i same e = ap (λ (x : Held CellName). worked f s x w) (sym e)
-ends_at f h k s w (structure g ts) i same e = ap (λ (x : Held CellName). worked f s x w) (sym e)
+ends_at f h k s w _ i same e = ap (λ (x : Held CellName). worked f s x w) (sym e)
 
 pub closed_turns : (ms : List Numbered) (h k : Held CellName) (w : Made) (n : ℕ) (sh : Shoen CellName) → Grown h k → IsMadeIn h w → find (has_number n) w.shoens ≡ Some sh → ClosedAs built h k sh.tail sh.is_broken → Turns ms (λ f. close n) h k w w
 closed_turns ms h k w n sh g i e c = record {

@@ -2,13 +2,14 @@
 pub use Rattle.std.proofs.Common.{Bool, IsSome, List, [], add-one, ap, ap₂, arith, bytes_eq, cond, drop, false, get_or, if◌then◌else◌, inl, inr, is_some, le_trans, length, length-append, length-take, map, not, refl, rules, subst, suc, sym, take, true, vec_capacity, vec_len, zero, ℕ, ◌&&◌, ◌*◌, ◌++◌, ◌+◌, ◌-◌, ◌<◌, ◌==◌, ◌^◌, ◌||◌, ◌∙◌, ◌∷◌, ◌≡◌, ◌≤◌, ◌⊎◌}
 pub use Rattle.std.proofs.Math.Bool.{and-false, or-true}
 pub use Rattle.std.proofs.Math.Nat.{max-le, min-le_right}
-pub use Rattle.std.proofs.lemmas.Bool.{cases_Bool, cases_lt, eq-eqb, eqb-false, eqb-true, false≢true, le-leb, le-ltb, leb-false, leb-true, lt-leb, lt-ltb, ne_eqb, or_cases}
+pub use Rattle.std.proofs.lemmas.Bool.{cases_Bool, cases_lt, eq-eqb, eqb-false, eqb-true, false_from_ne_true, false≢true, le-leb, le-ltb, leb-false, leb-true, lt-leb, lt-ltb, ne_eqb, or_cases, or_from, or_parts}
+pub use Rattle.std.proofs.lemmas.Bool.Decides.{same_from_decides}
 pub use Rattle.std.proofs.lemmas.List.{append-nil, append_assoc, get_or-take, get_or_default, length-map, length_push, map-append, take-append-drop, take_all, take_more}
 pub use Rattle.std.proofs.lemmas.List.Elements.{Contains-append_left, Contains-append_right, filter-append}
 pub use Rattle.std.proofs.lemmas.List.Folds.{list_any-append}
 pub use Rattle.std.proofs.lemmas.List.Sorted.{Contains-permutation, IsNonDecreasingBy-from_sort, searched}
 pub use Rattle.std.proofs.lemmas.List.Sums.{sum_by-cons}
-pub use Rattle.std.proofs.lemmas.Option.{slice_get_cases}
+pub use Rattle.std.proofs.lemmas.Map.Views.{Contains-from_any}
 pub use Rattle.std.proofs.lemmas.Simd.{map-map}
 pub use Rattle.std.proofs.lemmas.Slice.Eq.{bytes_eq-Decides}
 pub use Rattle.std.specs.HashMap.{HashMap}
@@ -57,10 +58,11 @@ pub use Rattle.kl1_atoms.specs.Names.{Adds, AreNames, HasRoom, added, number_by,
 pub use Rattle.kl1_atoms.specs.declared.known.Known.{Known}
 pub use Rattle.kl1_store.proofs.Grows.{Grown-trans, Grown-variable}
 pub use Rattle.kl1_store.proofs.InModules.{qualified_later}
+pub use Rattle.kl1_store.proofs.Meetings.{named}
 pub use Rattle.kl1_store.proofs.Renamed.{renamed_everywhere, term_of-renamed}
 pub use Rattle.kl1_store.proofs.Terms.{term_of-Atom, term_of-Integer, term_of-Structure, term_of-structure, term_of-unbound, term_of-variable}
 pub use Rattle.kl1_store.proofs.Walking.{bound_at, found_itself}
-pub use Rattle.kl1_store.specs.Held.{Held, IsIn, IsLower, IsWalked, Shape, arguments_of, found, is_bound, shape_arguments, with_variable}
+pub use Rattle.kl1_store.specs.Held.{Held, IsIn, IsLower, IsWalked, Shape, arguments_of, found, is_bound, with_variable}
 pub use Rattle.kl1_store.specs.Hooks.{HasGrown, Hook, Kept}
 pub use Rattle.kl1_store.specs.InModules.{AreQualifiedIn, in_module, qualified_list, qualified_term}
 pub use Rattle.kl1_store.specs.Later.{IsLater}

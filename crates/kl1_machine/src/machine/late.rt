@@ -8,7 +8,7 @@ ghost use Rattle.kl1_model.specs.Ending.{after_reduction};
 ghost use Rattle.kl1_shoen.specs.Shoens.{has_number};
 ghost use Rattle.kl1_user_effects.specs.Fitting.{Reading};
 ghost use Rattle.kl1_user_effects.specs.Account.{meaning, shoen_with};
-ghost use Rattle.kl1_user_effects.specs.Late.{is_tail_of, IsNoTail, break_at, report_late, report_each_late, close_late, finished_late, finished_each_late, settle_charged_late};
+ghost use Rattle.kl1_user_effects.specs.Late.{is_tail_of, IsNoTail, break_at, report_late, report_each_late, finished_late, finished_each_late, settle_charged_late};
 ghost use Rattle.kl1_machine.specs.declared.machine.Machine.{Machine};
 ghost use Rattle.kl1_machine.specs.Machines.{IsMachine};
 ghost use Rattle.kl1_machine.specs.Since.{Since, StillSince};
@@ -36,9 +36,7 @@ impl Machine {
         let _formed = self.store.mark();
         match self.store.walk(shoen.tail) {
             Cell::Variable(other) => other == variable,
-            Cell::Integer(_number) => false,
-            Cell::Atom(_name) => false,
-            Cell::Structure(_structure) => false,
+            _ => false,
         }
     }
 
@@ -84,19 +82,6 @@ impl Machine {
         Ok(())
     }
 
-    /// Ends the report stream of shoen `number`, if a variable becomes a name at the end.
-    fn close_late(&mut self, number: u64, variable: u32) -> Result<(), AllocError>
-        requires machine { IsMachine self.old }
-        requires within { variable < self.old.store.held.variables }
-        ensures ok { OnOk result (LateAs variable (λ f. close_late variable number) self.old self.new) }
-        ensures since { (b : Machine) → Since b self.old → StillSince result b self.new }
-    {
-        if self.is_tail(number, variable) {
-            return Ok(());
-        }
-        self.close(number)
-    }
-
     /// Does what is left of a termination after the shoen's life has ended, if a variable becomes a name at the end.
     fn finish_late(&mut self, number: u64, variable: u32) -> Result<(), AllocError>
         requires machine { IsMachine self.old }
@@ -106,7 +91,10 @@ impl Machine {
     {
         self.remove_monitor(number)?;
         self.report_late(number, variable, BuiltIn::Terminated)?;
-        self.close_late(number, variable)
+        if self.is_tail(number, variable) {
+            return Ok(());
+        }
+        self.close(number)
     }
 
     /// Does what is left of the terminations of these shoens, in order, if a variable becomes a name at the end.

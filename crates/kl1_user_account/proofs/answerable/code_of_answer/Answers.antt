@@ -1,6 +1,6 @@
 use Rattle.kl1_user_account.proofs.Words.{◌≡◌, ◌&&◌, true, [], sym, ap, ap₂, ◌∙◌, refl, Option, Some, None, Term, may_answer, answer_by, State, has_substitutes, names_of, with_names, Transition, unless, Refusal, with_kept, origin_in, refusals_of, refused_or, has_room_to_answer_beside}
 use Rattle.kl1_user_account.proofs.AnswerSteps.{IsJudged, refused_wrong, refused_nowhere, refused_ended, answer_steps, answerable}
-use Rattle.kl1_user_account.proofs.StartChecks.{right_report}
+use Rattle.kl1_user_account.proofs.StartChecks.{may_answer_is}
 use Rattle.kl1_user_account.proofs.answerable.code_of_answer.Goals.{After-origin_at, After-refusal_of}
 use Rattle.kl1_user_account.proofs.answerable.code_of_answer.Goals as goal
 
@@ -54,7 +54,7 @@ unanswered_at-requires-clause-reports c =
     (origin_in m.store.held c.args.number m.shoens.shoens c.in-Some.origin c.requires.shoens (sym c.origin_at.ensures ∙ c.in-Some.is)).reports
 
 pub unanswered_at-requires-clause-report : goal.unanswered_at-requires-clause-report
-unanswered_at-requires-clause-report c = right_report c.args.number c.args.report c.args.goal.now (sym c.in_ok-may_answer.ensures ∙ c.if-not-branch.false)
+unanswered_at-requires-clause-report c = (may_answer_is c.args.number c.args.report c.args.goal.now (sym c.in_ok-may_answer.ensures ∙ c.if-not-branch.false)).2
 
 pub returns-in-None : goal.returns-in-None
 returns-in-None c = λ f reads s goals same at.

@@ -7,19 +7,17 @@ use Rattle.kl1_machine.proofs.Unifying.{same_grows}
 pub unify_constant-requires-clause-unbound : goal.unify_constant-requires-clause-unbound
 unify_constant-requires-clause-unbound c = free_unbound c.args.variable c.args.self.now.store.held c.requires.free c.mark-before.ensures.formed c.requires.within
 
-pub returns-clause-ok : goal.returns-clause-ok
-returns-clause-ok c =
-    let m = c.args.self.now in
-    let e = c.in_ok-unify_constant.ensures in
-    let bound = e.held ∙ ap (λ n. let a : CellName = record { number = n } in with_binding m.store.held c.args.variable (Atom a)) c.spare.ensures in
-    spares m c.unify_constant.new.self c.args.variable c.mark-before.result c.requires.machine c.mark-before.ensures.formed c.requires.within c.requires.free c.mark-before.ensures.point bound e.hooks
-
-pub returns-clause-since : goal.returns-clause-since
-returns-clause-since c b s =
+pub returns : goal.returns
+returns c =
     let m = c.args.self.now in
     let k = c.unify_constant.new.self in
+    let v = c.args.variable in
     let e = c.in_ok-unify_constant.ensures in
-    since_spelled b (record m { store = k }) (Some (record { variable = c.args.variable; before = c.mark-before.result })) (since_store b m k (bound_grows m k c.args.variable (Atom c.spare.result) e.held e.hooks) s)
+    let bound = e.held ∙ ap (λ n. let a : CellName = record { number = n } in with_binding m.store.held v (Atom a)) c.spare.ensures in
+    record {
+      ok = spares m k v c.mark-before.result c.requires.machine c.mark-before.ensures.formed c.requires.within c.requires.free c.mark-before.ensures.point bound e.hooks;
+      since = λ b s. since_spelled b (record m { store = k }) (Some (record { variable = v; before = c.mark-before.result })) (since_store b m k (bound_grows m k v (Atom c.spare.result) e.held e.hooks) s);
+    }
 
 pub returns-in_err-unify_constant-clause-since : goal.returns-in_err-unify_constant-clause-since
 returns-in_err-unify_constant-clause-since c b s =

@@ -1,4 +1,4 @@
-use Rattle.kl1_machine.proofs.Words.{List, ℕ, ◌∙◌, sym, subst, on_ok_weaker, exhausted_report, report_each_late, finished_each_late, LivesEnd}
+use Rattle.kl1_machine.proofs.Words.{◌∙◌, on_ok_weaker, exhausted_report, report_each_late, finished_each_late, LivesEnd}
 use Rattle.kl1_machine.proofs.Late.{late_settles, late_then, within_then}
 use Rattle.kl1_machine.proofs.machine.Machine.end_path_late.Goals as goal
 
@@ -14,8 +14,7 @@ returns-clause-ok c =
     let m = c.args.self.now in
     let u = c.end_lives.new.self in
     let ending = c.as_slice-ending.result.now in
-    let P : List ℕ → Type 0 = λ ns. LivesEnd c.args.number ns m u in
-    let ends = subst P (sym c.as_slice-ending.ensures.value) c.in_ok-end_lives.ensures.ok in
+    let ends : LivesEnd c.args.number ending m u = rw c.as_slice-ending.ensures.value c.in_ok-end_lives.ensures.ok in
     on_ok_weaker c.finish_each_late.result
     (λ finished. late_settles m u c.finish_each_late.new.self c.args.number c.args.variable ending c.as_slice.result.now c.requires.machine ends (c.as_slice.ensures.value ∙ c.in_ok-find_reached.ensures)
     (late_then c.args.variable (λ f. report_each_late c.args.variable c.as_slice.result.now exhausted_report) (λ f. finished_each_late c.args.variable ending) u _ _ c.in_ok-report_each_late.ensures.ok finished))

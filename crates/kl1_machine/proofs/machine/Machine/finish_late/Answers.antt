@@ -1,14 +1,21 @@
-use Rattle.kl1_machine.proofs.Words.{on_ok_weaker}
-use Rattle.kl1_machine.proofs.Late.{late_finished, within_then}
+use Rattle.kl1_machine.proofs.Words.{◌∙◌, on_ok_weaker}
+use Rattle.kl1_machine.proofs.Late.{late_finished, late_unclosed, late_closes, within_then}
 use Rattle.kl1_machine.proofs.machine.Machine.finish_late.Goals as goal
 
 pub report_late-requires-clause-within : goal.report_late-requires-clause-within
 report_late-requires-clause-within c = within_then c.args.variable c.args.self.now c.remove_monitor.new.self c.requires.within (c.in_ok-remove_monitor.ensures.since c.args.self.now)
 
-pub close_late-requires-clause-within : goal.close_late-requires-clause-within
-close_late-requires-clause-within c =
-    within_then c.args.variable c.args.self.now c.report_late.new.self c.requires.within (λ s. c.in_ok-report_late.ensures.since c.args.self.now (c.in_ok-remove_monitor.ensures.since c.args.self.now s))
+pub returns-then-is_tail-clause-ok : goal.returns-then-is_tail-clause-ok
+returns-then-is_tail-clause-ok c =
+    let u = c.report_late.new.self in
+    let told = c.in_ok-report_late.ensures.ok in
+    late_finished c.args.self.now c.remove_monitor.new.self u u c.args.number c.args.variable c.in_ok-remove_monitor.ensures.ok told (late_unclosed u c.args.number c.args.variable told.does.machine (λ f. c.is_tail.ensures f ∙ c.if-is_tail.true))
 
 pub returns-clause-ok : goal.returns-clause-ok
 returns-clause-ok c =
-    on_ok_weaker c.close_late.result (late_finished c.args.self.now c.remove_monitor.new.self c.report_late.new.self c.close_late.new.self c.args.number c.args.variable c.in_ok-remove_monitor.ensures.ok c.in_ok-report_late.ensures.ok) c.close_late.ensures.ok
+    let m = c.args.self.now in
+    let u = c.report_late.new.self in
+    let v = c.args.variable in
+    let within = within_then v m u c.requires.within (λ s. c.in_ok-report_late.ensures.since m (c.in_ok-remove_monitor.ensures.since m s)) in
+    on_ok_weaker c.close.result (late_finished m c.remove_monitor.new.self u c.close.new.self c.args.number v c.in_ok-remove_monitor.ensures.ok c.in_ok-report_late.ensures.ok)
+    (late_closes c.close.result u c.close.new.self c.args.number v within (λ f. c.is_tail.ensures f ∙ c.if-is_tail.false) c.close.ensures.ok c.close.ensures.free)

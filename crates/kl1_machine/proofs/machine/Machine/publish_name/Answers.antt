@@ -17,9 +17,6 @@ intern-number-requires-clause-room g c =
     let new = new_name m.names.names m.name c.in-Some.text c.in-Some.is c.requires.can.name in
     subst (λ (ks : List Known). HasRoom ks c.in-Some.text) (sym c.requires.knows) (room_for_name m.names.names c.in-Some.text new.0 new.1)
 
-pub learn-requires : goal.learn-requires
-learn-requires g c = c.requires.can.room
-
 pub rebind_constant-requires-clause-bound : goal.rebind_constant-requires-clause-bound
 rebind_constant-requires-clause-bound g c = subst (λ (o : Option Spelled). IsBoundLast o c.args.self.now.store.held) c.in-Some-spelled.is c.requires.can.last
 
