@@ -294,7 +294,7 @@ goals_fewer (s ∷ ss) = fewer_on s.is_held s.goal (goals_in ss) (length ss) (go
 pub empty_counted : {N : Type 0} (ss : List (Slot N)) (empty : ℕ) (ranks : List ℕ) → AreSlots ss empty ranks → IsEmptyEnd ss → 0 < empty
 empty_counted ss empty ranks h e = omega (arith, ap length e.goals, goals_fewer (take (length ss - 1) ss), length-take-le (length ss - 1) ss (omega arith), e.some, h.counted)
 
-length_all : {N : Type 0} (gs : List (Goal N)) → filter (λ _. true) gs ≡ gs
+pub length_all : {N : Type 0} (gs : List (Goal N)) → filter (λ _. true) gs ≡ gs
 length_all [] = refl
 length_all (g ∷ gs) = ap (λ l. g ∷ l) (length_all gs)
 

@@ -6,6 +6,7 @@ pub mod Tabling
 pub mod Flagging
 pub mod Linking
 pub mod Chaining
+pub mod Shaping
 pub mod Restoring
 pub mod Walking
 pub mod Capping

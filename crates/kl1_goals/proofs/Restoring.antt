@@ -16,7 +16,8 @@ use Rattle.kl1_goals.specs.Tables.{Tabled, IsNext}
 use Rattle.kl1_goals.specs.Keeping.{Parts, IsTable, AreTables, parts, parts_then, places_then, kept_then}
 use Rattle.kl1_goals.proofs.Linking.{linked, tally_counts, counts_exchanged, chained_push, chained_counted, raised_last, lowered_last}
 use Rattle.kl1_goals.proofs.Changing.{linked_to, goals_push, below_added}
-use Rattle.kl1_goals.proofs.Chaining.{chained_emptied, below_changed}
+use Rattle.kl1_goals.proofs.Chaining.{chained_emptied}
+use Rattle.kl1_goals.proofs.Shaping.{below_changed}
 use Rattle.kl1_goals.proofs.Shoens.{lowered_tally, raised_tally}
 use Rattle.kl1_goals.proofs.Flagging.{alive_lowered, alive_raised}
 use Rattle.kl1_goals.proofs.Tabling.{empty_table}

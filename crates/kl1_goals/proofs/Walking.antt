@@ -13,7 +13,8 @@ use Rattle.kl1_goals.specs.Chains.{Shape, shape_in, last_at, IsLink, AreLinked, 
 use Rattle.kl1_goals.specs.Keeping.{Parts, IsTable}
 use Rattle.kl1_goals.proofs.Changing.{without_at, length_without}
 use Rattle.kl1_goals.proofs.Linking.{last_known, chained_less, tally_counts}
-use Rattle.kl1_goals.proofs.Chaining.{read_at, changed_set, emptied_first, emptied_last, goals_emptied, slots_shaped, less_shaped, below_shaped, count_shaped, tally_shaped}
+use Rattle.kl1_goals.proofs.Chaining.{read_at, changed_set, emptied_first, emptied_last, goals_emptied}
+use Rattle.kl1_goals.proofs.Shaping.{slots_shaped, less_shaped, below_shaped, count_shaped, tally_shaped}
 
 -- a shoen that is linked past empty places is known
 pub linked_known : (ts : List Tally) (n last link : ℕ) → link ≤ last → last ≡ last_at ts n → (link ≡ last → ⊥) → (0 < n) × (n ≤ length ts)

@@ -1,70 +1,36 @@
 -- A goal that comes in the place of a variable.
-use Rattle.kl1_machine.proofs.Words.{◌≡◌, ℕ, suc, ◌+◌, ◌-◌, ◌≤◌, ◌&&◌, Bool, true, false, if◌then◌else◌, List, [], ◌∷◌, ◌++◌, refl, sym, ap, ◌∙◌, arith, subst, max, nat_le, Some, None, IsTrue, AllByRecursion, and_parts, leb-true, ne_eqb, or_from, Term, variable, integer, atom, structure, Terms, none, more, occurs, occurs_in, replace, Replacement, each_substituted, replaced, after, highest, variables_of, variables_in, numbered_after, is_numbered, structures_of, Equation, conflicts, eliminates, equations_size, mgu_within, highest_among, mgu, is_goal, answered, with_next_variables, State, names_of, with_names, Reads, CellName, Cell, Variable, Unified, Bound, Clash, Held, is_bound, IsIn, Kept, SettlesTo, IsSolved, OnlyBound, equation_of, term_of-unbound, Grown-bound, Reading, built, meaning, worked, replaced_state, base, read_as, rereads, Machine, made, IsMachine, ReadsNames, BuildsGoal, Answer, counting, CanAnswer, Brings, IsNoVariable}
+use Rattle.kl1_machine.proofs.Words.{◌≡◌, ℕ, ◌+◌, ◌-◌, ◌≤◌, true, false, if◌then◌else◌, List, refl, sym, ap, ◌∙◌, arith, Some, None, ne_eqb, or_from, Term, variable, structure, Terms, none, more, occurs, occurs_in, replace, Replacement, each_substituted, replaced, highest, variables_of, variables_in, structures_of, mgu_within, highest_among, mgu, is_goal, answered, with_next_variables, State, names_of, with_names, Reads, CellName, Cell, Variable, Unified, Bound, Clash, Held, is_bound, IsIn, Kept, SettlesTo, IsSolved, OnlyBound, equation_of, Grown-bound, Reading, built, meaning, worked, replaced_state, base, read_as, rereads, Machine, made, IsMachine, ReadsNames, BuildsGoal, Answer, counting, CanAnswer, Brings, IsNoVariable, AreFromOne, numbered_from_one, one_left, one_right, front_solves, one_equation, one_by, sides}
 use Rattle.kl1_machine.proofs.Keeping.{Grows, grown_machine}
 
 -- ---- a goal with the next variables has none of those before
 
--- variables from 1 on
-abbrev AreFromOne : List ℕ → Type 0
-AreFromOne vs = AllByRecursion (λ v. 1 ≤ v) vs
-
-from_one : (seen : ℕ) (vs : List ℕ) → numbered_after seen vs ≡ true → AreFromOne vs
-from_one seen [] h = tt
-from_one seen (v ∷ vs) h =
-    let p = and_parts (nat_le 1 v && nat_le v (suc seen)) (numbered_after (max seen v) vs) h in
-    let q = and_parts (nat_le 1 v) (nat_le v (suc seen)) p.0 in
-    (leb-true 1 v q.0, from_one (max seen v) vs p.1)
-
-both_parts : (us vs : List ℕ) → AreFromOne (us ++ vs) → AreFromOne us × AreFromOne vs
-both_parts [] vs h = (tt, h)
-both_parts (u ∷ us) vs h = let p = both_parts us vs h.1 in ((h.0, p.0), p.1)
-
 mutual
   absent_before : (last v : ℕ) (t : Term) → v ≤ last → AreFromOne (variables_of t) → occurs v (with_next_variables last t) ≡ false
   absent_before last v (variable n) le low = let one = low.0 in ne_eqb v (last + n) (λ e. omega (arith, le, one, e))
-  absent_before last v (integer i) le low = refl
-  absent_before last v (atom a) le low = refl
   absent_before last v (structure f ts) le low = absent_in last v ts le low
+  absent_before last v _ le low = refl
 
   absent_in : (last v : ℕ) (ts : Terms) → v ≤ last → AreFromOne (variables_in ts) → occurs_in v (each_substituted (λ w. variable (last + w)) ts) ≡ false
   absent_in last v none le low = refl
   absent_in last v (more t ts) le low =
-      let p = both_parts (variables_of t) (variables_in ts) low in
-      or_from (occurs v (with_next_variables last t)) (occurs_in v (each_substituted (λ w. variable (last + w)) ts)) (absent_before last v t le p.0) (absent_in last v ts le p.1)
+      or_from (occurs v (with_next_variables last t)) (occurs_in v (each_substituted (λ w. variable (last + w)) ts))
+      (absent_before last v t le (one_left (variables_of t) (variables_in ts) low)) (absent_in last v ts le (one_right (variables_of t) (variables_in ts) low))
 
 -- ---- a variable that becomes a goal
 
 goal_no_variable : (last : ℕ) (t : Term) → is_goal t ≡ true → IsNoVariable (with_next_variables last t)
 goal_no_variable last (variable v) e = absurd (cc)
-goal_no_variable last (integer i) e = tt
-goal_no_variable last (atom a) e = tt
-goal_no_variable last (structure f ts) e = tt
-
--- the one replacement of a variable by a term
-abbrev one_by : ℕ → Term → List Replacement
-one_by v t = record { number = v; by = t } ∷ []
-
--- one equation of a variable and a term
-abbrev one_equation : ℕ → Term → List Equation
-one_equation v t = record { left = variable v; right = t } ∷ []
-
-front_solves : (last v : ℕ) (t : Term) (b : Bool) → after (mgu_within (suc (suc last)) 1) (λ to. mgu_within (suc last) (equations_size to) to) (if b then conflicts else eliminates v t []) ≡ (if b then None else Some (one_by v t))
-unfolding mgu_within
-front_solves last v t true = refl
-front_solves last v t false = refl
+goal_no_variable last _ e = tt
 
 solve_one : (v : ℕ) (t : Term) → IsNoVariable t → mgu (one_equation v t) ≡ (if occurs v t then None else Some (one_by v t))
 unfolding mgu_within
 solve_one v (variable w) n = absurd n
-solve_one v (integer i) n = front_solves (highest_among (one_equation v (integer i))) v (integer i) false
-solve_one v (atom a) n = front_solves (highest_among (one_equation v (atom a))) v (atom a) false
-solve_one v (structure f ts) n = front_solves (highest_among (one_equation v (structure f ts))) v (structure f ts) (occurs v (structure f ts))
+solve_one v t n = front_solves (highest_among (one_equation v t)) v t (occurs v t)
 
 -- an equation of an unbound variable and a cell of a goal has one solution
 solves_goal : (f : Reading) (h : Held CellName) (v : ℕ) (x : Cell CellName) (t : Term) → is_bound v h.bindings ≡ false → meaning f h x ≡ t → IsNoVariable t → occurs v t ≡ false → mgu (equation_of f h (Variable v) x) ≡ Some (one_by v t)
 solves_goal f h v x t unbound means plain free =
-    ap (λ l. let q : Equation = record { left = l; right = meaning f h x } in mgu (q ∷ [])) (term_of-unbound f h v unbound)
-    ∙ ap (λ r. let q : Equation = record { left = variable v; right = r } in mgu (q ∷ [])) means
+    ap mgu (sides f h v x t unbound means)
     ∙ solve_one v t plain
     ∙ ap (λ b. if b then None else Some (one_by v t)) free
 
@@ -102,7 +68,7 @@ module _ (numbers : List CellName) (w : Answer) (m a : Machine) (x : Cell CellNa
       let last = m.store.held.variables - 1 in
       let within = p.can.unbound.within in
       let free : is_bound v a.store.held.bindings ≡ false = ap (is_bound v) p.builds.bindings ∙ p.can.unbound.unbound in
-      let absent : occurs v put ≡ false = absent_before last v goal (omega (arith, within)) (from_one 0 (variables_of goal) p.can.numbered) in
+      let absent : occurs v put ≡ false = absent_before last v goal (omega (arith, within)) (numbered_from_one 0 (variables_of goal) p.can.numbered) in
       let solved = solves_goal f a.store.held v x put free (p.builds.means f reads names) (goal_no_variable last goal p.can.goal) absent in
       becomes_goal f a.store.held k v x put p.unified reads solved p.settles z ∙ ap (replace v put) (p.builds.kept f reads z i)
 
@@ -131,13 +97,10 @@ bound_grows a k only hooks = record { grown = Grown-bound a.store.held k.held on
 -- the machine has come on by the answer
 pub put_brings : (numbers : List CellName) (w : Answer) (m a : Machine) (x : Cell CellName) (k : Kept CellName) → IsPut numbers w m a x k.held → k.hooks ≡ a.store.hooks → Brings (answered w.variable w.code.now) w.code.now numbers m (record a { store = k })
 put_brings numbers w m a x k p hooks =
-    let B : Machine → Type 0 = λ y. IsMachine y → Brings (answered w.variable w.code.now) w.code.now numbers m y in
-    subst B (sym (ap (λ (y : Machine). let z : Machine = record y { store = k } in z) p.builds.rest))
-    (λ machine. record {
+    rw p.builds.rest (record {
       states = λ f reads names s. put_state numbers w m a x k.held p f reads names s;
       plain = λ f g one two names q. record { goals = q.goals; shoens = q.shoens };
-      machine = machine;
+      machine = rw p.builds.rest at (grown_machine a k (bound_grows a k p.only hooks) p.builds.machine);
       named = record { name = refl; spelled = refl };
       work = refl;
     })
-    (grown_machine a k (bound_grows a k p.only hooks) p.builds.machine)

@@ -1,5 +1,5 @@
 -- Goals of bodies that come after the others.
-use Rattle.kl1_machine.proofs.Words.{◌≡◌, ℕ, suc, ◌+◌, ◌-◌, ◌&&◌, not, Bool, true, false, List, [], ◌∷◌, ◌++◌, length, refl, sym, ap, ◌∙◌, arith, subst, append-nil, append_assoc, length-map, find, nat_le, count_by, Option, Some, option_map, unwrap_or, goals_of, Candidate, Term, substituted, clipped, body_priorities, body_variable, limits_of, commits, or_exhaustion, committed, raised, moved, exhaustion, Reads, CellName, Qualified, Held, Kept, AreQualifiedIn, Place, IsCandidate, IsBody, AreNeeds, Needs, Reduces, Goal, is_monitor, Shoen, has_number, Reading, built, meaning, goal_with, aim, IsOwned, goals_for, goal_at, priorities_by, Made, worked, count_read, turns_as, with_body, commit_turns, room_read, Machine, made, IsMachine, Keeps, with_goal, with_goals, Becomes, TurnsAs, Chosen, Commits}
+use Rattle.kl1_machine.proofs.Words.{◌≡◌, ℕ, suc, ◌+◌, ◌-◌, ◌&&◌, not, Bool, true, false, List, [], ◌∷◌, ◌++◌, length, refl, sym, ap, ◌∙◌, arith, subst, append-nil, append_assoc, length-map, find, nat_le, count_by, Option, Some, option_map, unwrap_or, goals_of, Candidate, Term, substituted, clipped, body_priorities, body_variable, limits_of, commits, or_exhaustion, committed, raised, moved, exhaustion, Reads, CellName, Qualified, Held, Kept, AreQualifiedIn, Place, IsCandidate, IsBody, AreNeeds, Needs, Reduces, Goal, is_monitor, Shoen, has_number, Reading, built, meaning, goal_with, aim, IsOwned, goals_for, goal_at, priorities_by, Made, worked, count_read, turns_as, with_body, commit_turns, room_read, Machine, made, IsMachine, with_goal, with_goals, Becomes, TurnsAs, Chosen, Commits}
 use Rattle.kl1_machine.proofs.Keeping.{Grows}
 
 -- ---- goals of a body

@@ -1,5 +1,5 @@
 -- Goals that the console brought, whose names are published.
-use Rattle.kl1_machine.proofs.Words.{◌≡◌, ℕ, ◌-◌, List, [], map, refl, sym, ap, ap₂, ◌∙◌, arith, subst, Option, Term, State, fresh, names_of, with_names, CellName, Held, Hook, with_texts, Program, Reading, Fits, meaning, goal_with, shoen_with, texts_of, names_with, AreGoalsIn, AreShoensIn, NameShelf, AreSettled, Made, worked, Machine, made, IsMachine, Trail, IsRested, Reschedules, naming, ReadsAlike, bare, ArePlain, held_exchanged, read_exchanged, Brings, IsPublished, collected, settled_alike, exchanged_variables, exchanged_goals, exchanged_shoens, ReadsSpares, names_once, numbers_short, reads_spares}
+use Rattle.kl1_machine.proofs.Words.{◌≡◌, ℕ, ◌-◌, List, [], map, refl, sym, ap, ap₂, ◌∙◌, arith, Option, Term, State, fresh, names_of, with_names, CellName, Held, with_texts, Program, Reading, Fits, meaning, goal_with, shoen_with, texts_of, names_with, NameShelf, AreSettled, worked, Machine, made, IsMachine, Trail, IsRested, Reschedules, naming, bare, ArePlain, held_exchanged, read_exchanged, Brings, IsPublished, collected, settled_alike, exchanged_variables, ReadsSpares, names_once, numbers_short, reads_spares, goals_in_by, in_same, shoens_in_by}
 use Rattle.kl1_model.specs.State as model
 use Rattle.kl1_machine.proofs.Resting.{looked_read}
 use Rattle.kl1_machine.proofs.Plain.{goals_pass, shoens_pass, plain_named, plain_looked, plain_means}
@@ -43,7 +43,7 @@ module _ (change : State → State) (goal : Term) (spares numbers : List CellNam
   names_same = ap (λ (t : Trail). t.names) p.keeps.trail
 
   fits_before : (f : Reading) → Fits n.names.names f → Fits m.names.names f
-  fits_before f fits = let F : NameShelf → Type 0 = λ s. Fits s.names f in subst F names_same (p.published.fits f fits)
+  fits_before f fits = rw names_same at (p.published.fits f fits)
 
   -- it reads the names that were there, and the spare numbers as the names that are new
   pub spares_read : (f : Reading) → Fits n.names.names f → ReadsSpares m.names.names (with_names [] (names_of goal)) spares (by_spares f)
@@ -96,13 +96,6 @@ module _ (change : State → State) (goal : Term) (spares numbers : List CellNam
       let own = spares_read f fits in
       ap change (both f fits s) ∙ p.brings.states (by_spares f) own.fits.reads own.reads s ∙ read_now f fits s
 
-  -- all of these read it as the same
-  pub published_alike : ReadsAlike n
-  published_alike f g one two s =
-      sym (published_states f one s)
-      ∙ ap change (p.reads f g (fits_before f one) (fits_before g two) s)
-      ∙ published_states g two s
-
   -- ---- what holds between events
 
   -- what always holds does
@@ -112,13 +105,11 @@ module _ (change : State → State) (goal : Term) (spares numbers : List CellNam
       let some = w.some in
       let same = exchanged_variables spares numbers r.store.held in
       let more = ap (λ (h : Held CellName). h.variables) p.published.held in
-      let G : Held CellName → Type 0 = λ h. AreGoalsIn h r.goals.goals in
-      let S : Held CellName → Type 0 = λ h. AreShoensIn h r.shoens.shoens in
       record {
         inside = record {
           some = omega (arith, some, same, more);
-          goals = subst G (sym p.published.held) (exchanged_goals spares numbers r.store.held r.goals.goals w.goals);
-          shoens = subst S (sym p.published.held) (exchanged_shoens spares numbers r.store.held r.shoens.shoens w.shoens);
+          goals = rw p.published.held (goals_in_by r.store.held (held_exchanged spares numbers r.store.held) (in_same spares numbers r.store.held) r.goals.goals w.goals);
+          shoens = rw p.published.held (shoens_in_by r.store.held (held_exchanged spares numbers r.store.held) (in_same spares numbers r.store.held) r.shoens.shoens w.shoens);
           owned = w.owned;
         };
         last = i.last;
@@ -130,17 +121,14 @@ module _ (change : State → State) (goal : Term) (spares numbers : List CellNam
   settled_now : (program : Program) → IsRested program r → (f : Reading) → Fits n.names.names f → AreSettled f n.store.hooks n.store.held program r.shoens.shoens r.goals.goals
   settled_now program k f fits =
       let g = by_spares f in
-      let F : NameShelf → Type 0 = λ s. Fits s.names g in
-      let own : Fits r.names.names g = subst F (sym names_same) (spares_read f fits).fits in
-      let H : List Hook → Type 0 = λ hs. AreSettled f hs n.store.held program r.shoens.shoens r.goals.goals in
-      let K : Held CellName → Type 0 = λ h. AreSettled f r.store.hooks h program r.shoens.shoens r.goals.goals in
-      subst H (sym p.published.hooks) (subst K (sym p.published.held) (settled_alike g f r.store.hooks r.store.held last program r.shoens.shoens r.goals.goals (sym (shoens_now f fits)) (sym (goals_now f fits)) (k.settled g own)))
+      let own : Fits r.names.names g = rw names_same (spares_read f fits).fits in
+      rw (p.published.hooks, p.published.held)
+      (settled_alike g f r.store.hooks r.store.held last program r.shoens.shoens r.goals.goals (sym (shoens_now f fits)) (sym (goals_now f fits)) (k.settled g own))
 
   -- the machine is at rest
   pub published_rested : (program : Program) → IsRested program r → IsRested program n
   published_rested program k =
-      let R : Machine → Type 0 = λ x. IsRested program x in
-      subst R (sym p.published.rest)
+      rw p.published.rest
       (record {
         machine = machine_now k.machine;
         rules = k.rules;

@@ -1,5 +1,5 @@
 -- What messages to shoens do to a machine, and what monitors read.
-use Rattle.kl1_machine.proofs.Words.{◌≡◌, ℕ, suc, ◌+◌, ◌-◌, ◌<◌, ◌≤◌, ◌==◌, not, ◌&&◌, ◌||◌, Bool, true, false, if◌then◌else◌, List, [], ◌∷◌, length, map, drop, get_or, refl, sym, ap, ap₂, ◌∙◌, subst, find, Option, Some, option_map, filter, drop_more, drop_all, Aborted, is_among, State, change_shoen, is_living, path_within, report, close, exception, illegal_input, stopped_report, resumed_report, aborted_report, without_monitor, ended_below, Stop, Start, Abort, Allow, Message, tells, tells_other, breaks_off, obeyed, heard, stopped_of, resumed_of, allowed_more, CellName, Cell, Held, IsIn, Goal, is_in, is_monitor_of, Shoen, has_number, changed, is_on_path_in, aborted_below_in, AreBelow, Means, meaning, goal_with, shoen_with, is_of_any, worked, below_tells, halted, allowing, controlled, all_stay, below_read, parents_read, path_read, finds, changes, Machine, made, IsMachine, Becomes, TurnsAs, having_goals, having_shoens, shifting_shoens}
+use Rattle.kl1_machine.proofs.Words.{Held, subst, ◌≡◌, ℕ, ◌+◌, ◌-◌, ◌<◌, ◌≤◌, ◌==◌, not, ◌&&◌, Bool, true, false, if◌then◌else◌, List, [], ◌∷◌, length, map, drop, get_or, refl, sym, ap, ◌∙◌, find, Option, Some, option_map, filter, drop_more, drop_all, Aborted, is_among, State, change_shoen, is_living, path_within, report, close, exception, illegal_input, aborted_report, without_monitor, ended_below, Abort, Allow, Message, tells, tells_other, breaks_off, obeyed, heard, allowed_more, CellName, Cell, Goal, is_in, is_monitor_of, Shoen, has_number, changed, is_on_path_in, aborted_below_in, AreBelow, Means, meaning, goal_with, shoen_with, is_of_any, worked, below_tells, halted, allowing, controlled, all_stay, below_read, parents_read, path_read, finds, changes, Machine, made, IsMachine, Becomes, TurnsAs, having_goals, having_shoens, shifting_shoens, inl, inr, cases_Bool, maps_both, length-map, Term}
 use Rattle.kl1_model.specs.State as model
 use Rattle.kl1_model.specs.Reduction.{with_control}
 use Rattle.kl1_model.specs.code.Steps as steps
@@ -23,27 +23,18 @@ unmoved after m k o i is same =
     found_as after m m k o is (as_same (λ f s. s) (λ f. after (option_map (shoen_with (meaning f h)) o)) m m (λ f s. same (meaning f h) (worked f s h (made m))) (as_none m i))
 
 -- one that is halted, or no longer
-halts : (b : Bool) (m n : Machine) (k : ℕ) → IsMachine m → Becomes (shifting_shoens (changed k (halted b) m.shoens.shoens) m) n → TurnsAs (λ f. change_shoen k (λ x. record x { is_stopped = b })) m n
+pub halts : (b : Bool) (m n : Machine) (k : ℕ) → IsMachine m → Becomes (shifting_shoens (changed k (halted b) m.shoens.shoens) m) n → TurnsAs (λ f. change_shoen k (λ x. record x { is_stopped = b })) m n
 halts b m n k i becomes =
     changed_as m n k (halted b) (λ x. record x { is_stopped = b }) i (λ s a. record { control = a.control; tail = a.tail; origin = a.origin; low = a.low; high = a.high }) (λ f s. refl) becomes
 
-pub stopped : (m n u : Machine) (k : ℕ) (sh : Shoen CellName) → IsMachine m → find (has_number k) m.shoens.shoens ≡ Some sh → sh.is_stopped ≡ false → Becomes (shifting_shoens (changed k (halted true) m.shoens.shoens) m) n → TurnsAs (λ f. report k stopped_report) n u →
-    TurnsAs (λ f. obeyed k Stop) m u
-stopped m n u k sh i there goes becomes p =
+-- and reports it
+pub goes_as : (after : Option model.Shoen → State → State) (m n u : Machine) (k : ℕ) (b : Bool) (said : Term) (sh : Shoen CellName) → find (has_number k) m.shoens.shoens ≡ Some sh → ((t : Means) (s : State) → after (Some (shoen_with t sh)) s ≡ report k said (change_shoen k (λ x. record x { is_stopped = b }) s)) →
+    TurnsAs (λ f. change_shoen k (λ x. record x { is_stopped = b })) m n → TurnsAs (λ f. report k said) n u → TurnsAs (λ f s. after (model.shoen_at k s.shoens) s) m u
+goes_as after m n u k b said sh there same turns p =
     let h = m.store.held in
-    let does : State → State = λ s. report k stopped_report (change_shoen k (λ x. record x { is_stopped = true }) s) in
-    found_as (λ o s. stopped_of o k s) m u k (Some sh) there
-    (as_same (λ f. does) (λ f. stopped_of (Some (shoen_with (meaning f h) sh)) k) m u (λ f s. ap (λ b. if b then worked f s h (made m) else does (worked f s h (made m))) goes)
-    (as_then (λ f. change_shoen k (λ x. record x { is_stopped = true })) (λ f. report k stopped_report) m n u (halts true m n k i becomes) p))
-
-pub resumed : (m n u : Machine) (k : ℕ) (sh : Shoen CellName) → IsMachine m → find (has_number k) m.shoens.shoens ≡ Some sh → sh.is_stopped ≡ true → Becomes (shifting_shoens (changed k (halted false) m.shoens.shoens) m) n → TurnsAs (λ f. report k resumed_report) n u →
-    TurnsAs (λ f. obeyed k Start) m u
-resumed m n u k sh i there stays becomes p =
-    let h = m.store.held in
-    let does : State → State = λ s. report k resumed_report (change_shoen k (λ x. record x { is_stopped = false }) s) in
-    found_as (λ o s. resumed_of o k s) m u k (Some sh) there
-    (as_same (λ f. does) (λ f. resumed_of (Some (shoen_with (meaning f h) sh)) k) m u (λ f s. ap (λ b. if b then does (worked f s h (made m)) else worked f s h (made m)) stays)
-    (as_then (λ f. change_shoen k (λ x. record x { is_stopped = false })) (λ f. report k resumed_report) m n u (halts false m n k i becomes) p))
+    found_as after m u k (Some sh) there
+    (as_same (λ f s. report k said (change_shoen k (λ x. record x { is_stopped = b }) s)) (λ f. after (Some (shoen_with (meaning f h) sh))) m u (λ f s. same (meaning f h) (worked f s h (made m)))
+    (as_then (λ f. change_shoen k (λ x. record x { is_stopped = b })) (λ f. report k said) m n u turns p))
 
 -- one whose allowance grows
 pub allowed : (m n : Machine) (k extra : ℕ) → IsMachine m → Becomes (shifting_shoens (changed k (allowing extra) m.shoens.shoens) m) n → TurnsAs (λ f. obeyed k (Allow extra)) m n
@@ -57,21 +48,16 @@ rid_of ns gs = filter (λ g. not (is_of_any ns g)) gs
 
 one_more : (n : ℕ) (ns : List ℕ) (gs : List (Goal CellName)) → rid_of ns (filter (λ g. not (is_in n g)) gs) ≡ rid_of (n ∷ ns) gs
 one_more n ns [] = refl
-one_more n ns (g ∷ gs) = by_case (g.shoen == n) (one_more n ns gs)
-  where
-    by_case : (b : Bool) → rid_of ns (filter (λ k. not (is_in n k)) gs) ≡ rid_of (n ∷ ns) gs →
-        rid_of ns (if not b then g ∷ filter (λ k. not (is_in n k)) gs else filter (λ k. not (is_in n k)) gs) ≡ (if not (b || is_among g.shoen ns) then g ∷ rid_of (n ∷ ns) gs else rid_of (n ∷ ns) gs)
-    by_case true e = e
-    by_case false e = ap (λ (ks : List (Goal CellName)). if not (is_among g.shoen ns) then g ∷ ks else ks) e
+one_more n ns (g ∷ gs) = elim (cases_Bool (g.shoen == n)) [
+  | inl p ↦ rw p (one_more n ns gs)
+  | inr p ↦ rw p (ap (λ (ks : List (Goal CellName)). if not (is_among g.shoen ns) then g ∷ ks else ks) (one_more n ns gs))
+]
 
 -- the goals of the shoens up to a place are gone
 pub record IsRid (ns : List ℕ) (i : ℕ) (m u : Machine) : Type 0 where
   pub goals : rid_of (drop i ns) u.goals.goals ≡ rid_of ns m.goals.goals
   pub rest : u ≡ having_goals u.goals.goals m
   pub machine : IsMachine u
-
-pub first_rid : (ns : List ℕ) (m : Machine) → IsMachine m → IsRid ns 0 m m
-first_rid ns m i = record { goals = refl; rest = refl; machine = i }
 
 pub next_rid : (ns : List ℕ) (i : ℕ) (m u v : Machine) → i < length ns → IsRid ns i m u → Becomes (having_goals (filter (λ g. not (is_in (get_or ns i 0) g)) u.goals.goals) u) v → IsRid ns (i + 1) m v
 next_rid ns i m u v lt r b =
@@ -95,15 +81,10 @@ if_aborted true t h = refl
 if_aborted false t h = refl
 
 aborted_read : (t : Means) (all : List (Shoen CellName)) (n : ℕ) (ss : List (Shoen CellName)) → map (steps.aborted_below (map (shoen_with t) all) n) (map (shoen_with t) ss) ≡ map (shoen_with t) (map (aborted_below_in all n) ss)
-aborted_read t all n [] = refl
-aborted_read t all n (h ∷ ss) =
-    ap₂ (λ (k : model.Shoen) (ks : List model.Shoen). k ∷ ks)
-    (ap (λ (ns : List ℕ). if is_living h.life && is_among n ns then record (shoen_with t h) { life = Aborted } else shoen_with t h) (path_read t all h.number) ∙ if_aborted (is_living h.life && is_on_path_in all n h.number) t h)
-    (aborted_read t all n ss)
-
-aborted_count : (all : List (Shoen CellName)) (n : ℕ) (ss : List (Shoen CellName)) → length (map (aborted_below_in all n) ss) ≡ length ss
-aborted_count all n [] = refl
-aborted_count all n (s ∷ ss) = ap suc (aborted_count all n ss)
+aborted_read t all n ss =
+    maps_both (steps.aborted_below (map (shoen_with t) all) n) (shoen_with t) (shoen_with t) (aborted_below_in all n)
+    (λ h. ap (λ (ns : List ℕ). if is_living h.life && is_among n ns then record (shoen_with t h) { life = Aborted } else shoen_with t h) (path_read t all h.number) ∙ if_aborted (is_living h.life && is_on_path_in all n h.number) t h)
+    ss
 
 -- a machine with a shoen and all below it aborted, and their goals gone
 abbrev pub with_aborted : ℕ → List ℕ → Machine → Machine
@@ -123,7 +104,7 @@ aborts m k below i b j =
             ap (λ (ps : List ℕ). let z : State = record S { goals = filter (λ g. not (is_among k (path_within g.shoen ps g.shoen))) S.goals; shoens = map (steps.aborted_below S.shoens k) S.shoens } in z) (parents_read t ss)
             ∙ ap (λ (gs : List model.Goal). let z : State = record S { goals = gs; shoens = map (steps.aborted_below S.shoens k) S.shoens } in z) (below_read t (is_on_path_in ss k) below m.goals.goals (below_tells k ss below m.goals.goals b i.inside.owned))
             ∙ ap (λ (xs : List model.Shoen). let z : State = record S { goals = map (goal_with t) left; shoens = xs } in z) (aborted_read t ss k ss)
-            ∙ ap (λ c. let z : State = record S { goals = map (goal_with t) left; shoens = map (shoen_with t) (map (aborted_below_in ss k) ss); last_shoen = c } in z) (sym (aborted_count ss k ss));
+            ∙ ap (λ c. let z : State = record S { goals = map (goal_with t) left; shoens = map (shoen_with t) (map (aborted_below_in ss k) ss); last_shoen = c } in z) (sym (length-map ss (aborted_below_in ss k)));
       };
       machine = j;
       named = record { name = refl; spelled = refl };
@@ -132,9 +113,7 @@ aborts m k below i b j =
 -- one step after the other
 pub aborts_after : (m n u : Machine) (k : ℕ) (below : List ℕ) → IsMachine m → AreBelow m.shoens.shoens k below → Becomes (having_goals (rid_of below m.goals.goals) m) n → Becomes (shifting_shoens (map (aborted_below_in n.shoens.shoens k) n.shoens.shoens) n) u → TurnsAs (λ f. ended_below k) m u
 aborts_after m n u k below i b gone ended =
-    let A : Machine → Machine = λ x. shifting_shoens (map (aborted_below_in x.shoens.shoens k) x.shoens.shoens) x in
-    let T : Machine → Type 0 = λ x. IsMachine x → TurnsAs (λ f. ended_below k) m x in
-    subst T (sym (ended.is ∙ ap A gone.is)) (aborts m k below i b) ended.machine
+    rw (ended.is, gone.is) (aborts m k below i b (rw (ended.is, gone.is) at ended.machine))
 
 pub aborted : (m u v w : Machine) (k : ℕ) → TurnsAs (λ f. ended_below k) m u → TurnsAs (λ f. report k aborted_report) u v → TurnsAs (λ f. close k) v w → TurnsAs (λ f. obeyed k Abort) m w
 aborted m u v w k ends told closed =
@@ -146,15 +125,14 @@ aborted m u v w k ends told closed =
 abbrev pub with_controlled : ℕ → Cell CellName → Machine → Machine → Machine
 with_controlled k x n m = record (having_shoens (changed k (controlled x) m.shoens.shoens) m) { told = n.told }
 
-same_held : (k : ℕ) (x : Cell CellName) (m n : Machine) → Becomes (with_controlled k x n m) n → n.store.held ≡ m.store.held
+pub same_held : (k : ℕ) (x : Cell CellName) (m n : Machine) → Becomes (with_controlled k x n m) n → n.store.held ≡ m.store.held
 same_held k x m n b = ap (λ (y : Machine). y.store.held) b.is
 
 controls : (m n : Machine) (k : ℕ) (x : Cell CellName) → Becomes (with_controlled k x n m) n → TurnsAs (λ f. with_control k (meaning f m.store.held x)) m n
 controls m n k x b =
     let h = m.store.held in
-    let T : Machine → Type 0 = λ y. IsMachine y → TurnsAs (λ f. with_control k (meaning f h x)) m y in
-    subst T (sym b.is)
-    (λ j. record {
+    let j = rw b.is at b.machine in
+    rw b.is (record {
       turns = λ ms. record {
         inside = j.inside;
         states = λ f knows s. changes s (meaning f h) (h.variables - 1) (made m) k (controlled x) (λ y. record y { control = meaning f h x }) (λ y. refl);
@@ -162,7 +140,6 @@ controls m n k x b =
       machine = j;
       named = record { name = refl; spelled = refl };
     })
-    b.machine
 
 -- a message, and what is left of the stream
 pub told : (m n u : Machine) (k : ℕ) (message : Message) (x : Cell CellName) → Becomes (with_controlled k x n m) n → TurnsAs (λ f. obeyed k message) n u → TurnsAs (λ f. heard k (tells message (meaning f m.store.held x))) m u
@@ -183,11 +160,3 @@ broken_off m n u k y b p =
     let h = m.store.held in
     let P : Held CellName → Type 0 = λ l. TurnsAs (λ f. report k (exception illegal_input (meaning f l y))) n u in
     as_then (λ f. without_monitor k) (λ f. report k (exception illegal_input (meaning f h y))) m n u (unmonitored m n k b) (subst P (ap (λ (x : Machine). x.store.held) b.is) p)
-
--- a cell of a store is one after the control stream of a shoen was set
-pub still_in : (m n : Machine) (k : ℕ) (x y : Cell CellName) → Becomes (with_controlled k x n m) n → IsIn m.store.held y → IsIn n.store.held y
-still_in m n k x y b i = let P : Held CellName → Type 0 = λ l. IsIn l y in subst P (sym (same_held k x m n b)) i
-
--- or after a monitor went
-pub still_left : (m n : Machine) (k : ℕ) (y : Cell CellName) → Becomes (having_goals (filter (λ g. not (is_monitor_of k g)) m.goals.goals) m) n → IsIn m.store.held y → IsIn n.store.held y
-still_left m n k y b i = let P : Held CellName → Type 0 = λ l. IsIn l y in subst P (sym (ap (λ (x : Machine). x.store.held) b.is)) i

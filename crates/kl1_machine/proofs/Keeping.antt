@@ -1,6 +1,5 @@
 -- What stays of a machine, and that it stays one.
-use Rattle.kl1_machine.proofs.Words.{◌≡◌, ℕ, suc, ◌+◌, Bool, false, ◌++◌, ◌∷◌, [], List, length, refl, sym, ap, ◌∙◌, arith, subst, Vec, CellName, Held, Grown, Grown-same, Kept, point_of, HasGrown-same, HasGrown-trans, Task, Goal, Tree, Spelled, IsTaskIn, IsOwned, goals_in_append, owned_append, up_to_append, up_to_more, has_grown, grown_made, Tabled, Counts, Machine, made, IsMachine, Trail, trail_of, Keeps, IsBegun, IsBack, goal_at, with_goal, Puts}
-use Rattle.std.proofs.Common.{Option, None}
+use Rattle.kl1_machine.proofs.Words.{◌≡◌, ℕ, suc, ◌+◌, Bool, false, ◌++◌, ◌∷◌, [], List, length, refl, sym, ap, ◌∙◌, arith, Vec, CellName, Grown, Kept, point_of, HasGrown-same, HasGrown-trans, Task, Goal, Tree, Spelled, IsTaskIn, IsOwned, grown_made, Tabled, Counts, Machine, made, IsMachine, Trail, trail_of, Keeps, IsBegun, IsBack, goal_at, with_goal, Puts, Option, None, all_append, all_then, ◌≤◌}
 
 -- ---- what stays
 
@@ -15,16 +14,7 @@ pub record Grows (m : Machine) (k : Kept CellName) : Type 0 where
   pub grown : Grown m.store.held k.held
   pub hooks : k.hooks ≡ m.store.hooks
 
-pub keeps_store : (m : Machine) (k : Kept CellName) → Grows m k → Keeps m (record m { store = k })
-keeps_store m k g = record { grown = has_grown m.store k g.grown g.hooks; trail = refl }
-
--- a store that went back to what it was
-pub keeps_back : (m n : Machine) (k : Kept CellName) → Keeps m n → k.held ≡ m.store.held → k.hooks ≡ m.store.hooks → Keeps m (record n { store = k })
-keeps_back m n k p held hooks =
-    let G : Held CellName → Type 0 = λ h. Grown m.store.held h in
-    record { grown = has_grown m.store k (subst G (sym held) (Grown-same m.store.held)) hooks; trail = p.trail }
-
--- and a table of which only goals are others
+-- if of a table only goals are others
 pub keeps_goals : (m : Machine) (r : Tabled CellName) (c : Counts) → r ≡ record m.goals { goals = r.goals } → Keeps m (record m { goals = r; counts = c })
 keeps_goals m r c e = record { grown = HasGrown-same m.store; trail = ap (λ (x : Tabled CellName). let z : Machine = record m { goals = x; counts = c } in trail_of z) e }
 
@@ -39,11 +29,11 @@ put_machine m g number task own w =
     record {
       inside = record {
         some = i.some;
-        goals = goals_in_append m.store.held m.goals.goals (g ∷ []) i.goals (task, tt);
+        goals = all_append (λ (k : Goal CellName). IsTaskIn m.store.held k.task) m.goals.goals (g ∷ []) i.goals (task, tt);
         shoens = i.shoens;
-        owned = owned_append (length m.shoens.shoens) m.goals.goals (g ∷ []) i.owned (own, tt);
+        owned = all_append (IsOwned (length m.shoens.shoens)) m.goals.goals (g ∷ []) i.owned (own, tt);
       };
-      last = up_to_append g.number m.goals.goals (g ∷ []) (up_to_more m.counts.last_goal g.number m.goals.goals (omega (arith, number)) w.last) (omega arith, tt);
+      last = all_append (λ (k : Goal CellName). k.number ≤ g.number) m.goals.goals (g ∷ []) (all_then (λ (k : Goal CellName). k.number ≤ m.counts.last_goal) (λ k. k.number ≤ g.number) (λ k le. omega (arith, le, number)) m.goals.goals w.last) (omega arith, tt);
       placed = omega arith;
       known = w.known;
     }
@@ -60,13 +50,10 @@ pub puts_one : (m : Machine) (r : Tabled CellName) (shoen priority n : ℕ) (tas
 puts_one m r shoen priority n task i inside own put =
     let number = put.number in
     let next : n ≡ suc m.counts.last_goal = omega (arith, number) in
-    let P : Machine → Type 0 = λ x. Puts shoen priority task m x in
-    let C : ℕ → Machine = λ k. with_goal (goal_at k shoen priority task) m in
     let T : List (Goal CellName) → ℕ → Tabled CellName = λ gs l. record m.goals { goals = gs; last = l } in
     let table : r ≡ T (m.goals.goals ++ goal_at n shoen priority task ∷ []) n = put.rest ∙ ap (λ gs. T gs r.last) put.goals ∙ ap (T (m.goals.goals ++ goal_at n shoen priority task ∷ [])) put.last in
-    let is : record m { goals = r; counts = record m.counts { last_goal = n } } ≡ C (suc m.counts.last_goal) =
-    ap (λ (x : Tabled CellName). let z : Machine = record m { goals = x; counts = record m.counts { last_goal = n } } in z) table ∙ ap C next in
-    subst P (sym is) (record { is = refl; machine = put_machine m (goal_at (suc m.counts.last_goal) shoen priority task) refl inside (record { low = own.low; high = own.high }) i })
+    rw (table, next)
+    (record { is = refl; machine = put_machine m (goal_at (suc m.counts.last_goal) shoen priority task) refl inside (record { low = own.low; high = own.high }) i })
 
 -- ---- back to where an event began
 

@@ -1,7 +1,7 @@
 -- Goals of a machine that are looked at, each by its number.
-use Rattle.kl1_machine.proofs.Words.{◌≡◌, ℕ, suc, ◌≤◌, ◌==◌, Bool, true, false, if◌then◌else◌, List, [], ◌∷◌, length, map, refl, sym, ap, ◌∙◌, arith, subst, ⊎_elim, Option, Some, None, find, AllByRecursion, ne_eqb, eq-eqb, eqb-true, eqb-false, cases_eq, CellName, Kept, HasGrown, Held, HasGrown-same, HasGrown-trans, grown_among, Goal, Task, number_of, Tabled, Ascend, AreInOrder, Program, Reading, IsTaskIn, IsOwned, IsSettled, IsMadeIn, Machine, made, trail_of, IsMachine, Keeps, ready_at, IsReadyAt, unready, unlooked, Looks, AreSettledBut, settled_more}
+use Rattle.kl1_machine.proofs.Words.{◌≡◌, ℕ, suc, ◌≤◌, ◌==◌, Bool, false, if◌then◌else◌, List, [], ◌∷◌, length, map, refl, sym, ap, ◌∙◌, arith, subst, Option, Some, None, find, AllByRecursion, ne_eqb, eq-eqb, eqb-true, eqb-false, cases_eq, CellName, Kept, HasGrown, HasGrown-same, HasGrown-trans, grown_among, Goal, number_of, Ascend, AreInOrder, Program, Reading, IsTaskIn, IsOwned, IsSettled, Machine, IsMachine, ready_at, IsReadyAt, unready, unlooked, Looks, AreSettledBut, settled_more, inl, inr, cases_Bool, all_then}
 use Rattle.kl1_goals.specs.Lists.{has_number}
-use Rattle.kl1_machine.proofs.Sincing.{each_so, each_both}
+use Rattle.kl1_machine.proofs.Sincing.{each_both}
 
 -- ---- what holds of each goal
 
@@ -34,7 +34,7 @@ same_goal a b e = cc
 
 pub above_from : (from : ℕ) (gs : List (Goal CellName)) → Ascend from (map number_of gs) → AllByRecursion (λ g. from ≤ g.number) gs
 above_from from [] up = tt
-above_from from (g ∷ gs) up = (up.0, each_so (λ k. suc g.number ≤ k.number) (λ k. from ≤ k.number) (λ k le. let a = up.0 in omega (arith, a, le)) gs (above_from (suc g.number) gs up.1))
+above_from from (g ∷ gs) up = (up.0, all_then (λ (k : Goal CellName). suc g.number ≤ k.number) (λ k. from ≤ k.number) (λ k le. let a = up.0 in omega (arith, a, le)) gs (above_from (suc g.number) gs up.1))
 
 -- a goal of a number is of this one's shoen, and has its task
 abbrev pub IsFor : ℕ → Goal CellName → Goal CellName → Type 0
@@ -43,34 +43,31 @@ IsFor n goal g = g.number ≡ n → (g.shoen ≡ goal.shoen) × (g.task ≡ goal
 -- goals numbered as the one that is found are of its shoen, and have its task
 pub one_of : (n from : ℕ) (gs : List (Goal CellName)) (goal : Goal CellName) → Ascend from (map number_of gs) → Some goal ≡ find (has_number n) gs → AllByRecursion (IsFor n goal) gs
 one_of n from [] goal up e = tt
-one_of n from (g ∷ gs) goal up e = here (g.number == n) refl (one_of n (suc g.number) gs goal up.1) e
-  where
-    here : (b : Bool) → (g.number == n) ≡ b → (Some goal ≡ find (has_number n) gs → AllByRecursion (IsFor n goal) gs) → Some goal ≡ (if b then Some g else find (has_number n) gs) → AllByRecursion (IsFor n goal) (g ∷ gs)
-    here true is later k =
-        let s : goal ≡ g = same_goal goal g k in
-        let at : g.number ≡ n = eqb-true g.number n is in (
-          (λ q. (ap (λ (a : Goal CellName). a.shoen) (sym s), ap (λ (a : Goal CellName). a.task) (sym s))),
-          each_so (λ a. suc g.number ≤ a.number) (IsFor n goal) (λ a le q. absurd (omega (arith, le, q, at))) gs (above_from (suc g.number) gs up.1),
-        )
-    here false is later k = ((λ q. absurd (eqb-false g.number n is q)), later k)
+one_of n from (g ∷ gs) goal up e = elim (cases_Bool (g.number == n)) [
+  | inl is ↦
+      let s = same_goal goal g (rw is at e) in
+      let number = eqb-true g.number n is in (
+        (λ q. (ap (λ (a : Goal CellName). a.shoen) (sym s), ap (λ (a : Goal CellName). a.task) (sym s))),
+        all_then (λ (a : Goal CellName). suc g.number ≤ a.number) (IsFor n goal) (λ a le q. absurd (omega (arith, le, q, number))) gs (above_from (suc g.number) gs up.1),
+      )
+  | inr is ↦ ((λ q. absurd (eqb-false g.number n is q)), one_of n (suc g.number) gs goal up.1 (rw is at e))
+]
 
 -- no goal has a number that isn't found
 pub none_of : (n : ℕ) (gs : List (Goal CellName)) → None ≡ find (has_number n) gs → AllByRecursion (λ g. g.number ≡ n → ⊥) gs
 none_of n [] e = tt
-none_of n (g ∷ gs) e = here (g.number == n) refl (none_of n gs) e
-  where
-    here : (b : Bool) → (g.number == n) ≡ b → (None ≡ find (has_number n) gs → AllByRecursion (λ k. k.number ≡ n → ⊥) gs) → None ≡ (if b then Some g else find (has_number n) gs) → AllByRecursion (λ k. k.number ≡ n → ⊥) (g ∷ gs)
-    here true is later k = absurd (cc)
-    here false is later k = (eqb-false g.number n is, later k)
+none_of n (g ∷ gs) e = elim (cases_Bool (g.number == n)) [
+  | inl is ↦ let found : None ≡ Some g = rw is at e in absurd (cc)
+  | inr is ↦ (eqb-false g.number n is, none_of n gs (rw is at e))
+]
 
 -- what holds of goals holds of one that is found
 pub found_holds : (P : Goal CellName → Type 0) (p : Goal CellName → Bool) (gs : List (Goal CellName)) (goal : Goal CellName) → AllByRecursion P gs → Some goal ≡ find p gs → P goal
 found_holds P p [] goal a e = absurd (cc)
-found_holds P p (g ∷ gs) goal a e = here (p g) (found_holds P p gs goal a.1) e
-  where
-    here : (b : Bool) → (Some goal ≡ find p gs → P goal) → Some goal ≡ (if b then Some g else find p gs) → P goal
-    here true later k = subst P (sym (same_goal goal g k)) a.0
-    here false later k = later k
+found_holds P p (g ∷ gs) goal a e = elim (cases_Bool (p g)) [
+  | inl is ↦ rw (same_goal goal g (rw is at e)) a.0
+  | inr is ↦ found_holds P p gs goal a.1 (rw is at e)
+]
 
 -- ---- one look after another
 
@@ -85,17 +82,12 @@ looks_then m n o p q = record {
   rest = q.rest ∙ ap (λ (x : Machine). let z : Machine = record x { store = o.store; goals = record x.goals { goals = o.goals.goals } } in z) p.rest;
 }
 
-pub looks_keeps : (m n : Machine) → Looks m n → Keeps m n
-looks_keeps m n l = record { grown = l.grown; trail = ap (λ (x : Machine). trail_of x) l.rest }
-
 -- a machine whose goals were looked at is one
 pub looks_machine : (m n : Machine) → Looks m n → IsMachine m → IsMachine n
 looks_machine m n l i =
-    let M : Machine → Type 0 = λ x. IsMachine x in
     let w = i.inside in
-    let H : Held CellName → Type 0 = λ h. IsMadeIn h (made (record m { goals = record m.goals { goals = n.goals.goals } })) in
-    subst M (sym l.rest) (record {
-      inside = subst H (sym l.held) (record {
+    rw l.rest (record {
+      inside = rw l.held (record {
         some = w.some;
         goals = looked_hold (λ g. IsTaskIn m.store.held g.task) (λ g o b p. p) n.goals.goals m.goals.goals l.goals w.goals;
         shoens = w.shoens;
@@ -108,30 +100,18 @@ looks_machine m n l i =
 
 -- ---- one goal is settled, and all others are as they were
 
--- what holds of a goal that was looked at, by its number, its shoen and its task
-stands_there : (P : Goal CellName → Type 0) (n m s t : ℕ) (a b : Task CellName) (o : Option ℕ) → n ≡ m → s ≡ t → a ≡ b → P (ready_at n s a o) → P (ready_at m t b o)
-stands_there P n m s t a b o e d c is =
-    let N : ℕ → Type 0 = λ k. P (ready_at k t b o) in
-    let S : ℕ → Type 0 = λ k. P (ready_at n k b o) in
-    let T : Task CellName → Type 0 = λ k. P (ready_at n s k o) in
-    subst N e (subst S d (subst T c is))
-
 -- the goal with the number of `x`, which is like it, was looked at, and others were settled: each is settled in a store on which more hangs
 pub one_settled : (f : Reading) (program : Program) (m : Machine) (k : Kept CellName) (x : Goal CellName) (o : Option ℕ) → HasGrown m.store k → IsSettled f k.hooks m.store.held program m.shoens.shoens (ready_at x.number x.shoen x.task o) →
     (g : Goal CellName) (b : Bool) → IsFor x.number x g → ((g.number ≡ x.number → ⊥) → IsSettled f m.store.hooks m.store.held program m.shoens.shoens g) →
     IsSettled f k.hooks m.store.held program m.shoens.shoens (record g { standing = if g.number == x.number then o else g.standing; is_enabled = b })
-one_settled f program m k x o up found g b is was =
-    let S : Goal CellName → Type 0 = λ y. IsSettled f k.hooks m.store.held program m.shoens.shoens y in
-    ⊎_elim
-    (λ (same : g.number ≡ x.number).
-    let s : S (ready_at g.number g.shoen g.task o) = stands_there S x.number g.number x.shoen g.shoen x.task g.task o (sym same) (sym (is same).0) (sym (is same).1) found in
-    let here : S (record g { standing = if g.number == x.number then o else g.standing; is_enabled = b }) = record { standing = ap (λ (c : Bool). if c then o else g.standing) (eq-eqb g.number x.number same) ∙ s.standing; hung = s.hung } in
-    here)
-    (λ (other : g.number ≡ x.number → ⊥).
-    let s = settled_more f m.store.hooks k.hooks m.store.held program m.shoens.shoens g (grown_among m.store k up) (was other) in
-    let here : S (record g { standing = if g.number == x.number then o else g.standing; is_enabled = b }) = record { standing = ap (λ (c : Bool). if c then o else g.standing) (ne_eqb g.number x.number other) ∙ s.standing; hung = s.hung } in
-    here)
-    (cases_eq g.number x.number)
+one_settled f program m k x o up found g b is was = elim (cases_eq g.number x.number) [
+  | inl same ↦
+      let s : IsSettled f k.hooks m.store.held program m.shoens.shoens (ready_at g.number g.shoen g.task o) = rw (← same, ← (is same).0, ← (is same).1) at found in
+      record { standing = ap (λ (c : Bool). if c then o else g.standing) (eq-eqb g.number x.number same) ∙ s.standing; hung = s.hung }
+  | inr other ↦
+      let s = settled_more f m.store.hooks k.hooks m.store.held program m.shoens.shoens g (grown_among m.store k up) (was other) in
+      record { standing = ap (λ (c : Bool). if c then o else g.standing) (ne_eqb g.number x.number other) ∙ s.standing; hung = s.hung }
+]
 
 -- goal `n` of a machine is found, and can step by this clause, in a store that holds the same and on which more hangs
 pub record IsLook (program : Program) (m : Machine) (k : Kept CellName) (n : ℕ) (goal : Goal CellName) (o : Option ℕ) : Type 0 where
@@ -148,7 +128,7 @@ look_ready program m k n goal o look = let R : ℕ → Type 0 = λ i. IsReadyAt 
 -- goals that are settled but for those of some numbers are so but for those of more
 pub settled_but_more : (f : Reading) (program : Program) (m : Machine) (r q : ℕ → Bool) → ((k : ℕ) → q k ≡ false → r k ≡ false) → AreSettledBut r f program m → AreSettledBut q f program m
 settled_but_more f program m r q less all =
-    each_so (λ g. r g.number ≡ false → IsSettled f m.store.hooks m.store.held program m.shoens.shoens g) (λ g. q g.number ≡ false → IsSettled f m.store.hooks m.store.held program m.shoens.shoens g) (λ g s e. s (less g.number e)) m.goals.goals all
+    all_then (λ (g : Goal CellName). r g.number ≡ false → IsSettled f m.store.hooks m.store.held program m.shoens.shoens g) (λ g. q g.number ≡ false → IsSettled f m.store.hooks m.store.held program m.shoens.shoens g) (λ g s e. s (less g.number e)) m.goals.goals all
 
 -- if none has the number, the same but for it
 pub settled_but_none : (f : Reading) (program : Program) (m : Machine) (n : ℕ) (r q : ℕ → Bool) → None ≡ find (has_number n) m.goals.goals → ((k : ℕ) → q k ≡ false → (k ≡ n → ⊥) → r k ≡ false) → AreSettledBut r f program m → AreSettledBut q f program m

@@ -1,11 +1,15 @@
 -- What a goal's move does to a machine, and a move with the charge before it.
-use Rattle.kl1_machine.proofs.Words.{◌≡◌, ℕ, suc, ◌||◌, Bool, List, [], ◌∷◌, length, refl, sym, ap, ◌∙◌, subst, Option, Some, None, BuiltIn, text_of, Candidate, State, charge, commits, raises, unifies, names, opens, goes, gives_way, raised, moved, CellName, Cell, Qualified, IsIn, Move, ExecuteArguments, order_at, IsOrder, IsCandidate, IsMove, Reduces, Goal, Numbered, Reading, meaning, goal_with, aim, IsOwned, worked, Knows, name_for, turns_as, replaced_turns, Machine, made, IsMachine, goal_at, Turns, with_goal, Puts, Charges, TurnsAs, Commits, UnifiesAs, OpensChild, Making, IsMade, MovesAs, ReadsAll, StandsFor}
+use Rattle.kl1_machine.proofs.Words.{◌≡◌, ℕ, suc, Bool, List, [], length, refl, sym, ap, ◌∙◌, subst, Some, Candidate, State, charge, commits, unifies, names, opens, gives_way, moved, CellName, Cell, Qualified, IsIn, Move, ExecuteArguments, order_at, IsOrder, IsCandidate, IsMove, Reduces, Goal, Numbered, Reading, meaning, goal_with, aim, IsOwned, worked, Knows, name_for, turns_as, replaced_turns, Machine, made, IsMachine, goal_at, Turns, with_goal, Puts, Charges, TurnsAs, Commits, UnifiesAs, OpensChild, Making, IsMade, MovesAs, ReadsAll, StandsFor, Predicate, taken_places}
 use Rattle.kl1_model.specs.Term as term
 use Rattle.kl1_model.specs.Reduction as model
 use Rattle.kl1_goals_moves.specs.declared.moves.Move.TheVariants as move
+use Rattle.kl1_goals_moves.specs.declared.trial.Trial.{Trial}
 use Rattle.kl1_user_effects.specs.Works as works
-use Rattle.kl1_machine.proofs.Ending.{as_none}
 use Rattle.kl1_machine.proofs.Naming.{found_is}
+
+-- a move of a goal by the clauses of a predicate, with what was tried of them
+abbrev pub tried : Predicate CellName → Move CellName → Trial CellName → Making
+tried p y t = record { predicate = p; move = y; places = taken_places t; text = t.text }
 
 -- what a goal does by a move
 abbrev moves_by : Goal CellName → Qualified CellName → Machine → (Reading → model.Move) → Reading → State → State
@@ -20,19 +24,10 @@ moves_as ms goal x m n k l is p =
 
 -- ---- commits
 
--- a candidate without a clause
-abbrev no_candidate : Candidate
-no_candidate = record { number = 0; clause = record { name = []; patterns = term.none; tests = []; section = 0; body = [] }; places = [] }
-
--- the candidate that a move commits to
+-- the candidate that a move commits to, or one without a clause
 abbrev candidate_in : model.Move → Candidate
 candidate_in (commits k) = k
-candidate_in (raises kind) = no_candidate
-candidate_in (unifies a b) = no_candidate
-candidate_in (names text a) = no_candidate
-candidate_in (opens o) = no_candidate
-candidate_in goes = no_candidate
-candidate_in gives_way = no_candidate
+candidate_in y = record { number = 0; clause = record { name = []; patterns = term.none; tests = []; section = 0; body = [] }; places = [] }
 
 pub moves_commit : (a : Making) (place : ℕ) (goal : Goal CellName) (x : Qualified CellName) (m n : Machine) → a.move ≡ move.Commits place → Commits (record { predicate = a.predicate; place = place; places = a.places }) goal x m n → MovesAs a goal x m n
 moves_commit a place goal x m n is c =
@@ -51,14 +46,11 @@ moves_commit a place goal x m n is c =
 -- ---- other moves
 
 -- a move that is one of the definitions for each reading
-moves_one : (a : Making) (y : Move CellName) (j : Reading → model.Move) (goal : Goal CellName) (x : Qualified CellName) (m n : Machine) → a.move ≡ y → ((f : Reading) (k : model.Move) → IsMove f m.store.held (Some k) a.predicate a.places a.text (Some y) → Some k ≡ Some (j f)) →
+pub moves_one : (a : Making) (y : Move CellName) (j : Reading → model.Move) (goal : Goal CellName) (x : Qualified CellName) (m n : Machine) → a.move ≡ y → ((f : Reading) (k : model.Move) → IsMove f m.store.held (Some k) a.predicate a.places a.text (Some y) → Some k ≡ Some (j f)) →
     TurnsAs (λ f. moved (goal_with (meaning f m.store.held) goal) (aim f m.store.held x) (j f)) m n → MovesAs a goal x m n
 moves_one a y j goal x m n is found c =
     let P : Move CellName → Type 0 = λ z. MovesAs (record a { move = z }) goal x m n in
     subst P (sym is) (record { turns = λ ms k made_is. moves_as ms goal x m n k j (λ f knows. found_is (k f) (j f) (Some (k f)) refl (found f (k f) (made_is f knows))) (c.turns ms); machine = c.machine; named = c.named })
-
-pub moves_exception : (a : Making) (b : BuiltIn) (goal : Goal CellName) (x : Qualified CellName) (m n : Machine) → a.move ≡ move.Raises b → TurnsAs (λ f. raised (goal_with (meaning f m.store.held) goal) (text_of b) (aim f m.store.held x)) m n → MovesAs a goal x m n
-moves_exception a b goal x m n is c = moves_one a (move.Raises b) (λ f. raises (text_of b)) goal x m n is (λ f k e. e) c
 
 pub moves_unification : (a : Making) (l r : Cell CellName) (goal : Goal CellName) (x : Qualified CellName) (m n : Machine) → a.move ≡ move.Unifies l r → UnifiesAs goal x l r m n → MovesAs a goal x m n
 moves_unification a l r goal x m n is c = moves_one a (move.Unifies l r) (λ f. unifies (meaning f m.store.held l) (meaning f m.store.held r)) goal x m n is (λ f k e. e) c
@@ -66,16 +58,11 @@ moves_unification a l r goal x m n is c = moves_one a (move.Unifies l r) (λ f. 
 pub moves_order : (a : Making) (s : ℕ) (o : ExecuteArguments CellName) (goal : Goal CellName) (x : Qualified CellName) (m n : Machine) → a.move ≡ move.Opens s → IsOrder m.store.held s o → OpensChild s goal x m n → MovesAs a goal x m n
 moves_order a s o goal x m n is order c = moves_one a (move.Opens s) (λ f. opens (order_at f m.store.held o)) goal x m n is (λ f k e. e o order) (record { turns = c.turns o order; machine = c.machine; named = c.named })
 
-pub moves_nothing : (a : Making) (goal : Goal CellName) (x : Qualified CellName) (m : Machine) → a.move ≡ move.Goes → IsMachine m → MovesAs a goal x m m
-moves_nothing a goal x m is i = moves_one a move.Goes (λ f. goes) goal x m m is (λ f k e. e) (as_none m i)
-
 pub moves_giving_way : (a : Making) (goal : Goal CellName) (x : Qualified CellName) (m n : Machine) → a.move ≡ move.GivesWay → IsMachine m → IsIn m.store.held x.cell → IsOwned (length m.shoens.shoens) goal → Puts goal.shoen goal.priority (Reduces x) m n → MovesAs a goal x m n
 moves_giving_way a goal x m n is i inside own p =
     let come = with_goal (goal_at (suc m.counts.last_goal) goal.shoen goal.priority (Reduces x)) m in
-    let Q : Machine → Type 0 = λ z. IsMachine z → MovesAs a goal x m z in
-    subst Q (sym p.is)
-    (λ machine. moves_one a move.GivesWay (λ f. gives_way) goal x m come is (λ f k e. e) (record { turns = λ ms. replaced_turns ms m.store.held (made m) goal (Reduces x) i.inside inside own; machine = machine; named = record { name = refl; spelled = refl } }))
-    p.machine
+    let machine : IsMachine come = rw p.is at p.machine in
+    rw p.is (moves_one a move.GivesWay (λ f. gives_way) goal x m come is (λ f k e. e) (record { turns = λ ms. replaced_turns ms m.store.held (made m) goal (Reduces x) i.inside inside own; machine = machine; named = record { name = refl; spelled = refl } }))
 
 -- ---- a move with the charge before it
 
@@ -89,12 +76,11 @@ pub record RunsAs (a : Making) (goal : Goal CellName) (x : Qualified CellName) (
 
 pub runs : (a : Making) (b : Move CellName) (goal : Goal CellName) (x : Qualified CellName) (m c d u : Machine) (reached : Bool) → Charges goal.shoen m c reached → StandsFor b a c d → MovesAs (record a { move = b }) goal x d u → RunsAs a goal x m u
 runs a b goal x m c d u reached charges stands moves =
-    let y : Machine = record m { shoens = record m.shoens { work = goal.shoen ∷ m.shoens.work }; shifts = m.shifts || reached } in
-    let C : Machine → Type 0 = λ z. Turns (λ f. charge goal.shoen) m z → StandsFor b a z d → RunsAs a goal x m u in
-    let D : Machine → Type 0 = λ z. StandsFor b a y z → MovesAs (record a { move = b }) goal x z u → RunsAs a goal x m u in
-    subst C (sym charges.is)
-    (λ first stand. subst D (sym stand.is)
-    (λ p q. record {
+    let first = rw charges.is at charges.turns in
+    let stand = rw charges.is at stands in
+    let p = rw stand.is at stand in
+    let q = rw stand.is at moves in
+    record {
       turns = λ ms k key reads is.
           let then = q.turns ms (p.by k) (p.made_by ms k is) in
           record {
@@ -107,12 +93,4 @@ runs a b goal x m c d u reached charges stands moves =
       machine = q.machine;
       name = q.named.name;
       spelled = q.named.spelled;
-    })
-    stand moves)
-    charges.turns stands
-
--- a machine whose shoen was charged, and that was told a name, is what it was but for that
-pub charged_still : (P : Machine → Type 0) (n : ℕ) (m c d : Machine) (o : Option (List ℕ)) (reached : Bool) → Charges n m c reached → d ≡ record c { name = o } → P (record m { shoens = record m.shoens { work = n ∷ m.shoens.work }; shifts = m.shifts || reached; name = o }) → P d
-charged_still P n m c d o reached charges is p =
-    let Q : Machine → Type 0 = λ z. P (record z { name = o }) in
-    subst P (sym is) (subst Q (sym charges.is) p)
+    }

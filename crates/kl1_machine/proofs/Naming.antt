@@ -1,17 +1,15 @@
 -- Names that goals make.
-use Rattle.kl1_machine.proofs.Words.{◌≡◌, ℕ, suc, ◌<◌, ◌-◌, ◌||◌, not, Bool, true, false, if◌then◌else◌, List, [], ◌∷◌, ◌++◌, length, refl, sym, ap, ◌∙◌, subst, arith, ℤ, Option, None, Some, nat_le, IsTrue, bytes_eq, bytes_eq-Decides, MOST_NAMES, Failure, Exhaustion, is_text, Term, Terms, integer, atom, structure, sizes, replace, Replacement, Equation, highest_among, mgu_within, mgu, remains, conflicts, equations_size, after, State, replace_in_state, with_name, charge, exhaustion, failure, after_reduction, moved, equation, names, raises, unifies, or_exhaustion, unified, named_by, Reads, CellName, Known, number_by, no_names, Cell, Variable, Integer, Atom, Structure, Point, Held, IsIn, IsWalked, is_bound, with_binding, Kept, point_of, IsFormed, Grown, term_of-unbound, term_of-Integer, term_of-Atom, term_of-binding, Grown-binding, Predicate, Place, at_structure, Move, Numbered, Spelled, Reading, built, reading_of, reading_fits, meaning, texts_of, Made, Knows, worked, IsMadeIn, names_with, keeps_names, name_of, spare, name_for, StaysFree, settle_charged_late, replaced_state, base, rereads, grown_made, turns_then, settles_late, unbound_by, known_named, new_named, named_turns, Machine, Named, made, IsMachine, Turns, Charges, Making, CanBecome, IsNameless, with_text, ReadsText, StandsFor, Spells, UsesName, LateAs, IsFree, SparesLast, IsBoundLast, HoldsSpare, Patches}
+use Rattle.kl1_machine.proofs.Words.{◌≡◌, ℕ, suc, ◌<◌, ◌-◌, ◌||◌, not, Bool, true, false, if◌then◌else◌, List, [], ◌∷◌, ◌++◌, length, refl, sym, ap, ◌∙◌, arith, ℤ, Option, None, Some, nat_le, IsTrue, bytes_eq, bytes_eq-Decides, MOST_NAMES, Failure, Exhaustion, is_text, Term, Terms, integer, atom, structure, sizes, replace, Replacement, Equation, highest_among, mgu_within, mgu, remains, conflicts, equations_size, after, State, replace_in_state, with_name, charge, exhaustion, failure, moved, equation, names, raises, unifies, or_exhaustion, unified, named_by, CellName, Known, number_by, no_names, Cell, Variable, Atom, Held, IsIn, IsWalked, is_bound, with_binding, IsFormed, term_of-unbound, term_of-Atom, term_of-binding, Predicate, Place, Move, Reading, reading_of, reading_fits, meaning, texts_of, Made, worked, IsMadeIn, names_with, keeps_names, name_of, name_for, StaysFree, replaced_state, base, rereads, turns_then, unbound_by, known_named, new_named, named_turns, Machine, Named, made, IsMachine, Turns, Charges, Making, CanBecome, IsNameless, with_text, StandsFor, Spells, UsesName, IsFree, inl, inr}
+use Rattle.std.proofs.lemmas.Bool.{cases_Bool}
 use Rattle.kl1_model.specs.State.{Goal}
+use Rattle.kl1_atoms.specs.Knowing.{option_cases}
+use Rattle.kl1_stream.proofs.Tails.{BreaksOff, off_is}
 use Rattle.kl1_model.specs.Reduction as model
 use Rattle.kl1_goals_moves.specs.declared.moves.Move.TheVariants as move
 use Rattle.kl1_user_effects.specs.Works as works
-use Rattle.kl1_machine.proofs.Keeping.{Grows, grown_machine}
 use Rattle.kl1_machine.proofs.Sincing.{named_machine}
 
 -- ---- which variable becomes a name
-
--- a text that an account with these names knows or may not use, or a cell that can't become the name, unless it is it
-abbrev pub CannotBecome : Held CellName → List Known → List ℕ → Cell CellName → Type 0
-CannotBecome h known text a = number_by known text ≡ None → keeps_names known text ≡ true → (f : Reading) → Reads built f → (meaning f h a ≡ atom text → ⊥) → mgu (equation (meaning f h a) (atom text)) ≡ None
 
 -- what a cell was dereferenced to
 pub record Walks (h : Held CellName) (a x : Cell CellName) : Type 0 where
@@ -19,9 +17,10 @@ pub record Walks (h : Held CellName) (a x : Cell CellName) : Type 0 where
   pub walked : IsWalked h x
   pub means : (f : Reading) → meaning f h x ≡ meaning f h a
 
-not_true : (c : Bool) → (c ≡ true → ⊥) → c ≡ false
-not_true true other = absurd (other refl)
-not_true false other = refl
+-- a cell that is no variable breaks a stream
+pub breaks_unless : (x : Cell CellName) → ((v : ℕ) → x ≡ Variable v → ⊥) → BreaksOff x
+breaks_unless (Variable v) never = absurd (never v refl)
+breaks_unless x never = tt
 
 integer_unsolved : (i : ℤ) (b : List ℕ) → mgu (equation (integer i) (atom b)) ≡ None
 unfolding mgu_within
@@ -37,25 +36,9 @@ structure_unsolved g ts b =
 atom_unsolved : (a b : List ℕ) → (a ≡ b → ⊥) → mgu (equation (atom a) (atom b)) ≡ None
 unfolding mgu_within
 atom_unsolved a b other =
-    ap (λ (c : Bool). after (mgu_within 2 1) (λ to. mgu_within 1 (equations_size to) to) (if c then remains [] else conflicts)) (not_true (bytes_eq a b) (λ e. other ((bytes_eq-Decides a b).0 e)))
-
--- what is no variable becomes no name, unless it is it
-others_unsolved : (h : Held CellName) (text : List ℕ) (x : Cell CellName) (f : Reading) → IsFormed h → IsIn h x → ((v : ℕ) → x ≡ Variable v → ⊥) → (meaning f h x ≡ atom text → ⊥) → mgu (equation (meaning f h x) (atom text)) ≡ None
-others_unsolved h text (Variable v) f p inside never other = absurd (never v refl)
-others_unsolved h text (Integer i) f p inside never other = let P : Term → Type 0 = λ t. mgu (equation t (atom text)) ≡ None in subst P (sym (term_of-Integer f h i)) (integer_unsolved i text)
-others_unsolved h text (Atom n) f p inside never other =
-    let P : Term → Type 0 = λ t. mgu (equation t (atom text)) ≡ None in
-    let is : meaning f h (Atom n) ≡ atom (f n) = term_of-Atom f h n in
-    subst P (sym is) (atom_unsolved (f n) text (λ q. other (is ∙ ap atom q)))
-others_unsolved h text (Structure s) f p inside never other =
-    let P : Term → Type 0 = λ t. mgu (equation t (atom text)) ≡ None in
-    let t = at_structure f h (Structure s) s p refl inside in
-    subst P (sym t.is) (structure_unsolved t.name t.arguments text)
-
-pub others_cannot : (h : Held CellName) (known : List Known) (text : List ℕ) (a x : Cell CellName) → IsFormed h → Walks h a x → ((v : ℕ) → x ≡ Variable v → ⊥) → CannotBecome h known text a
-others_cannot h known text a x p to never = λ new keeps f reads other.
-    let P : Term → Type 0 = λ t. (t ≡ atom text → ⊥) → mgu (equation t (atom text)) ≡ None in
-    subst P (to.means f) (others_unsolved h text x f p to.inside never) other
+    let apart : bytes_eq a b ≡ false =
+    elim (cases_Bool (bytes_eq a b)) [ inl same ↦ absurd (other ((bytes_eq-Decides a b).0 same)) | inr apart ↦ apart ] in
+    ap (λ (c : Bool). after (mgu_within 2 1) (λ to. mgu_within 1 (equations_size to) to) (if c then remains [] else conflicts)) apart
 
 -- an unbound variable becomes a name that is new, if the account may use it
 pub variable_can : (h : Held CellName) (known : List Known) (text : List ℕ) (a : Cell CellName) (v : ℕ) → Walks h a (Variable v) → IsTrue (is_text text) → number_by known text ≡ None → keeps_names known text ≡ true → CanBecome h known text a v
@@ -74,32 +57,12 @@ found_is m n o a b = cc
 
 -- what comes of a move that is another by a text that is another
 pub used_as : (y z : Move CellName) (text bytes : List ℕ) (m n : Machine) (r : Named) → z ≡ y → text ≡ bytes → UsesName y text m n r → UsesName z bytes m n r
-used_as y z text bytes m n r e same u =
-    let Y : Move CellName → Type 0 = λ k. UsesName k bytes m n r in
-    let T : List ℕ → Type 0 = λ l. UsesName y l m n r in
-    subst Y (sym e) (subst T same u)
+used_as y z text bytes m n r e same u = rw (e, ← same) u
 
 -- by a move that uses no name no name is used
-unnamed : (y : Move CellName) (known : List Known) (text : List ℕ) → IsNameless y → name_for y known text ≡ None
-unnamed (move.Commits place) known text never = refl
-unnamed (move.Raises b) known text never = refl
-unnamed (move.Unifies a b) known text never = refl
+pub unnamed : (y : Move CellName) (known : List Known) (text : List ℕ) → IsNameless y → name_for y known text ≡ None
 unnamed (move.Names a) known text never = absurd (never a refl)
-unnamed (move.Opens s) known text never = refl
-unnamed move.Goes known text never = refl
-unnamed move.GivesWay known text never = refl
-
--- such a move stands for itself
-pub nameless_stands : (a : Making) (m : Machine) → IsMachine m → m.name ≡ None → IsNameless a.move → StandsFor a.move a m m
-nameless_stands a m i none never = record {
-  is = ap (λ (o : Option (List ℕ)). let z : Machine = record m { name = o } in z) (none ∙ sym (unnamed a.move m.names.names a.text never));
-  machine = i;
-  nameless = never;
-  inside = λ j. j;
-  by = λ k. k;
-  made_by = λ ms k is. is;
-  does = λ ms k key reads is f knows g t s. refl;
-}
+unnamed y known text never = refl
 
 -- whether there is room for a name, as the definitions have it
 pub room_is : (m : Machine) (text : List ℕ) (c : Bool) → m.name ≡ None → keeps_names m.names.names text ≡ c → nat_le (length (with_name (made m).names text)) MOST_NAMES ≡ c
@@ -112,20 +75,18 @@ names_by c text b k g t s room is = ap (λ (x : model.Move). moved g t x s) (fou
 module _ (p : Predicate CellName) (places : List (Place CellName)) (text : List ℕ) (a : Cell CellName) (m : Machine) (i : IsMachine m) (none : m.name ≡ None) where
   -- a name too many is an exception
   pub full_stands : keeps_names m.names.names text ≡ false → StandsFor (move.Raises Exhaustion) (record { predicate = p; move = move.Names a; places = places; text = text }) m m
-  full_stands full = record {
-    is = ap (λ (o : Option (List ℕ)). let z : Machine = record m { name = o } in z) (none ∙ by_number (number_by m.names.names text) (keeps_names m.names.names text) full);
-    machine = i;
-    nameless = λ b e. absurd (cc);
-    inside = λ j. tt;
-    by = λ k f. raises exhaustion;
-    made_by = λ ms k is f knows. refl;
-    does = λ ms k key reads is f knows g t s. names_by false text (meaning f m.store.held a) (k f) g t (worked f s m.store.held (made m)) (room_is m text false none full) (is f knows);
-  }
-    where
-      by_number : (o : Option ℕ) (c : Bool) → c ≡ false → None ≡ name_of o c text
-      by_number None true e = absurd (cc)
-      by_number None false e = refl
-      by_number (Some k) c e = refl
+  full_stands full =
+      let unused : None ≡ name_of (number_by m.names.names text) (keeps_names m.names.names text) text =
+      elim (option_cases (number_by m.names.names text)) [ inl new ↦ rw (new, full) | inr old ↦ rw old.1 ] in
+      record {
+        is = ap (λ (o : Option (List ℕ)). let z : Machine = record m { name = o } in z) (none ∙ unused);
+        machine = i;
+        nameless = λ b e. absurd (cc);
+        inside = λ j. tt;
+        by = λ k f. raises exhaustion;
+        made_by = λ ms k is f knows. refl;
+        does = λ ms k key reads is f knows g t s. names_by false text (meaning f m.store.held a) (k f) g t (worked f s m.store.held (made m)) (room_is m text false none full) (is f knows);
+      }
 
   -- a name that is known is unified with the term
   pub known_stands : (k : CellName) → keeps_names m.names.names text ≡ true → number_by m.names.names text ≡ Some k.number → StandsFor (move.Unifies a (Atom k)) (record { predicate = p; move = move.Names a; places = places; text = text }) m m
@@ -141,20 +102,22 @@ module _ (p : Predicate CellName) (places : List (Place CellName)) (text : List 
         made_by = λ ms l is f knows. refl;
         does = λ ms l key reads is f knows g t s.
             let S = worked f s h (made m) in
-            let R : Option ℕ → Type 0 = λ o. ReadsText f h known text a key o in
-            let read : f k ≡ text = subst R number (reads a refl f knows) in
+            let read : f k ≡ text = rw number at (reads a refl f knows) in
             let same : with_name (made m).names text ≡ (made m).names = ap (λ (ns : List (List ℕ)). with_name ns text) (names_are m none) ∙ known_named known text k.number number ∙ sym (names_are m none) in
             names_by true text (meaning f h a) (l f) g t S (room_is m text true none room) (is f knows)
             ∙ ap (λ (ns : List (List ℕ)). unified g t (mgu (equation (meaning f h a) (atom text))) (let z : State = record S { names = ns } in z)) same
             ∙ ap (λ (b : Term). unified g t (mgu (equation (meaning f h a) b)) S) (sym (term_of-Atom f h k ∙ ap atom read));
       }
 
-  -- one that is new is used, and the goal fails, as the term can't become it
-  pub new_stands : keeps_names m.names.names text ≡ true → number_by m.names.names text ≡ None → CannotBecome m.store.held m.names.names text a →
+  -- one that is new is used, and the goal fails: what is no variable becomes no name, unless it is it
+  pub new_stands : (x : Cell CellName) → keeps_names m.names.names text ≡ true → number_by m.names.names text ≡ None → IsFormed m.store.held → Walks m.store.held a x → ((v : ℕ) → x ≡ Variable v → ⊥) →
       StandsFor (move.Raises Failure) (record { predicate = p; move = move.Names a; places = places; text = text }) m (record m { name = Some text })
-  new_stands room number cannot =
+  new_stands x room number formed to never =
       let h = m.store.held in
       let known = m.names.names in
+      let cannot : (f : Reading) → (meaning f h a ≡ atom text → ⊥) → mgu (equation (meaning f h a) (atom text)) ≡ None = λ f.
+      off_is f (λ t. (t ≡ atom text → ⊥) → mgu (equation t (atom text)) ≡ None) h a x formed to.inside (breaks_unless x never) (to.means f)
+      (λ i other. integer_unsolved i text) (λ b other. atom_unsolved b text (λ e. other (ap atom e))) (λ g ts other. structure_unsolved g ts text) in
       record {
         is = ap (λ (o : Option (List ℕ)). let z : Machine = record m { name = o } in z) (sym (ap (λ c. name_of None c text) room) ∙ sym (ap (λ o. name_of o (keeps_names known text) text) number));
         machine = (named_machine m text i).machine;
@@ -164,19 +127,14 @@ module _ (p : Predicate CellName) (places : List (Place CellName)) (text : List 
         made_by = λ ms k is f knows. refl;
         does = λ ms k key reads is f knows g t s.
             let S = worked f s h (made m) in
-            let R : Option ℕ → Type 0 = λ o. ReadsText f h known text a key o in
-            let read : keeps_names known text ≡ true → (f key ≡ text) × (meaning f h a ≡ atom text → ⊥) = subst R number (reads a refl f knows) in
+            let read : keeps_names known text ≡ true → (f key ≡ text) × (meaning f h a ≡ atom text → ⊥) = rw number at (reads a refl f knows) in
             let used : with_name (made m).names text ≡ texts_of known ++ text ∷ [] = ap (λ (ns : List (List ℕ)). with_name ns text) (names_are m none) ∙ new_named known text number in
             names_by true text (meaning f h a) (k f) g t S (room_is m text true none room) (is f knows)
             ∙ ap (λ (ns : List (List ℕ)). unified g t (mgu (equation (meaning f h a) (atom text))) (let z : State = record S { names = ns } in z)) used
-            ∙ ap (λ (o : Option (List Replacement)). unified g t o (worked f s h (made (record m { name = Some text })))) (cannot number room f knows.reads (read room).1);
+            ∙ ap (λ (o : Option (List Replacement)). unified g t o (worked f s h (made (record m { name = Some text })))) (cannot f (read room).1);
       }
 
 -- ---- a variable that becomes a name
-
--- a store of which a variable was bound has grown
-pub bound_grows : (m : Machine) (k : Kept CellName) (v : ℕ) (x : Cell CellName) → k.held ≡ with_binding m.store.held v x → k.hooks ≡ m.store.hooks → Grows m k
-bound_grows m k v x is hooks = let G : Held CellName → Type 0 = λ h. Grown m.store.held h in record { grown = subst G (sym is) (Grown-binding m.store.held v x); hooks = hooks }
 
 -- a variable that means itself is unbound
 pub free_unbound : (v : ℕ) (h : Held CellName) → IsFree v h → IsFormed h → v < h.variables → is_bound v h.bindings ≡ false
@@ -186,91 +144,33 @@ free_unbound v h free formed within = let f = reading_of [] in unbound_by h f v 
 pub still_free : (v : ℕ) (m c d : Machine) → is_bound v m.store.held.bindings ≡ false → c.store.held ≡ m.store.held → StaysFree v c.store.held d.store.held → IsFree v d.store.held
 still_free v m c d unbound same stays f reads = stays f reads (ap (λ (h : Held CellName). meaning f h (Variable v)) same ∙ term_of-unbound f m.store.held v unbound)
 
--- a variable is bound to the spare number
-pub spares : (m : Machine) (k : Kept CellName) (v : ℕ) (p : Point) → IsMachine m → IsFormed m.store.held → v < m.store.held.variables → IsFree v m.store.held → p ≡ point_of m.store → k.held ≡ with_binding m.store.held v (Atom spare) → k.hooks ≡ m.store.hooks →
-    SparesLast v m (record m { store = k; spelled = Some (record { variable = v; before = p }) })
-spares m k v p i formed within free at is hooks =
-    let grown = grown_machine m k (bound_grows m k v (Atom spare) is hooks) i in
-    record {
-      point = p;
-      marked = ap (λ (y : Point). y.sizes) at;
-      formed = formed;
-      within = within;
-      unbound = free_unbound v m.store.held free formed within;
-      bound = is;
-      hooks = hooks;
-      rest = refl;
-      machine = record { inside = grown.inside; last = grown.last; placed = grown.placed; known = grown.known };
-    }
-
 -- if a variable is bound to a number that is read as a text, it is replaced by this text
-bound_state : (f : Reading) (s : State) (h : Held CellName) (w : Made) (v : ℕ) (n : CellName) (text : List ℕ) → f n ≡ text → IsMadeIn h w → replace_in_state v (atom text) (worked f s h w) ≡ worked f s (with_binding h v (Atom n)) w
+pub bound_state : (f : Reading) (s : State) (h : Held CellName) (w : Made) (v : ℕ) (n : CellName) (text : List ℕ) → f n ≡ text → IsMadeIn h w → replace_in_state v (atom text) (worked f s h w) ≡ worked f s (with_binding h v (Atom n)) w
 bound_state f s h w v n text is i =
     let k = with_binding h v (Atom n) in
     let agree : (x : Cell CellName) → replace v (atom text) (meaning f h x) ≡ meaning f k x = λ x. sym (term_of-binding f h v (Atom n) x ∙ ap (λ (t : Term). replace v t (meaning f h x)) (term_of-Atom f h n ∙ ap atom is)) in
     replaced_state (base s w) v (atom text) (meaning f h) (h.variables - 1) w.goals w.shoens
     ∙ rereads s (λ x. replace v (atom text) (meaning f h x)) (meaning f k) (h.variables - 1) h w (λ x j. agree x) i
 
--- shoen `n` was charged, and a text is used as a name that is new, which cell `a`, that is variable `v`, becomes
-pub record Marks (n v : ℕ) (text : List ℕ) (a : Cell CellName) (m d : Machine) : Type 0 where
-  pub turns : Turns (λ f s. with_text text (charge n s)) m d
-  pub name : d.name ≡ Some text
-  pub held : d.store.held ≡ m.store.held
-  pub can : CanBecome m.store.held m.names.names text a v
+-- shoen `n` was charged, and the text that a move uses is used as a name that is new, which the move's cell, that is variable `v`, becomes
+pub record Marks (a : Making) (n v : ℕ) (m d : Machine) : Type 0 where
+  pub target : Cell CellName
+  pub uses : a.move ≡ move.Names target
+  pub none : m.name ≡ None
+  pub turns : Turns (λ f s. with_text a.text (charge n s)) m d
+  pub name : d.name ≡ Some a.text
+  pub can : CanBecome m.store.held m.names.names a.text target v
 
-pub marked : (n v : ℕ) (y : Move CellName) (text : List ℕ) (m c d : Machine) (reached : Bool) → m.name ≡ None → IsMachine m → Charges n m c reached → (p : Spells v y text c d) → Marks n v text p.target m d
-marked n v y text m c d reached none i charges p =
+pub marked : (a : Making) (n v : ℕ) (m c d : Machine) (reached : Bool) → m.name ≡ None → IsMachine m → Charges n m c reached → Spells v a.move a.text c d → Marks a n v m d
+marked a n v m c d reached none i charges p =
     let h = m.store.held in
     let known = m.names.names in
-    let C : Machine → Type 0 = λ x. CanBecome x.store.held x.names.names text p.target v in
-    let can : C m = let D : Machine → Type 0 = λ x. C x → C m in subst D (sym charges.is) (λ k. k) p.can in
+    let text = a.text in
+    let can : CanBecome m.store.held m.names.names text p.target v = rw charges.is at p.can in
     let x : Machine = record m { shoens = record m.shoens { work = n ∷ m.shoens.work }; shifts = m.shifts || reached } in
-    let T : Machine → Type 0 = λ z. Turns (λ f s. with_text text (charge n s)) m z in
-    let turns : T (record x { name = Some text }) = λ ms.
+    let turns : Turns (λ f s. with_text text (charge n s)) m (record x { name = Some text }) = λ ms.
     let first : works.Turns ms (λ f. charge n) h h (made m) (made x) = record { inside = record { some = i.inside.some; goals = i.inside.goals; shoens = i.inside.shoens; owned = i.inside.owned }; states = λ f knows s. refl } in
     let naming = named_turns ms h (made x) text (names_with (texts_of known) (Some text)) first.inside (ap (λ (ns : List (List ℕ)). with_name ns text) (names_are m none) ∙ new_named known text can.new) in
     turns_then ms (λ f. charge n) (λ f. with_text text) h h h (made m) (made x) (made (record x { name = Some text })) first naming in
     let is : d ≡ record x { name = Some text } = p.is ∙ ap (λ (y : Machine). let z : Machine = record y { name = Some text } in z) charges.is in
-    record { turns = subst T (sym is) turns; name = ap (λ (y : Machine). y.name) is; held = ap (λ (y : Machine). y.store.held) is; can = can }
-
--- a goal of shoen `n` has made variable `v` a name, which is this text and new to the account: whatever number the name gets, if the
--- variable is bound to it, its shoen was charged, the variable was replaced, and shoens of its path have reported that they are
--- exhausted, or have terminated; the spare number stands for the name as yet
-pub record MakesName (n : ℕ) (text : List ℕ) (v : ℕ) (m u : Machine) : Type 0 where
-  pub turns : (ms : List Numbered) (k : CellName) (last : Held CellName) → ((f : Reading) → Knows ms f → f k ≡ text) → Patches u.spelled k u.store.held last →
-      works.Turns ms (λ f s. after_reduction n (replace_in_state v (atom text) (with_text text (charge n s)))) m.store.held last (made m) (made u)
-  pub machine : IsMachine u
-  pub name : u.name ≡ Some text
-  pub last : IsBoundLast u.spelled u.store.held
-  pub spare_last : HoldsSpare u.spelled u.store.held
-
-pub makes_name : (m d e u : Machine) (n v : ℕ) (text : List ℕ) (a : Cell CellName) → Marks n v text a m d → LateAs v (λ f. settle_charged_late v n) d e → SparesLast v e u → MakesName n text v m u
-makes_name m d e u n v text a marks late spares =
-    let h = m.store.held in
-    let k = e.store.held in
-    let spelled : u.spelled ≡ Some (record { variable = v; before = spares.point }) = ap (λ (x : Machine). x.spelled) spares.rest in
-    let made_is : made u ≡ made e = ap made spares.rest in
-    record {
-      turns = λ ms key last reads patches.
-          let P : Option Spelled → Type 0 = λ o. Patches o key u.store.held last in
-          let rebinds : P (Some (record { variable = v; before = spares.point })) = subst P spelled patches in
-          let last_is : last ≡ with_binding k v (Atom key) = rebinds k (Atom spare) spares.marked spares.bound in
-          let before = turns_then ms (λ f s. with_text text (charge n s)) (λ f. settle_charged_late v n) h d.store.held k (made m) (made d) (made e) (marks.turns ms) (late.turns ms) in
-          let C : Reading → State → State = λ f s. after_reduction n (replace_in_state v (atom text) (with_text text (charge n s))) in
-          let T : Held CellName → Made → Type 0 = λ l w. works.Turns ms C h l (made m) w in
-          let within = marks.can.within in
-          let turns : T (with_binding k v (Atom key)) (made e) = record {
-            inside = grown_made k (with_binding k v (Atom key)) (made e) (Grown-binding k v (Atom key)) before.inside;
-            states = λ f knows s.
-                settles_late n v text (with_text text (charge n (worked f s h (made m)))) (omega (arith, within))
-                ∙ ap (replace_in_state v (atom text)) (before.states f knows s)
-                ∙ bound_state f s k (made e) v key text (reads f knows) before.inside;
-          } in
-          subst (λ (l : Held CellName). T l (made u)) (sym last_is) (subst (λ (w : Made). T (with_binding k v (Atom key)) w) (sym made_is) turns);
-      machine = spares.machine;
-      name = ap (λ (x : Machine). x.name) spares.rest ∙ late.named.name ∙ marks.name;
-      last =
-          subst (λ (o : Option Spelled). IsBoundLast o u.store.held) (sym spelled)
-          (record { before = k; constant = Atom spare; is = tt; marked = spares.marked; formed = spares.formed; within = spares.within; unbound = spares.unbound; bound = spares.bound });
-      spare_last = subst (λ (o : Option Spelled). HoldsSpare o u.store.held) (sym spelled) (record { before = k; bound = spares.bound });
-    }
+    record { target = p.target; uses = p.uses; none = none; turns = rw is turns; name = ap (λ (y : Machine). y.name) is; can = can }

@@ -1,5 +1,5 @@
 -- Shoens that open, with their monitors and goals, and the children that goals open.
-use Rattle.kl1_machine.proofs.Words.{◌≡◌, ℕ, suc, ◌-◌, ◌<◌, ◌==◌, ◌&&◌, ◌||◌, Bool, true, false, if◌then◌else◌, List, [], ◌∷◌, ◌++◌, length, map, length-append, refl, sym, ap, ◌∙◌, subst, arith, nat_lt, find, Option, Some, list_any, ne_eqb, map-append, MONITOR_PRIORITY, number_of_term, State, limits_of, report, exhaustion, started_report, exhausted_report, clipped_to, open_child, clipped, opens, or_exhaustion, raised, moved, CellName, Cell, Qualified, ExecuteArguments, order_at, IsOrder, Monitor, Reduces, Task, Goal, is_monitor, is_monitor_of, Shoen, has_number, path_in, Reading, meaning, goal_with, shoen_with, aim, whole, AreOwned, worked, finds, path_read, child_of, Machine, made, IsMachine, goal_at, with_goal, with_shoen, Becomes, Puts, TurnsAs, JoinsAs, OpensAs, OpensChild}
+use Rattle.kl1_machine.proofs.Words.{◌≡◌, ℕ, suc, ◌-◌, ◌<◌, ◌==◌, ◌&&◌, ◌||◌, Bool, true, false, if◌then◌else◌, List, [], ◌∷◌, ◌++◌, length, map, length-append, refl, sym, ap, ◌∙◌, subst, arith, nat_lt, find, Option, Some, list_any, ne_eqb, map-append, MONITOR_PRIORITY, number_of_term, State, limits_of, report, exhaustion, started_report, exhausted_report, clipped_to, open_child, clipped, opens, or_exhaustion, raised, moved, CellName, Cell, Qualified, ExecuteArguments, order_at, IsOrder, Monitor, Reduces, Goal, is_monitor, is_monitor_of, Shoen, has_number, path_in, Reading, meaning, goal_with, shoen_with, aim, whole, AreOwned, worked, finds, path_read, child_of, Machine, made, IsMachine, goal_at, with_goal, with_shoen, Becomes, Puts, TurnsAs, JoinsAs, OpensAs, OpensChild}
 use Rattle.std.proofs.lemmas.List.{append_assoc}
 use Rattle.kl1_model.specs.State as model
 use Rattle.kl1_model.specs.Opening as opening
@@ -26,34 +26,9 @@ goal_for last h x = goal_at (suc last) h.number h.high (Reduces (whole x))
 abbrev pub with_opened : Shoen CellName → Cell CellName → ℕ → Machine → Machine
 with_opened h x room m = with_goal (goal_for (suc m.counts.last_goal) h x) (with_goal (monitor_for m.counts.last_goal h) (with_shoen h room m))
 
-opened_states : (f : Reading) (s : State) (h : Shoen CellName) (x : Cell CellName) (room : ℕ) (m : Machine) → h.number ≡ suc (length m.shoens.shoens) →
-    opening.with_shoen (shoen_with (meaning f m.store.held) h) (meaning f m.store.held x) (worked f s m.store.held (made m)) ≡ worked f s m.store.held (made (with_opened h x room m))
-opened_states f s h x room m number =
-    let t = meaning f m.store.held in
-    let S = worked f s m.store.held (made m) in
-    let gs = m.goals.goals in
-    let hs = m.shoens.shoens in
-    let last = m.counts.last_goal in
-    let first = monitor_for last h in
-    let second = goal_for (suc last) h x in
-    let count : length (hs ++ h ∷ []) ≡ suc (length hs) = length-append hs (h ∷ []) ∙ omega arith in
-    let Z : List model.Goal → List model.Shoen → ℕ → State = λ xs ys c. record S { goals = xs; shoens = ys; last_goal = suc (suc last); last_shoen = c } in
-    ap (λ xs. Z xs (S.shoens ++ shoen_with t h ∷ []) h.number) (sym (map-append (goal_with t) gs (first ∷ second ∷ [])))
-    ∙ ap (λ (xs : List (Goal CellName)). Z (map (goal_with t) xs) (S.shoens ++ shoen_with t h ∷ []) h.number) (sym (append_assoc gs (first ∷ []) (second ∷ [])))
-    ∙ ap (λ ys. Z (map (goal_with t) ((gs ++ first ∷ []) ++ second ∷ [])) ys h.number) (sym (map-append (shoen_with t) hs (h ∷ [])))
-    ∙ ap (λ c. Z (map (goal_with t) ((gs ++ first ∷ []) ++ second ∷ [])) (map (shoen_with t) (hs ++ h ∷ [])) c) (number ∙ sym count)
-
 -- one shoen more is there
 pub one_more : (h : Shoen CellName) (room : ℕ) (m u : Machine) → Becomes (with_shoen h room m) u → length u.shoens.shoens ≡ suc (length m.shoens.shoens)
 one_more h room m u b = ap (λ (y : Machine). length y.shoens.shoens) b.is ∙ length-append m.shoens.shoens (h ∷ []) ∙ omega arith
-
--- and it has no monitor as yet
-pub no_monitor_yet : (h : Shoen CellName) (room : ℕ) (m u : Machine) → IsMachine m → h.number ≡ suc (length m.shoens.shoens) → Becomes (with_shoen h room m) u → list_any (is_monitor_of h.number) u.goals.goals ≡ false
-no_monitor_yet h room m u i number b = ap (λ (y : Machine). list_any (is_monitor_of h.number) y.goals.goals) b.is ∙ no_monitor (length m.shoens.shoens) h.number m.goals.goals (omega (arith, number)) i.inside.owned
-
--- a goal that was put leaves shoens and store as they are
-pub put_beside : (shoen priority : ℕ) (task : Task CellName) (u v : Machine) → Puts shoen priority task u v → (v.store ≡ u.store) × (v.shoens ≡ u.shoens)
-put_beside shoen priority task u v p = (ap (λ (y : Machine). y.store) p.is, ap (λ (y : Machine). y.shoens) p.is)
 
 -- a shoen was taken in, then its monitor, and then its goal
 pub record Joins (h : Shoen CellName) (x : Cell CellName) (room : ℕ) (m u v w : Machine) : Type 0 where
@@ -73,7 +48,23 @@ joined h x room m u v w j =
     let P : Machine → Type 0 = λ y. IsMachine y → JoinsAs h x m y in
     subst P (sym (joined_is h x room m u v w j))
     (λ machine. record {
-      turns = λ ms. record { inside = machine.inside; states = λ f knows s. opened_states f s h x room m j.number };
+      turns = λ ms. record {
+        inside = machine.inside;
+        states = λ f knows s.
+            let t = meaning f m.store.held in
+            let S = worked f s m.store.held (made m) in
+            let gs = m.goals.goals in
+            let hs = m.shoens.shoens in
+            let last = m.counts.last_goal in
+            let first = monitor_for last h in
+            let second = goal_for (suc last) h x in
+            let count : length (hs ++ h ∷ []) ≡ suc (length hs) = length-append hs (h ∷ []) ∙ omega arith in
+            let Z : List model.Goal → List model.Shoen → ℕ → State = λ xs ys c. record S { goals = xs; shoens = ys; last_goal = suc (suc last); last_shoen = c } in
+            ap (λ xs. Z xs (S.shoens ++ shoen_with t h ∷ []) h.number) (sym (map-append (goal_with t) gs (first ∷ second ∷ [])))
+            ∙ ap (λ (xs : List (Goal CellName)). Z (map (goal_with t) xs) (S.shoens ++ shoen_with t h ∷ []) h.number) (sym (append_assoc gs (first ∷ []) (second ∷ [])))
+            ∙ ap (λ ys. Z (map (goal_with t) ((gs ++ first ∷ []) ++ second ∷ [])) ys h.number) (sym (map-append (shoen_with t) hs (h ∷ [])))
+            ∙ ap (λ c. Z (map (goal_with t) ((gs ++ first ∷ []) ++ second ∷ [])) (map (shoen_with t) (hs ++ h ∷ [])) c) (j.number ∙ sym count);
+      };
       machine = machine;
       named = record { name = refl; spelled = refl };
     })
@@ -121,33 +112,28 @@ pub record IsChild (s : ℕ) (goal : Goal CellName) (m : Machine) (parent : Shoe
   pub is : h ≡ child_of m.shoens.shoens goal o h.allowance h.low h.high
   pub one : (p : ExecuteArguments CellName) → IsOrder m.store.held s p → p ≡ o
 
-child_states : (s : ℕ) (goal : Goal CellName) (x : Qualified CellName) (m : Machine) (parent : Shoen CellName) (o : ExecuteArguments CellName) (h : Shoen CellName) → IsChild s goal m parent o h → (f : Reading) (z : State) →
-    moved (goal_with (meaning f m.store.held) goal) (aim f m.store.held x) (opens (order_at f m.store.held o)) (worked f z m.store.held (made m)) ≡ opening.open_shoen (shoen_with (meaning f m.store.held) h) (meaning f m.store.held o.goal) (worked f z m.store.held (made m))
-child_states s goal x m parent o h c f z =
-    let t = meaning f m.store.held in
-    let S = worked f z m.store.held (made m) in
-    let O = order_at f m.store.held o in
-    let G = goal_with t goal in
-    let A = aim f m.store.held x in
-    let hs = m.shoens.shoens in
-    let most = limits_of m.rules in
-    let child : Option model.Shoen → model.Shoen = λ y. record (shoen_with t (child_of hs goal o (number_of_term (t o.allowance)) 0 0)) { low = clipped_to y (number_of_term (t o.low)); high = clipped_to y (number_of_term (t o.high)) } in
-    let kept : ℕ → ℕ → ℕ → State = λ n l k. opening.open_shoen (shoen_with t (child_of hs goal o n l k)) (t o.goal) S in
-    ap (λ (ns : List ℕ). or_exhaustion (nat_lt (length hs) most.shoens && nat_lt (length ns) most.depth) G A (open_child S goal.shoen O) S) (path_read t hs goal.shoen)
-    ∙ ap (λ y. or_exhaustion y G A (open_child S goal.shoen O) S) c.room
-    ∙ ap (λ (y : Option model.Shoen). opening.open_shoen (child y) (t o.goal) S) (finds z t (m.store.held.variables - 1) (made m) goal.shoen (Some parent) c.there)
-    ∙ ap (λ n. kept n (clipped parent.low parent.high (number_of_term (t o.low))) (clipped parent.low parent.high (number_of_term (t o.high)))) (sym (c.allowance f))
-    ∙ ap (λ n. kept h.allowance n (clipped parent.low parent.high (number_of_term (t o.high)))) (sym (c.low f))
-    ∙ ap (λ n. kept h.allowance h.low n) (sym (c.high f))
-    ∙ ap (λ (y : Shoen CellName). opening.open_shoen (shoen_with t y) (t o.goal) S) (sym c.is)
-
 -- a child that is opened
 pub child_opened : (s : ℕ) (goal : Goal CellName) (x : Qualified CellName) (m n : Machine) (parent : Shoen CellName) (o : ExecuteArguments CellName) (h : Shoen CellName) → IsChild s goal m parent o h → OpensAs h o.goal m n → OpensChild s goal x m n
 child_opened s goal x m n parent o h c opened = record {
   turns = λ p order. (as_same (λ f. opening.open_shoen (shoen_with (meaning f m.store.held) h) (meaning f m.store.held o.goal)) (λ f. moved (goal_with (meaning f m.store.held) goal) (aim f m.store.held x) (opens (order_at f m.store.held p))) m n
       (λ f z.
-      ap (λ (y : ExecuteArguments CellName). moved (goal_with (meaning f m.store.held) goal) (aim f m.store.held x) (opens (order_at f m.store.held y)) (worked f z m.store.held (made m))) (c.one p order)
-      ∙ child_states s goal x m parent o h c f z)
+      let t = meaning f m.store.held in
+      let S = worked f z m.store.held (made m) in
+      let O = order_at f m.store.held o in
+      let G = goal_with t goal in
+      let A = aim f m.store.held x in
+      let hs = m.shoens.shoens in
+      let most = limits_of m.rules in
+      let child : Option model.Shoen → model.Shoen = λ y. record (shoen_with t (child_of hs goal o (number_of_term (t o.allowance)) 0 0)) { low = clipped_to y (number_of_term (t o.low)); high = clipped_to y (number_of_term (t o.high)) } in
+      let kept : ℕ → ℕ → ℕ → State = λ n l k. opening.open_shoen (shoen_with t (child_of hs goal o n l k)) (t o.goal) S in
+      ap (λ (y : ExecuteArguments CellName). moved G A (opens (order_at f m.store.held y)) S) (c.one p order)
+      ∙ ap (λ (ns : List ℕ). or_exhaustion (nat_lt (length hs) most.shoens && nat_lt (length ns) most.depth) G A (open_child S goal.shoen O) S) (path_read t hs goal.shoen)
+      ∙ ap (λ y. or_exhaustion y G A (open_child S goal.shoen O) S) c.room
+      ∙ ap (λ (y : Option model.Shoen). opening.open_shoen (child y) (t o.goal) S) (finds z t (m.store.held.variables - 1) (made m) goal.shoen (Some parent) c.there)
+      ∙ ap (λ n. kept n (clipped parent.low parent.high (number_of_term (t o.low))) (clipped parent.low parent.high (number_of_term (t o.high)))) (sym (c.allowance f))
+      ∙ ap (λ n. kept h.allowance n (clipped parent.low parent.high (number_of_term (t o.high)))) (sym (c.low f))
+      ∙ ap (λ n. kept h.allowance h.low n) (sym (c.high f))
+      ∙ ap (λ (y : Shoen CellName). opening.open_shoen (shoen_with t y) (t o.goal) S) (sym c.is))
       opened).turns;
   machine = opened.machine;
   named = opened.named;

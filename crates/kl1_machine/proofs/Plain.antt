@@ -1,5 +1,5 @@
 -- Cells that stand in goals and shoens.
-use Rattle.kl1_machine.proofs.Words.{◌≡◌, List, [], ◌∷◌, map, refl, sym, ap, ap₂, ◌∙◌, subst, Option, Some, None, option_map, codes, Term, structure, CellName, Cell, Variable, Integer, Atom, Structure, Held, term_of-Atom, Task, Monitor, Reduces, Substitutes, Goal, Origin, Shoen, Reading, Means, meaning, told_in, aim_with, task_with, goal_with, origin_with, shoen_with, Machine, held_exchanged, read_exchanged, Reschedules, bare, ArePlain, no_atom_means}
+use Rattle.kl1_machine.proofs.Words.{◌≡◌, List, [], ◌∷◌, map, refl, sym, ap, ap₂, ◌∙◌, Option, Some, None, option_map, codes, structure, CellName, Cell, Atom, Held, term_of-Atom, Task, Monitor, Reduces, Substitutes, Goal, Origin, Shoen, Reading, Means, meaning, told_in, aim_with, task_with, goal_with, origin_with, shoen_with, Machine, held_exchanged, read_exchanged, Reschedules, bare, ArePlain, no_atom_means}
 use Rattle.kl1_model.specs.Term as term
 use Rattle.kl1_model.specs.State as model
 use Rattle.kl1_machine.proofs.Resting.{looked_read}
@@ -62,10 +62,8 @@ module _ (t u b d : Means) (c : Passes t u b d) where
 -- ---- what two readings read the same
 
 means_bare : (f g : Reading) (h : Held CellName) → Passes (meaning f h) (meaning g h) (bare f) (bare g)
-means_bare f g h (Variable v) e = refl
-means_bare f g h (Integer i) e = refl
 means_bare f g h (Atom a) e = sym (term_of-Atom f h a) ∙ e ∙ term_of-Atom g h a
-means_bare f g h (Structure s) e = refl
+means_bare f g h x e = refl
 
 -- the cells of goals and shoens that two readings read the same
 pub plain_named : (f g : Reading) (m : Machine) → map (goal_with (meaning f m.store.held)) m.goals.goals ≡ map (goal_with (meaning g m.store.held)) m.goals.goals → map (shoen_with (meaning f m.store.held)) m.shoens.shoens ≡ map (shoen_with (meaning g m.store.held)) m.shoens.shoens → ArePlain f g m
@@ -78,15 +76,12 @@ plain_named f g m goals shoens =
 -- goals that are looked at again
 pub plain_looked : (f g : Reading) (m n : Machine) → Reschedules m n → ArePlain f g m → ArePlain f g n
 plain_looked f g m n r p =
-    let S : List (Shoen CellName) → Type 0 = λ ss. map (shoen_with (bare f)) ss ≡ map (shoen_with (bare g)) ss in
     record {
       goals = looked_read (bare f) n.goals.goals m.goals.goals r.goals ∙ p.goals ∙ sym (looked_read (bare g) n.goals.goals m.goals.goals r.goals);
-      shoens = subst S (sym (ap (λ (x : Machine). x.shoens.shoens) r.rest)) p.shoens;
+      shoens = rw r.rest p.shoens;
     }
 
 -- plain cells, when numbers were exchanged
 pub plain_means : (f : Reading) (ss ns : List CellName) (h : Held CellName) → Passes (bare f) (bare (read_exchanged ss ns f)) (meaning f (held_exchanged ss ns h)) (meaning (read_exchanged ss ns f) h)
-plain_means f ss ns h (Variable v) e = no_atom_means f ss ns h (Variable v) tt
-plain_means f ss ns h (Integer i) e = no_atom_means f ss ns h (Integer i) tt
 plain_means f ss ns h (Atom a) e = term_of-Atom f (held_exchanged ss ns h) a ∙ e ∙ sym (term_of-Atom (read_exchanged ss ns f) h a)
-plain_means f ss ns h (Structure s) e = no_atom_means f ss ns h (Structure s) tt
+plain_means f ss ns h x e = no_atom_means f ss ns h x tt

@@ -1,5 +1,7 @@
 -- Cells that stand in goals and shoens, when a shoen reports or joins.
-use Rattle.kl1_machine.proofs.Words.{◌≡◌, ℕ, suc, Bool, true, false, if◌then◌else◌, List, [], ◌∷◌, ◌++◌, map, refl, sym, ap, ap₂, ◌∙◌, subst, map-append, variable, CellName, Cell, Kept, Shoen, Tree, has_number, changed, Reading, goal_with, shoen_with, torn, tailed, Machine, bare, IsPlain, IsPlainShoen, ArePlain}
+use Rattle.kl1_machine.proofs.Words.{◌≡◌, ℕ, suc, true, List, [], ◌∷◌, ◌++◌, map, refl, sym, ap, ap₂, ◌∙◌, map-append, variable, CellName, Cell, Kept, Shoen, Tree, has_number, changed, Reading, goal_with, shoen_with, torn, tailed, Machine, bare, IsPlain, IsPlainShoen, ArePlain}
+use Rattle.std.proofs.lemmas.Bool.{cases_Bool}
+use Rattle.std.proofs.Common.{inl, inr}
 use Rattle.kl1_model.specs.State as model
 use Rattle.kl1_machine.proofs.Opening.{monitor_for, goal_for, Joins, joined_is}
 
@@ -12,17 +14,16 @@ changed_plain f g n F stays [] a = refl
 changed_plain f g n F stays (h ∷ hs) a =
     let first : shoen_with (bare f) h ≡ shoen_with (bare g) h = cc in
     let rest : map (shoen_with (bare f)) hs ≡ map (shoen_with (bare g)) hs = cc in
-    ap₂ (λ (k : model.Shoen) (ks : List model.Shoen). k ∷ ks) (by_case (has_number n h) first) (changed_plain f g n F stays hs rest)
-  where
-    by_case : (b : Bool) → IsPlainShoen f g h → IsPlainShoen f g (if b then F h else h)
-    by_case true p = stays h p
-    by_case false p = p
+    let others = changed_plain f g n F stays hs rest in
+    elim (cases_Bool (has_number n h)) [
+      | inl here ↦ simp here (ap₂ (λ (k : model.Shoen) (ks : List model.Shoen). k ∷ ks) (stays h first) others)
+      | inr there ↦ simp there (ap₂ (λ (k : model.Shoen) (ks : List model.Shoen). k ∷ ks) first others)
+    ]
 
 pub reported_plain : (f g : Reading) (m : Machine) (k : Kept CellName) (t : Tree CellName) (n reports : ℕ) (F : Shoen CellName → Shoen CellName) → t ≡ record m.shoens { shoens = changed n F m.shoens.shoens } → ((h : Shoen CellName) → IsPlainShoen f g h → IsPlainShoen f g (F h)) → ArePlain f g m →
     ArePlain f g (record m { store = k; shoens = t; counts = record m.counts { reports = reports } })
 reported_plain f g m k t n reports F is stays p =
-    let S : Tree CellName → Type 0 = λ u. map (shoen_with (bare f)) u.shoens ≡ map (shoen_with (bare g)) u.shoens in
-    record { goals = p.goals; shoens = subst S (sym is) (changed_plain f g n F stays m.shoens.shoens p.shoens) }
+    record { goals = p.goals; shoens = rw is (changed_plain f g n F stays m.shoens.shoens p.shoens) }
 
 pub torn_plain : (f g : Reading) (h : Shoen CellName) → IsPlainShoen f g h → IsPlainShoen f g (torn h)
 torn_plain f g h p = ap (λ (k : model.Shoen). let z : model.Shoen = record k { is_broken = true } in z) p
@@ -37,7 +38,6 @@ both_read F G xs ys p q = map-append F xs ys ∙ ap₂ (λ as' bs. as' ++ bs) p 
 
 pub joined_plain : (f g : Reading) (h : Shoen CellName) (x : Cell CellName) (room : ℕ) (m u v w : Machine) → Joins h x room m u v w → IsPlainShoen f g h × IsPlain f g x → ArePlain f g m → ArePlain f g w
 joined_plain f g h x room m u v w j own p =
-    let A : Machine → Type 0 = λ y. ArePlain f g y in
     let F = goal_with (bare f) in
     let G = goal_with (bare g) in
     let first = monitor_for m.counts.last_goal h in
@@ -46,8 +46,7 @@ joined_plain f g h x room m u v w j own p =
     let cell = own.1 in
     let goal : map F (second ∷ []) ≡ map G (second ∷ []) = cc in
     let one : map (shoen_with (bare f)) (h ∷ []) ≡ map (shoen_with (bare g)) (h ∷ []) = cc in
-    subst A (sym (joined_is h x room m u v w j))
-    (record {
+    rw (joined_is h x room m u v w j) (record {
       goals = both_read F G (m.goals.goals ++ first ∷ []) (second ∷ []) (both_read F G m.goals.goals (first ∷ []) p.goals refl) goal;
       shoens = both_read (shoen_with (bare f)) (shoen_with (bare g)) m.shoens.shoens (h ∷ []) p.shoens one;
     })

@@ -1,29 +1,20 @@
 -- Which reductions are refused.
-use Rattle.kl1_machine.proofs.Words.{◌≡◌, ℕ, ◌==◌, ◌&&◌, ◌||◌, if◌then◌else◌, Bool, true, false, List, [], ◌∷◌, map, refl, sym, ap, ◌∙◌, subst, Option, Some, None, option_map, find, AllByRecursion, State, is_enabled, is_enabled_in, reduce, refuse, syntax, step_refused, journal_full, reduced, is_number, is_full, needs_entry, with_reduction, is_in_run, step, Action, reads, moves, acted, task_action, reduce_goal, reduced_by, CellName, Held, control_as, Place, Task, Monitor, Reduces, Substitutes, Goal, is_monitor, is_monitor_task, Shoen, Has, enabled_is, Program, Step, Journal, Reading, Fits, Means, meaning, task_with, goal_with, shoen_with, aim, IsEnabled, AreEnabled, Knows, worked, Machine, made, Plan, IsPlan, DoesNothing, IsSteppable, Refuses}
-use Rattle.kl1_model.specs.State as model
+use Rattle.kl1_machine.proofs.Words.{◌≡◌, ℕ, ◌==◌, ◌&&◌, ◌||◌, if◌then◌else◌, Bool, true, false, List, map, refl, sym, ap, ◌∙◌, Option, Some, None, option_map, find, AllByRecursion, State, is_enabled, is_enabled_in, reduce, refuse, syntax, step_refused, journal_full, reduced, is_number, is_full, needs_entry, with_reduction, is_in_run, step, Action, reads, moves, acted, task_action, reduce_goal, reduced_by, CellName, Held, control_as, Place, Goal, is_monitor, Shoen, Has, enabled_is, Program, Step, Journal, Reading, Fits, Means, meaning, task_with, goal_with, shoen_with, aim, IsEnabled, AreEnabled, Knows, worked, Machine, made, Plan, IsPlan, DoesNothing, IsSteppable, Refuses}
 use Rattle.kl1_model.specs.State.{goal_at}
 use Rattle.kl1_goals.specs.Lists.{has_number}
 use Rattle.kl1_ready.specs.declared.planning.Plan.TheVariants as plan
+use Rattle.kl1_user_effects.proofs.Goals.{monitor_read}
+use Rattle.kl1_user_effects.proofs.Lists.{find_by}
+use Rattle.kl1_machine.proofs.Looking as looking
 
 -- ---- a goal, by its number
 
 -- what holds of each goal holds of the one that is found
 pub found_holds : (P : Goal CellName → Type 0) (n : ℕ) (gs : List (Goal CellName)) (g : Goal CellName) → AllByRecursion P gs → find (has_number n) gs ≡ Some g → P g
-found_holds P n [] g i e = absurd (cc)
-found_holds P n (x ∷ gs) g i e = by_case (x.number == n) e (found_holds P n gs g i.1)
-  where
-    by_case : (b : Bool) → (if b then Some x else find (has_number n) gs) ≡ Some g → (find (has_number n) gs ≡ Some g → P g) → P g
-    by_case true f k = let same : x ≡ g = cc in subst P same i.0
-    by_case false f k = k f
+found_holds P n gs g i e = looking.found_holds P (has_number n) gs g i (sym e)
 
 pub goal_read : (t : Means) (n : ℕ) (gs : List (Goal CellName)) → goal_at n (map (goal_with t) gs) ≡ option_map (goal_with t) (find (has_number n) gs)
-goal_read t n [] = refl
-goal_read t n (g ∷ gs) = by_case (g.number == n) (goal_read t n gs)
-  where
-    by_case : (b : Bool) → goal_at n (map (goal_with t) gs) ≡ option_map (goal_with t) (find (has_number n) gs) →
-        (if b then Some (goal_with t g) else goal_at n (map (goal_with t) gs)) ≡ option_map (goal_with t) (if b then Some g else find (has_number n) gs)
-    by_case true e = refl
-    by_case false e = e
+goal_read t n gs = find_by (goal_with t) (λ g. g.number == n) (has_number n) (λ g. refl) gs
 
 -- the state of an account with a machine
 abbrev pub state_in : Reading → State → Machine → State
@@ -36,12 +27,8 @@ finds_goal f s m n o e = goal_read (meaning f m.store.held) n m.goals.goals ∙ 
 pub enabled_read : (f : Reading) (h : Held CellName) (shoens : List (Shoen CellName)) (work : List ℕ) (s : State) (g : Goal CellName) → s.shoens ≡ map (shoen_with (meaning f h)) shoens → s.work ≡ work → IsEnabled shoens work g → is_enabled s (goal_with (meaning f h) g) ≡ g.is_enabled
 enabled_read f h shoens work s g e w is =
     let has : Has f h shoens work s = record { shoens = e; charged = w } in
-    by_task g.task ∙ ap (λ b. is_monitor g || b) (enabled_is f h shoens work s has g.shoen) ∙ sym is
-  where
-    by_task : (k : Task CellName) → (model.is_monitor (task_with (meaning f h) k) || is_enabled_in s g.shoen) ≡ (is_monitor_task k || is_enabled_in s g.shoen)
-    by_task Monitor = refl
-    by_task (Reduces x) = refl
-    by_task (Substitutes x) = refl
+    ap (λ b. b || is_enabled_in s g.shoen) (monitor_read (meaning f h) g.task)
+    ∙ ap (λ b. is_monitor g || b) (enabled_is f h shoens work s has g.shoen) ∙ sym is
 
 -- ---- the step of a reduction
 
@@ -67,16 +54,6 @@ steps_by f s m n c g may numbers found enabled all =
     ∙ ap (λ b. reduced_by z (is_in_run z n c) (goal_with t g) (if b then task_action z g.shoen (task_with t g.task) c else None))
     (enabled_read f m.store.held m.shoens.shoens m.shoens.work z g refl refl (found_holds (IsEnabled m.shoens.shoens m.shoens.work) n m.goals.goals g all found) ∙ enabled)
 
--- a goal that may step does what its task can
-steps_to : (f : Reading) (s : State) (m : Machine) (n c : ℕ) (g : Goal CellName) → IsSteppable m.goals.goals n c g → AreEnabled m.shoens.shoens m.shoens.work m.goals.goals →
-    step (state_in f s m) (reduce n c) ≡ reduced_by (state_in f s m) (is_in_run (state_in f s m) n c) (goal_with (meaning f m.store.held) g) (task_action (state_in f s m) g.shoen (task_with (meaning f m.store.held) g.task) c)
-steps_to f s m n c g is all = steps_by f s m n c g true is.numbers is.found is.enabled all
-
--- a goal that can do nothing is refused
-pub steps_not : (f : Reading) (s : State) (m : Machine) (n c : ℕ) (g : Goal CellName) → IsSteppable m.goals.goals n c g → AreEnabled m.shoens.shoens m.shoens.work m.goals.goals → task_action (state_in f s m) g.shoen (task_with (meaning f m.store.held) g.task) c ≡ None →
-    step (state_in f s m) (reduce n c) ≡ refuse (state_in f s m) step_refused
-steps_not f s m n c g is all e = steps_to f s m n c g is all ∙ ap (reduced_by (state_in f s m) (is_in_run (state_in f s m) n c) (goal_with (meaning f m.store.held) g)) e
-
 -- an action is done, unless it needs an entry and the journal is full
 pub steps_some : (f : Reading) (s : State) (m : Machine) (n c : ℕ) (g : Goal CellName) (x : Action) (full : Bool) → IsSteppable m.goals.goals n c g → AreEnabled m.shoens.shoens m.shoens.work m.goals.goals → task_action (state_in f s m) g.shoen (task_with (meaning f m.store.held) g.task) c ≡ Some x →
     (needs_entry (is_in_run (state_in f s m) n c) (state_in f s m) && is_full (state_in f s m)) ≡ full →
@@ -85,7 +62,7 @@ steps_some f s m n c g x full is all e room =
     let z = state_in f s m in
     let k = goal_with (meaning f m.store.held) g in
     let in_run = is_in_run z n c in
-    steps_to f s m n c g is all ∙ ap (reduced_by z in_run k) e
+    steps_by f s m n c g true is.numbers is.found is.enabled all ∙ ap (reduced_by z in_run k) e
     ∙ ap (λ b. if b then refuse z journal_full else record { state = acted k x (with_reduction in_run z); reply = reduced }) room
 
 -- goal `n` may step, and readings that fit the names of a machine read the modules
@@ -96,7 +73,11 @@ pub record MayStep (program : Program) (m : Machine) (n c : ℕ) (g : Goal CellN
 
 -- a goal that can do nothing is refused
 pub nothing_refused : (program : Program) (full : Bool) (m : Machine) (n c : ℕ) (g : Goal CellName) → MayStep program m n c g → DoesNothing program m.store.held (made m) g c → Refuses program full n c m Step
-nothing_refused program full m n c g may does = λ f fits s is room. steps_not f s m n c g may.steppable may.enabled (does f (may.knows f fits) s is)
+nothing_refused program full m n c g may does = λ f fits s is room.
+    let z = state_in f s m in
+    let can = may.steppable in
+    steps_by f s m n c g true can.numbers can.found can.enabled may.enabled
+    ∙ ap (reduced_by z (is_in_run z n c) (goal_with (meaning f m.store.held) g)) (does f (may.knows f fits) s is)
 
 -- what a goal can do is refused if it needs an entry and the journal is full
 pub full_refused : (program : Program) (full : Bool) (m : Machine) (n c : ℕ) (g : Goal CellName) (places : List (Place CellName)) (text : List ℕ) (p : Plan) → MayStep program m n c g → full ≡ true → IsPlan program m.store.held (made m) g c places text p → Refuses program full n c m Journal

@@ -1,6 +1,8 @@
 -- What a reduction has left when its name is published.
-use Rattle.kl1_machine.proofs.Words.{◌≡◌, ℕ, ◌<◌, ◌≤◌, ◌&&◌, false, List, [], ◌∷◌, ◌++◌, length, refl, sym, ap, ◌∙◌, subst, Option, Some, None, AllByRecursion, State, is_in_run, reduce, reduced, Transition, is_full, needs_entry, with_reduction, step, Action, acted, CellName, Known, number_by, Cell, Atom, Binding, Held, IsIn, with_binding, Hook, contents, Program, Spelled, Reading, Fits, meaning, goal_with, texts_of, names_with, AreUpTo, NameShelf, AreSmall, spare, IsNewName, AreSettled, AreEnabled, Made, IsMadeIn, worked, Machine, made, Trail, IsMachine, Keeps, IsRested, IsBoundLast, HoldsSpare, Patches, CanPublish, ReadsNew, IsNamed, Publishes, exchanged, ReadsAlike, goals_in_by, shoens_in_by, with_spare, spare_texts, spare_fits, spare_reads, exchanged_fits, settled_alike}
+use Rattle.kl1_machine.proofs.Words.{◌≡◌, ℕ, ◌&&◌, false, List, refl, sym, ap, ◌∙◌, subst, Option, Some, None, State, is_in_run, reduce, reduced, Transition, is_full, needs_entry, with_reduction, step, Action, acted, CellName, Known, number_by, Cell, Atom, Binding, Held, IsIn, with_binding, contents, Program, Spelled, Reading, Fits, meaning, goal_with, texts_of, names_with, NameShelf, AreSmall, spare, IsNewName, AreSettled, Made, IsMadeIn, worked, Machine, made, Trail, Keeps, IsRested, IsBoundLast, HoldsSpare, Patches, CanPublish, IsNamed, Publishes, exchanged, ReadsAlike, goals_in_by, shoens_in_by, with_spare, spare_texts, spare_fits, spare_reads, exchanged_fits, settled_alike, inl, inr}
+use Rattle.std.proofs.lemmas.List.{same_from_push}
 use Rattle.kl1_model.specs.State as model
+use Rattle.kl1_atoms.specs.Knowing.{option_cases}
 use Rattle.kl1_machine.specs.Reducing.{Reduces as HasReduced}
 use Rattle.kl1_machine.proofs.Planned.{state_in, steps_some}
 use Rattle.kl1_machine.proofs.Publishing.{published_made}
@@ -17,18 +19,9 @@ made_bound h v x y w i =
 made_patched : (s : Option Spelled) (k : CellName) (h last : Held CellName) (w : Made) → IsBoundLast s h → Patches s k h last → IsMadeIn h w → IsMadeIn last w
 made_patched None k h last w i patches a = let P : Held CellName → Type 0 = λ z. IsMadeIn z w in subst P (sym patches) a
 made_patched (Some s) k h last w i patches a =
-    let P : Held CellName → Type 0 = λ z. IsMadeIn z w in
-    subst P (sym (patches i.before i.constant i.marked i.bound)) (made_bound i.before s.variable i.constant (Atom k) w (subst P i.bound a))
+    rw (patches i.before i.constant i.marked i.bound) (made_bound i.before s.variable i.constant (Atom k) w (rw i.bound at a))
 
 -- ---- the spare number in its own place
-
-last_same : (bs cs : List (Binding CellName)) (b c : Binding CellName) → bs ++ b ∷ [] ≡ cs ++ c ∷ [] → b ≡ c
-last_same [] [] b c e = cc
-last_same [] (y ∷ []) b c e = absurd (cc)
-last_same [] (y ∷ z ∷ cs) b c e = absurd (cc)
-last_same (x ∷ []) [] b c e = absurd (cc)
-last_same (x ∷ z ∷ bs) [] b c e = absurd (cc)
-last_same (x ∷ bs) (y ∷ cs) b c e = let rest : bs ++ b ∷ [] ≡ cs ++ c ∷ [] = cc in last_same bs cs b c rest
 
 -- if the spare number stands for a name, the store is what it is when the name gets this number
 spare_again : (s : Option Spelled) (h : Held CellName) → HoldsSpare s h → Patches s spare h h
@@ -36,7 +29,7 @@ spare_again None h i = refl
 spare_again (Some s) h i = λ before y marked bound.
     let both : with_binding before s.variable y ≡ with_binding i.before s.variable (Atom spare) = sym bound ∙ i.bound in
     let lists : (with_binding before s.variable y).bindings ≡ (with_binding i.before s.variable (Atom spare)).bindings = ap (λ (z : Held CellName). z.bindings) both in
-    let is : y ≡ Atom spare = ap (λ (b : Binding CellName). b.value) (last_same before.bindings i.before.bindings (record { variable = s.variable; value = y }) (record { variable = s.variable; value = Atom spare }) lists) in
+    let is : y ≡ Atom spare = ap (λ (b : Binding CellName). b.value) (same_from_push before.bindings i.before.bindings (record { variable = s.variable; value = y }) (record { variable = s.variable; value = Atom spare }) lists).1 in
     bound ∙ ap (with_binding before s.variable) is
 
 -- ---- a reduction and a name that is published
@@ -78,22 +71,19 @@ module _ (program : Program) (n c : ℕ) (m u v : Machine) (q : Comes program n 
 
   -- the names that the machine has at last
   published : Numbers m u v.names.names v.store.held
-  published =
-      let N : NameShelf → Type 0 = λ s. IsNamed s.names v.names.names u.name q.published.number in
-      record { number = q.published.number; named = subst N names_are q.published.named; patches = q.published.patches }
+  published = record { number = q.published.number; named = rw names_are at q.published.named; patches = q.published.patches }
 
   -- its name by the spare number
   spared : (text : List ℕ) → u.name ≡ Some text → number_by m.names.names text ≡ None → Numbers m u (with_spare m.names.names text) u.store.held
   spared text is new =
       let known = m.names.names in
       let more = with_spare known text in
-      let R : Option (List ℕ) → Type 0 = λ o. (f : Reading) → Fits more f → ReadsNew f spare o in
       record {
         number = spare;
         named = record {
           texts = spare_texts known text ∙ ap (names_with (texts_of known)) (sym is);
           fits = spare_fits known text new;
-          reads = subst R (sym is) (spare_reads known text new);
+          reads = rw is (spare_reads known text new);
         };
         patches = spare_again u.spelled u.store.held q.reduces.spare_last;
       }
@@ -105,88 +95,58 @@ module _ (program : Program) (n c : ℕ) (m u v : Machine) (q : Comes program n 
   settled_named text is new f fits =
       let known = m.names.names in
       let more = with_spare known text in
-      let R : Option (List ℕ) → Type 0 = λ o. ReadsNew f q.published.number o in
-      let A : NameShelf → Type 0 = λ x. AreSmall x.names in
-      let F : NameShelf → Type 0 = λ x. Fits x.names (exchanged spare q.published.number f) in
       let g = exchanged spare q.published.number f in
       let a = published in
-      let two : Fits more g = exchanged_fits known text q.published.number f (subst A names_are q.can.small) new (subst R is (q.published.named.reads f fits)) (a.named.fits f fits) in
+      let small : AreSmall known = rw names_are at q.can.small in
+      let two : Fits more g = exchanged_fits known text q.published.number f small new (rw is at (q.published.named.reads f fits)) (a.named.fits f fits) in
       let states = same_states more v.names.names u.store.held v.store.held (spared text is new) a g f two fits (bare program) in
       settled_alike g f u.store.hooks u.store.held v.store.held program u.shoens.shoens u.goals.goals (ap (λ (z : State). z.shoens) states) (ap (λ (z : State). z.goals) states)
-      (q.rests.settled g (subst F (sym names_are) (spare_fits known text new g two)))
+      (q.rests.settled g (rw names_are (spare_fits known text new g two)))
 
   -- if none did, the store is what it was
-  settled_unnamed : u.name ≡ None → (f : Reading) → Fits v.names.names f → AreSettled f u.store.hooks v.store.held program u.shoens.shoens u.goals.goals
-  settled_unnamed is f fits =
-      let S : Option Spelled → Type 0 = λ o. Patches o q.published.number u.store.held v.store.held in
-      let H : Held CellName → Type 0 = λ h. AreSettled f u.store.hooks h program u.shoens.shoens u.goals.goals in
-      let stays : v.store.held ≡ u.store.held = subst S (q.can.has is) q.published.patches in
-      subst H (sym stays) (q.rests.settled f (q.published.named.fits f fits))
-
   settled_then : (f : Reading) → Fits v.names.names f → AreSettled f u.store.hooks v.store.held program u.shoens.shoens u.goals.goals
-  settled_then f fits = by_name u.name refl
-    where
-      by_name : (o : Option (List ℕ)) → u.name ≡ o → AreSettled f u.store.hooks v.store.held program u.shoens.shoens u.goals.goals
-      by_name None is = settled_unnamed is f fits
-      by_name (Some text) is =
-          let N : Option (List ℕ) → Type 0 = λ o. IsNewName u.names.names o in
-          let name : IsNewName u.names.names (Some text) = subst N is q.can.name in
-          settled_named text is (ap (λ (x : NameShelf). number_by x.names text) (sym names_are) ∙ name.1.0) f fits
+  settled_then f fits = elim (option_cases u.name) [
+    | inl is ↦
+        let none : u.spelled ≡ None = q.can.has is in
+        let stays : v.store.held ≡ u.store.held = rw none at q.published.patches in
+        rw stays (q.rests.settled f (q.published.named.fits f fits))
+    | inr is ↦
+        let new : IsNewName u.names.names (Some is.0) = rw is.1 at q.can.name in
+        settled_named is.0 is.1 (ap (λ (x : NameShelf). number_by x.names is.0) (sym names_are) ∙ new.1.0) f fits
+  ]
 
   -- ---- the machine rests
 
-  machine_then : IsMachine v
-  machine_then =
+  rests_then : IsRested program v
+  rests_then =
       let i = q.rests.machine in
       let W : Made → Type 0 = λ w. IsMadeIn v.store.held w in
       let inside : IsMadeIn v.store.held (made v) = subst W (sym (published_made u v q.published)) (made_patched u.spelled q.published.number u.store.held v.store.held (made u) q.can.last q.published.patches i.inside) in
       record {
-        inside = inside;
-        placed = (let G : Machine → Type 0 = λ x. x.goals.last ≤ x.counts.last_goal in subst G (sym q.published.rest) i.placed);
-        last = (let L : Machine → Type 0 = λ x. AreUpTo x.counts.last_goal x.goals.goals in subst L (sym q.published.rest) i.last);
-        known = (let K : Machine → Type 0 = λ x. x.goals.shoens ≡ length x.shoens.shoens in subst K (sym q.published.rest) i.known);
-      }
-
-  rests_then : IsRested program v
-  rests_then =
-      let E : Machine → Type 0 = λ x. AreEnabled x.shoens.shoens x.shoens.work x.goals.goals in
-      let O : Machine → Type 0 = λ x. AllByRecursion (λ g. 0 < g.number) x.goals.goals in
-      let S : Reading → Machine → Type 0 = λ f x. AreSettled f u.store.hooks v.store.held program x.shoens.shoens x.goals.goals in
-      let H : Reading → List Hook → Type 0 = λ f hs. AreSettled f hs v.store.held program v.shoens.shoens v.goals.goals in
-      record {
-        machine = machine_then;
+        machine = record { inside = inside; placed = rw q.published.rest i.placed; last = rw q.published.rest i.last; known = rw q.published.rest i.known };
         rules = q.rests.rules ∙ sym (ap (λ (x : Machine). x.rules) q.published.rest);
-        first = subst O (sym q.published.rest) q.rests.first;
+        first = rw q.published.rest q.rests.first;
         rows = λ f fits. q.rests.rows f (q.published.named.fits f fits);
-        settled = λ f fits. (let A : Machine → Type 0 = S f in let B : List Hook → Type 0 = H f in subst B (sym q.published.hooks) (subst A (sym q.published.rest) (settled_then f fits)));
-        enabled = subst E (sym q.published.rest) q.rests.enabled;
+        settled = λ f fits. rw (q.published.hooks, q.published.rest) (settled_then f fits);
+        enabled = rw q.published.rest q.rests.enabled;
       }
 
   -- ---- the states
 
-  states_then : (f : Reading) → Fits v.names.names f → (s : State) → acted (goal_with (meaning f m.store.held) q.reduces.goal) (q.reduces.action f) (state_in f s m) ≡ state_in f s v
-  states_then f fits s =
-      let a = published in
-      q.reduces.acts v.names.names a.number v.store.held a.named a.patches f fits s ∙ ap (worked f s v.store.held) (sym (published_made u v q.published))
-
-  alike_then : ReadsAlike v
-  alike_then f g one two s =
-      let is = published_made u v q.published in
-      ap (worked f s v.store.held) is ∙ same_states v.names.names v.names.names v.store.held v.store.held published published f g one two s ∙ ap (worked g s v.store.held) (sym is)
-
   steps_then : (f : Reading) → Fits v.names.names f → (s : State) → s.modules ≡ contents program.loaded → (needs_entry (is_in_run (state_in f s m) n c) (state_in f s m) && is_full (state_in f s m)) ≡ false →
       step (state_in f s m) (reduce n c) ≡ record { state = state_in f (with_reduction (is_in_run (state_in f s m) n c) s) v; reply = reduced }
   steps_then f fits s is room =
-      let old = published.named.fits f fits in
+      let a = published in
       let in_run = is_in_run (state_in f s m) n c in
-      steps_some f s m n c q.reduces.goal (q.reduces.action f) false q.reduces.steppable q.rested.enabled (q.reduces.does f (rested_knows program m f q.rested old) s is) room
-      ∙ ap (λ (z : State). let y : Transition = record { state = z; reply = reduced } in y) (states_then f fits (with_reduction in_run s))
+      let z = with_reduction in_run s in
+      steps_some f s m n c q.reduces.goal (q.reduces.action f) false q.reduces.steppable q.rested.enabled (q.reduces.does f (rested_knows program m f q.rested (a.named.fits f fits)) s is) room
+      ∙ ap (λ (x : State). let y : Transition = record { state = x; reply = reduced } in y)
+      (q.reduces.acts v.names.names a.number v.store.held a.named a.patches f fits z ∙ ap (worked f z v.store.held) (sym (published_made u v q.published)))
 
--- an account's machine has come to another one by a reduction whose name is published, if it has one: it rests, all readings of its names
--- read the same, and the state is that to which the definitions step, for an account with these modules in whose journal there is room
+-- an account's machine has come to another one by a reduction whose name is published, if it has one: it rests, and the state is that to
+-- which the definitions step, for an account with these modules in whose journal there is room
 pub record IsReduced (program : Program) (n c : ℕ) (m v : Machine) : Type 0 where
   pub rested : IsRested program v
-  pub alike : ReadsAlike v
   pub small : AreSmall v.names.names
   pub name : v.name ≡ None
   pub steps : (f : Reading) → Fits v.names.names f → (s : State) → s.modules ≡ contents program.loaded → (needs_entry (is_in_run (state_in f s m) n c) (state_in f s m) && is_full (state_in f s m)) ≡ false →
@@ -197,7 +157,6 @@ published_reduced program n c m u v rested alike reduces keeps rests published =
     let q : Comes program n c m u v = record { rested = rested; alike = alike; reduces = reduces; keeps = keeps; rests = rests.0; can = rests.1; published = published } in
     record {
       rested = rests_then program n c m u v q;
-      alike = alike_then program n c m u v q;
       small = published.small;
       name = ap (λ (x : Machine). x.name) published.rest;
       steps = steps_then program n c m u v q;

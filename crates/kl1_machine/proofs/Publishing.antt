@@ -1,12 +1,8 @@
 -- A name that is published.
-use Rattle.kl1_machine.proofs.Words.{◌≡◌, ℕ, ◌+◌, ◌≤◌, ◌<◌, ◌^◌, true, List, [], ◌∷◌, length, refl, sym, ap, ◌∙◌, subst, inr, arith, leb-true, length-map, length_push, map-append, MOST_NAMES, with_name, AtomNo, CellName, Known, number_by, Adds, HasRoom, still_known, Kept, Spelled, texts_of, NameShelf, AreSmall, keeps_names, IsNewName, added_new, push_below, fits_less, new_named, Machine, made, Patches, CanPublish, IsNamed, Publishes}
+use Rattle.kl1_machine.proofs.Words.{◌≡◌, ℕ, ◌+◌, ◌≤◌, ◌<◌, ◌^◌, true, List, [], ◌∷◌, length, refl, sym, ap, ◌∙◌, subst, inr, arith, leb-true, length-map, length_push, map-append, MOST_NAMES, with_name, AtomNo, CellName, Known, number_by, Adds, HasRoom, still_known, Kept, Spelled, texts_of, NameShelf, AreSmall, keeps_names, added_new, fits_less, new_named, Machine, made, Patches, CanPublish, IsNamed, Publishes, all_append}
 use Rattle.std.proofs.Common.{Option, Some, None}
 
--- a name that is new, which the account may use
-pub new_name : (ks : List Known) (name : Option (List ℕ)) (t : List ℕ) → name ≡ Some t → IsNewName ks name → (number_by ks t ≡ None) × (keeps_names ks t ≡ true)
-new_name ks name t is new = let n : IsNewName ks (Some t) = subst (λ (o : Option (List ℕ)). IsNewName ks o) is new in n.1
-
--- there is room for it in a table
+-- there is room for a name that is new, which the account may use, in a table
 pub room_for_name : (ks : List Known) (t : List ℕ) → number_by ks t ≡ None → keeps_names ks t ≡ true → HasRoom ks t
 room_for_name ks t new keeps =
     let few : length (with_name (texts_of ks) t) ≤ MOST_NAMES = leb-true (length (with_name (texts_of ks) t)) MOST_NAMES keeps in
@@ -26,7 +22,7 @@ named_one ks more t a k new small low number adds = record {
     fits = fits_less ks more (still_known ks t a more adds);
     reads = λ f fit. ap (λ n. f (record { number = n })) number ∙ fit.texts t a.number adds.number;
   };
-  small = subst AreSmall (sym (adds.known ∙ added_new ks t a new)) (push_below (2 ^ 32) ks (record { text = t; number = a }) small low);
+  small = subst AreSmall (sym (adds.known ∙ added_new ks t a new)) (all_append (λ (x : Known). x.number.number < 2 ^ 32) ks (record { text = t; number = a } ∷ []) small (low, tt));
 }
 
 -- no name is published if there is none

@@ -1,5 +1,5 @@
 -- Exceptions: with a report alone, and with a substitute in the place of the goal.
-use Rattle.kl1_machine.proofs.Words.{◌≡◌, ℕ, suc, ◌+◌, ◌-◌, ◌&&◌, Bool, true, false, if◌then◌else◌, List, [], length, map, refl, sym, ap, ◌∙◌, arith, subst, find, Option, BuiltIn, text_of, Term, variable, State, has_substitutes, report, is_reported, exception, exception_with, is_reported_of, replaced_by, substituted_by, raised, Reads, CellName, Qualified, Cell, Variable, Held, IsIn, with_variable, Kept, term_of-variable, Grown-variable, IsException, Substitutes, Goal, has_number, Numbered, Reading, built, meaning, aim, task_with, goal_with, shoen_with, IsWhole, IsOwned, unheard, Made, worked, IsMadeIn, Knows, found_in, read_as, rereads, grown_made, last_made, turns_then, turns_as, unmade_turns, grown_turns, raised_turns, IsAsked, new_in, new_stays, reported_here, replaced_turns, plain_turns, unreported_turns, whole_turns, new_means, asked_agree, Machine, made, IsMachine, Puts, Tells, TurnsAs}
+use Rattle.kl1_machine.proofs.Words.{◌≡◌, ℕ, suc, ◌+◌, ◌-◌, ◌&&◌, Bool, true, false, if◌then◌else◌, List, [], length, map, refl, sym, ap, ◌∙◌, arith, subst, find, Option, BuiltIn, text_of, Term, variable, State, has_substitutes, report, is_reported, exception, exception_with, is_reported_of, replaced_by, substituted_by, raised, Reads, CellName, Qualified, Cell, Variable, Held, IsIn, with_variable, Kept, term_of-variable, Grown-variable, IsException, Substitutes, Goal, has_number, Numbered, Reading, built, meaning, aim, task_with, goal_with, shoen_with, IsWhole, IsOwned, unheard, Made, worked, IsMadeIn, Knows, found_in, read_as, rereads, grown_made, last_made, turns_then, turns_as, unmade_turns, grown_turns, raised_turns, IsAsked, new_in, new_stays, reported_here, replaced_turns, plain_turns, whole_turns, new_means, asked_agree, Machine, made, IsMachine, Puts, Tells, TurnsAs, and_left, and_right}
 use Rattle.kl1_model.specs.State as model
 use Rattle.kl1_user_effects.specs.Works as works
 use Rattle.kl1_machine.proofs.Keeping.{Grows}
@@ -15,16 +15,6 @@ exception_reported m k n kind goal message u told i g e tells = record {
   named = record { name = tells.named.name; spelled = tells.named.spelled };
 }
 
--- a goal is made whole, and its exception is reported
-pub raised_alone : (m : Machine) (k : Kept CellName) (goal : Goal CellName) (kind : BuiltIn) (cell : Qualified CellName) (x : Cell CellName) (u : Machine) → IsMachine m → has_substitutes m.rules ≡ false → Grows m k → IsWhole m.store.held k.held cell x →
-    TurnsAs (λ f. report goal.shoen (exception (text_of kind) (meaning f k.held x))) (record m { store = k }) u → TurnsAs (λ f. raised (goal_with (meaning f m.store.held) goal) (text_of kind) (aim f m.store.held cell)) m u
-raised_alone m k goal kind cell x u i one g whole r =
-    record {
-      turns = λ ms. whole_turns ms m.store.held k.held u.store.held (made m) (made u) goal (text_of kind) cell x (record { grown = g.grown; whole = whole; inside = i.inside }) (λ j. plain_turns ms k.held u.store.held (made m) (made u) goal (text_of kind) x one (r.turns ms));
-      machine = r.machine;
-      named = record { name = r.named.name; spelled = r.named.spelled };
-    }
-
 -- a goal is made whole, and raises the exception
 pub raised_whole : (m : Machine) (k : Kept CellName) (goal : Goal CellName) (kind : BuiltIn) (cell : Qualified CellName) (x : Cell CellName) (u : Machine) → IsMachine m → Grows m k → IsWhole m.store.held k.held cell x →
     TurnsAs (λ f. raised (goal_with (meaning f k.held) goal) (text_of kind) (meaning f k.held x)) (record m { store = k }) u → TurnsAs (λ f. raised (goal_with (meaning f m.store.held) goal) (text_of kind) (aim f m.store.held cell)) m u
@@ -33,6 +23,12 @@ raised_whole m k goal kind cell x u i g whole r = record {
   machine = r.machine;
   named = record { name = r.named.name; spelled = r.named.spelled };
 }
+
+-- or its exception is reported alone
+pub raised_alone : (m : Machine) (k : Kept CellName) (goal : Goal CellName) (kind : BuiltIn) (cell : Qualified CellName) (x : Cell CellName) (u : Machine) → IsMachine m → has_substitutes m.rules ≡ false → Grows m k → IsWhole m.store.held k.held cell x →
+    TurnsAs (λ f. report goal.shoen (exception (text_of kind) (meaning f k.held x))) (record m { store = k }) u → TurnsAs (λ f. raised (goal_with (meaning f m.store.held) goal) (text_of kind) (aim f m.store.held cell)) m u
+raised_alone m k goal kind cell x u i one g whole r =
+    raised_whole m k goal kind cell x u i g whole (record { turns = λ ms. plain_turns ms k.held u.store.held (made m) (made u) goal (text_of kind) x (λ f knows s. and_left (has_substitutes m.rules) (is_reported goal.shoen (exception (text_of kind) (meaning f k.held x)) (worked f s k.held (made m))) one) (r.turns ms); machine = r.machine; named = r.named })
 
 -- ---- with a substitute: as `kl1_user_effects` has it, where these are private
 
@@ -106,29 +102,25 @@ raised_asked m k goal kind term message u z a tells puts =
     let w = made m in
     let last : suc (h.variables - 1) ≡ h.variables = let some = a.machine.inside.some in omega (arith, some) in
     let task = Substitutes (Variable h.variables) in
-    let O : ℕ → Type 0 = λ n. IsOwned n goal in
-    let Z : Machine → Type 0 = λ x. IsMachine x → Raises m goal kind term x in
     let new : Reading → State → State = λ f s. record s { last_variable = suc s.last_variable } in
     let says : Reading → State → State = λ f. report goal.shoen (meaning f k.held message) in
     let stands : Reading → State → State = λ f. replaced_by (goal_with (meaning f l) goal) (task_with (meaning f l) task) in
-    subst Z (sym puts.is)
-    (λ machine. record {
+    rw puts.is (record {
       turns = λ ms.
           let first = new_turns ms h w a.machine.inside in
           let second = grown_turns ms (with_variable h) k.held w a.asked.grown a.asked.asks.variables a.asked.asks.others first.inside in
           let both = turns_then ms new (λ f s. s) h (with_variable h) k.held w w w first second in
           let third = tells.turns ms in
           let so_far = turns_then ms new says h k.held l w w (made u) both third in
-          let fourth = replaced_turns ms l (made u) goal task third.inside (new_in h k.held l kind term message a.asked tells.grown) (subst O (sym tells.count) a.owned) in
+          let fourth = replaced_turns ms l (made u) goal task third.inside (new_in h k.held l kind term message a.asked tells.grown) (rw tells.count a.owned) in
           turns_as ms (λ f s. stands f (says f (new f s))) (λ f. raised (goal_with (meaning f h) goal) (text_of kind) (meaning f h term)) h l w _
           (λ f knows s.
           substituted_state (worked f s h w) (goal_with (meaning f h) goal) (text_of kind) (meaning f h term) (meaning f k.held message) (meaning f l (Variable h.variables)) h.variables a.two last (told_here m k goal kind term message u true a tells f knows.reads s) (asked_means h k.held kind term message a.asked f knows.reads)
           (new_stays h k.held l kind term message m.shoens.shoens goal.shoen a.asked a.machine.inside.shoens tells.keeps f knows.reads))
           (turns_then ms (λ f s. says f (new f s)) stands h l l w (made u) _ so_far fourth);
-      machine = machine;
+      machine = rw puts.is at puts.machine;
       named = record { name = tells.named.name; spelled = tells.named.spelled };
     })
-    puts.machine
 
 -- after a report that wasn't made, and with the store as it was, there is what a report without the variable leaves
 pub raised_unasked : (m : Machine) (k : Kept CellName) (goal : Goal CellName) (kind : BuiltIn) (term message : Cell CellName) (u : Machine) (b : Kept CellName) → Asks m k goal kind term message → Tells goal.shoen message (record m { store = k }) u false →
@@ -142,10 +134,9 @@ raised_unasked m k goal kind term message u b a tells held hooks =
     let v : Machine = record m { store = b; shoens = record m.shoens { shoens = ss } } in
     let is : record u { store = b } ≡ v = ap (λ (y : Machine). let q : Machine = record y { store = b } in q) (tells.dropped refl) in
     let A : Machine → Type 0 = λ y. Raises m goal kind term y in
-    let T : (ms : List Numbered) → Held CellName → Type 0 = λ ms x. works.Turns ms (λ f. raised (goal_with (meaning f h) goal) (text_of kind) (meaning f h term)) h x w (made v) in
     let turns : (ms : List Numbered) → works.Turns ms (λ f. raised (goal_with (meaning f h) goal) (text_of kind) (meaning f h term)) h b.held w (made v) =
-    λ ms. subst (T ms) (sym held)
-    (unreported_turns ms h h w (made v) goal (text_of kind) term a.two (λ f knows s. unmade f ms knows s) (unmade_turns ms h w n (λ f. exception (text_of kind) (meaning f h term)) a.machine.inside (λ f knows s. unmade f ms knows s))) in
+    λ ms. rw held
+    (plain_turns ms h h w (made v) goal (text_of kind) term (λ f knows s. and_right (has_substitutes m.rules) (is_reported n (exception (text_of kind) (meaning f h term)) (worked f s h w)) (unmade f ms knows s)) (unmade_turns ms h w n (λ f. exception (text_of kind) (meaning f h term)) a.machine.inside (λ f knows s. unmade f ms knows s))) in
     let machine : IsMachine v =
     (let U : Machine → Type 0 = λ y. y.goals.shoens ≡ length y.shoens.shoens in
     record { inside = (turns []).inside; last = a.machine.last; placed = a.machine.placed; known = subst U is tells.machine.known }) in

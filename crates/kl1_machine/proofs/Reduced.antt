@@ -1,6 +1,8 @@
 -- What reductions leave of a machine.
-use Rattle.kl1_machine.proofs.Words.{◌≡◌, ℕ, ◌+◌, ◌<◌, ◌≤◌, ◌==◌, ◌&&◌, Bool, true, false, if◌then◌else◌, List, [], ◌∷◌, length, refl, sym, ap, ◌∙◌, arith, subst, find, AllByRecursion, eqb-true, eq-eqb, State, settle, reads, heard, CellName, Held, Control, control_as, Monitor, Goal, is_monitor, is_monitor_task, is_monitor_of, AreSingle, Program, Spelled, Reading, NameShelf, AreSmall, IsNewName, worked, Machine, made, IsBegun, TurnsAs, Since, IsOnlyMonitor, IsRested, IsBoundLast, HoldsSpare, Patches, CanPublish, Reschedules, ReadsBy, IsSteppable}
+use Rattle.kl1_machine.proofs.Words.{◌≡◌, ℕ, ◌+◌, ◌<◌, ◌≤◌, ◌==◌, ◌&&◌, Bool, true, false, if◌then◌else◌, List, [], ◌∷◌, length, refl, sym, ap, ◌∙◌, arith, subst, find, AllByRecursion, eqb-true, eq-eqb, State, settle, reads, heard, CellName, Held, Control, control_as, Monitor, Goal, is_monitor, is_monitor_task, is_monitor_of, AreSingle, Program, Spelled, Reading, worked, Machine, made, IsBegun, TurnsAs, Since, IsOnlyMonitor, IsRested, HoldsSpare, Reschedules, ReadsBy, IsSteppable}
 use Rattle.std.proofs.Common.{Option, Some, None}
+use Rattle.std.proofs.lemmas.Bool.{both_ways}
+use Rattle.kl1_user_effects.proofs.Lists.{all_then}
 use Rattle.std.specs.Prelude.{filter}
 use Rattle.kl1_goals.specs.Lists.{has_number}
 use Rattle.kl1_machine.specs.Reducing.{Reduces}
@@ -18,9 +20,6 @@ none_pass p (g ∷ gs) lt = by_case (p g) refl lt (none_pass p gs)
     by_case true q l later = absurd (omega (arith, l))
     by_case false q l later = (q, later l)
 
-differ : (b : Bool) → b ≡ true → b ≡ false → ⊥
-differ b e f = cc
-
 -- if one goal at most passes a test, and goal `n` does, only those of this number do
 only_one : (p : Goal CellName → Bool) (n : ℕ) (gs : List (Goal CellName)) (g : Goal CellName) → length (filter p gs) ≤ 1 → find (has_number n) gs ≡ Some g → p g ≡ true → AllByRecursion (λ k. p k ≡ true → k.number ≡ n) gs
 only_one p n [] g le e is = tt
@@ -29,17 +28,15 @@ only_one p n (x ∷ gs) g le e is = by_case (x.number == n) (p x) refl refl le e
     R : Goal CellName → Type 0
     R k = p k ≡ true → k.number ≡ n
 
-    others : (ks : List (Goal CellName)) → AllByRecursion (λ k. p k ≡ false) ks → AllByRecursion R ks
-    others [] a = tt
-    others (k ∷ ks) a = ((λ e. absurd (differ (p k) e a.0)), others ks a.1)
-
     by_case : (b d : Bool) → (x.number == n) ≡ b → p x ≡ d → length (if d then x ∷ filter p gs else filter p gs) ≤ 1 → (if b then Some x else find (has_number n) gs) ≡ Some g → (length (filter p gs) ≤ 1 → find (has_number n) gs ≡ Some g → AllByRecursion R gs) → AllByRecursion R (x ∷ gs)
-    by_case true true q r l f later = ((λ e. eqb-true x.number n q), others gs (none_pass p gs (omega (arith, l))))
-    by_case true false q r l f later = let same : x ≡ g = cc in absurd (differ (p x) (ap p same ∙ is) r)
+    by_case true true q r l f later =
+        let none = none_pass p gs (omega (arith, l)) in
+        ((λ e. eqb-true x.number n q), all_then (λ k. p k ≡ false) R (λ k apart e. absurd (both_ways (p k) apart e)) gs none)
+    by_case true false q r l f later = let same : x ≡ g = cc in absurd (both_ways (p x) r (ap p same ∙ is))
     by_case false true q r l f later =
         let none = none_pass p gs (omega (arith, l)) in
-        absurd (differ (p g) is (found_holds (λ k. p k ≡ false) n gs g none f))
-    by_case false false q r l f later = ((λ e. absurd (differ (p x) e r)), later l f)
+        absurd (both_ways (p g) (found_holds (λ k. p k ≡ false) n gs g none f) is)
+    by_case false false q r l f later = ((λ e. absurd (both_ways (p x) r e)), later l f)
 
 -- a monitor is the only one of its shoen
 pub only_monitor : (n : ℕ) (gs : List (Goal CellName)) (g : Goal CellName) → AreSingle gs → find (has_number n) gs ≡ Some g → g.task ≡ Monitor → IsOnlyMonitor n g.shoen gs
@@ -65,21 +62,11 @@ heard_reduces program m u v n c g control p turns r =
       action = λ f. reads (control_as f m.store.held control);
       does = p.plan.does;
       acts = λ more k last named patches f fits s.
-          let P : Option Spelled → Type 0 = λ o. Patches o k v.store.held last in
-          let same : last ≡ v.store.held = subst P spelled patches in
+          let same : last ≡ v.store.held = rw spelled at patches in
           (turns_rescheduled change m u v turns.turns r program.loaded).states f (record { reads = fits.reads; rows = p.rested.rows f (named.fits f fits) }) s
           ∙ ap (λ (h : Held CellName). worked f s h (made v)) (sym same);
       spare_last = subst (λ (o : Option Spelled). HoldsSpare o v.store.held) (sym spelled) tt;
     }
-
--- nothing is to be published of a machine that has no new name
-pub unnamed_publishes : (m v : Machine) → AreSmall m.names.names → 0 < m.names.room → v.names ≡ m.names → v.name ≡ None → v.spelled ≡ None → CanPublish v
-unnamed_publishes m v small some names name spelled =
-    let N : Option (List ℕ) → Type 0 = λ o. IsNewName v.names.names o in
-    let B : Option Spelled → Type 0 = λ o. IsBoundLast o v.store.held in
-    let S : NameShelf → Type 0 = λ s. AreSmall s.names in
-    let R : NameShelf → Type 0 = λ s. 0 < s.room in
-    record { name = subst N (sym name) tt; last = subst B (sym spelled) tt; has = λ e. spelled; small = subst S (sym names) small; room = subst R (sym names) some }
 
 -- one reduction was charged at most, and none by goals that are looked at again
 pub charged_by : (m u v : Machine) → Since m u → Reschedules u v → length v.shoens.work ≤ length m.shoens.work + 1

@@ -1,9 +1,8 @@
 -- A machine rests after its goals were looked at again.
-use Rattle.kl1_machine.proofs.Words.{rules, ⊎_elim, ◌≡◌, ℕ, zero, suc, ◌<◌, ◌≤◌, ◌==◌, ◌||◌, Bool, true, false, if◌then◌else◌, List, [], ◌∷◌, ◌++◌, length, map, drop, refl, sym, ap, ◌∙◌, arith, subst, Contains, filter, AllByRecursion, ltb-false, le-ltb, eq-eqb, or_parts, cases_lt, list_any-append, is_among, State, CellName, Binding, Point, Held, is_bound, Hook, told_by, is_told, HasGrown-same, Goal, Task, is_monitor, is_monitor_task, Shoen, Tree, is_enabled_at, AreShifts, Program, Reading, Fits, Means, meaning, goal_with, SameFlags, IsTaskIn, IsOwned, NameShelf, IsSettled, AreSettled, IsEnabled, AreEnabled, shifted_by, Knows, worked, among_contains, Machine, Counts, made, Trail, IsMachine, IsBegun, Turns, HasCome, KeepsControl, Since, IsRested, unlooked, Looks, AreSettledBut, Wakes, WasLet, IsLet, AreLet, Schedules, Shifts, all_told, Reschedules, LetsStill, HangsOnNone, StaysAlone, stays_settled}
-use Rattle.std.proofs.Common.{nat_lt}
+use Rattle.kl1_machine.proofs.Words.{rules, ⊎_elim, ◌≡◌, ℕ, zero, suc, ◌<◌, ◌≤◌, ◌==◌, ◌||◌, Bool, true, false, if◌then◌else◌, List, [], ◌∷◌, ◌++◌, length, map, drop, refl, sym, ap, ◌∙◌, arith, Contains, filter, AllByRecursion, ltb-false, le-ltb, eq-eqb, or_parts, cases_lt, list_any-append, is_among, State, CellName, Binding, Point, Held, is_bound, Hook, told_by, is_told, HasGrown-same, Goal, Task, is_monitor, is_monitor_task, Tree, is_enabled_at, AreShifts, Program, Reading, Fits, Means, meaning, goal_with, SameFlags, IsTaskIn, IsOwned, IsSettled, AreSettled, IsEnabled, AreEnabled, shifted_by, Knows, worked, among_contains, Machine, Counts, made, Trail, IsMachine, IsBegun, Turns, HasCome, KeepsControl, Since, IsRested, unlooked, Looks, AreSettledBut, Wakes, WasLet, IsLet, AreLet, Schedules, Shifts, all_told, Reschedules, LetsStill, HangsOnNone, StaysAlone, stays_settled, inl, inr, cases_Bool, all_append, all_filter, all_then, map-map, nat_lt, or_right}
 use Rattle.kl1_model.specs.State as model
 use Rattle.kl1_machine.proofs.Keeping.{begun_mark}
-use Rattle.kl1_machine.proofs.Sincing.{both_all, each_so, each_both, fewer}
+use Rattle.kl1_machine.proofs.Sincing.{each_both}
 use Rattle.kl1_machine.proofs.Looking.{looked_hold, unready_hold, looks_then, looks_machine}
 use Rattle.kl1_machine.proofs.Shifting.{shifted_unlooked, shifted_settled, IsRightBut, rights_shifted, right_since}
 
@@ -12,11 +11,7 @@ use Rattle.kl1_machine.proofs.Shifting.{shifted_unlooked, shifted_settled, IsRig
 bound_of : (bs : List (Binding CellName)) (v : ℕ) → Contains (map (λ b. b.variable) bs) v → is_bound v bs ≡ true
 bound_of [] v (i, lt, e) = absurd (omega arith)
 bound_of (b ∷ bs) v (zero, lt, e) = ap (λ c. c || is_bound v bs) (eq-eqb b.variable v e)
-bound_of (b ∷ bs) v (suc i, lt, e) = by_case (b.variable == v) (bound_of bs v (i, omega arith, e))
-  where
-    by_case : (c : Bool) → is_bound v bs ≡ true → (c || is_bound v bs) ≡ true
-    by_case true h = refl
-    by_case false h = h
+bound_of (b ∷ bs) v (suc i, lt, e) = or_right (b.variable == v) (is_bound v bs) (bound_of bs v (i, omega arith, e))
 
 -- a number that isn't told hangs on no variable that was bound
 hangs_on_none : (hooks : List Hook) (bs : List (Binding CellName)) (n : ℕ) → is_among n (told_by bs hooks) ≡ false → HangsOnNone hooks n (map (λ b. b.variable) bs)
@@ -37,7 +32,6 @@ untold_settled : (f : Reading) (program : Program) (b m : Machine) → HasBegun 
 untold_settled f program b m event g early keeps inside settled e =
     let begun = event.begun in
     let s = event.since in
-    let H : List Hook → Type 0 = λ hs. IsSettled f hs b.store.held program b.shoens.shoens g in
     let bound = drop (length b.store.held.bindings) m.store.held.bindings in
     let mark : all_told m ≡ m.told.items ++ told_by bound m.store.hooks = ap (λ (p : Point). m.told.items ++ told_by (drop p.sizes.bindings m.store.held.bindings) m.store.hooks) (begun_mark b m begun s.keeps) in
     let untold : (is_among g.number m.told.items || is_among g.number (told_by bound m.store.hooks)) ≡ false = sym (list_any-append (λ i. g.number == i) m.told.items (told_by bound m.store.hooks)) ∙ sym (ap (is_among g.number) mark) ∙ e in
@@ -49,15 +43,14 @@ untold_settled f program b m event g early keeps inside settled e =
       same = λ monitor. keeps early (ap (λ (t : Task CellName). is_monitor_task t) monitor) apart.0;
       free = hangs_on_none m.store.hooks bound g.number apart.1;
     } in
-    stays_settled f m.store.hooks b.store.held m.store.held program b.shoens.shoens m.shoens.shoens g alone inside (subst H (sym s.hooks) settled)
+    stays_settled f m.store.hooks b.store.held m.store.held program b.shoens.shoens m.shoens.shoens g alone inside (rw s.hooks settled)
 
 -- ---- what was when the event began
 
 -- what holds of the goals when the event began holds of those that are left, and anything of those that came, of lesser numbers
 come_hold : (P : Goal CellName → Type 0) (b m : Machine) → HasCome b m → AllByRecursion P b.goals.goals → ((g : Goal CellName) → b.counts.last_goal < g.number → P g) → AllByRecursion P m.goals.goals
 come_hold P b m h a late =
-    let A : List (Goal CellName) → Type 0 = λ gs. AllByRecursion P gs in
-    subst A (sym h.goals) (both_all P (filter h.left b.goals.goals) h.added (fewer P h.left b.goals.goals a) (each_so (λ g. b.counts.last_goal < g.number) P late h.added h.above))
+    rw h.goals (all_append P (filter h.left b.goals.goals) h.added (all_filter P h.left b.goals.goals a) (all_then (λ (g : Goal CellName). b.counts.last_goal < g.number) P late h.added h.above))
 
 -- ---- one step after another
 
@@ -71,11 +64,7 @@ pub record Steps (program : Program) (m t u v w : Machine) : Type 0 where
 
 -- goals may step other than before, and nothing else
 shifts_looks : (m n : Machine) → Shifts m n → map unlooked n.goals.goals ≡ map unlooked m.goals.goals
-shifts_looks m n s = ap (map unlooked) s.goals ∙ by_case m.shifts
-  where
-    by_case : (b : Bool) → map unlooked (if b then shifted_by s.shifts m.goals.goals else m.goals.goals) ≡ map unlooked m.goals.goals
-    by_case true = shifted_unlooked s.shifts m.goals.goals
-    by_case false = refl
+shifts_looks m n s = ap (map unlooked) s.goals ∙ elim (cases_Bool m.shifts) [ inl q ↦ rw q (shifted_unlooked s.shifts m.goals.goals) | inr q ↦ rw q ]
 
 -- what is looked at of the machine that was told
 told_looks : (program : Program) (m t u v w : Machine) → Steps program m t u v w → Looks t v
@@ -84,16 +73,13 @@ told_looks program m t u v w s = looks_then t u v s.wakes.looks s.schedules.look
 -- a machine with other goals that are looked at, as a shift leaves it
 shift_machine : (m n : Machine) → Shifts m n → IsMachine m → IsMachine n
 shift_machine m n s i =
-    let M : Machine → Type 0 = λ x. IsMachine x in
     let k : Machine = record m { goals = record m.goals { goals = n.goals.goals } } in
     let l : Looks m k = record { goals = shifts_looks m n s; held = refl; grown = HasGrown-same m.store; rest = refl } in
-    subst M (sym s.rest) (looks_machine m k l i)
+    rw s.rest (looks_machine m k l i)
 
 -- a machine that was told is one
 pub told_machine : (m t : Machine) → t ≡ record m { told = t.told } → IsMachine m → IsMachine t
-told_machine m t tells i =
-    let M : Machine → Type 0 = λ x. IsMachine x in
-    subst M (sym tells) (search rules)
+told_machine m t tells i = rw tells (search rules)
 
 pub steps_reschedule : (program : Program) (m t u v w : Machine) → IsMachine m → Steps program m t u v w → Reschedules m w
 steps_reschedule program m t u v w i s =
@@ -147,14 +133,10 @@ settled_but_told f program b m t event told settled =
 
 -- goals that are settled are so when others are let to step
 shifts_settled : (f : Reading) (program : Program) (m n : Machine) → Shifts m n → AreSettled f m.store.hooks m.store.held program m.shoens.shoens m.goals.goals → AreSettled f n.store.hooks n.store.held program n.shoens.shoens n.goals.goals
-shifts_settled f program m n s a =
-    let N : Machine → Type 0 = λ x. AreSettled f x.store.hooks x.store.held program x.shoens.shoens n.goals.goals in
-    let G : List (Goal CellName) → Type 0 = λ gs. AreSettled f m.store.hooks m.store.held program m.shoens.shoens gs in
-    subst N (sym s.rest) (subst G (sym s.goals) (by_case m.shifts))
-  where
-    by_case : (b : Bool) → AreSettled f m.store.hooks m.store.held program m.shoens.shoens (if b then shifted_by s.shifts m.goals.goals else m.goals.goals)
-    by_case true = shifted_settled f m.store.hooks m.store.held program m.shoens.shoens s.shifts m.goals.goals a
-    by_case false = a
+shifts_settled f program m n s a = rw (s.rest, s.goals) (elim (cases_Bool m.shifts) [
+  | inl q ↦ rw q (shifted_settled f m.store.hooks m.store.held program m.shoens.shoens s.shifts m.goals.goals a)
+  | inr q ↦ rw q a
+])
 
 -- a shoen lets its goals step as before, if nothing of shoens has changed
 pub lets_looked : (m t u : Machine) (n : ℕ) → t ≡ record m { told = t.told } → Looks t u → is_enabled_at m.shoens.shoens m.shoens.work n ≡ true → is_enabled_at u.shoens.shoens u.shoens.work n ≡ true
@@ -169,11 +151,8 @@ last_settled f program m n i le all =
 steps_settled : (f : Reading) (program : Program) (b m t u v w : Machine) → Knows program.loaded f → HasBegun b m → Steps program m t u v w → AreSettled f b.store.hooks b.store.held program b.shoens.shoens b.goals.goals →
     AreSettled f w.store.hooks w.store.held program w.shoens.shoens w.goals.goals
 steps_settled f program b m t u v w knows event steps settled =
-    let q : ℕ → Bool = λ k. is_among k t.told.items || nat_lt b.counts.last_goal k in
-    let T : Machine → Type 0 = λ x. AreSettledBut q f program x in
-    let N : ℕ → Type 0 = λ n. AreSettledBut (nat_lt n) f program u in
-    let told = subst T (sym steps.tells) (settled_but_told f program b m t event steps.told settled) in
-    let woken = subst N (sym (counts_then program b m t u v w event.begun event.since steps)) (steps.wakes.settles f knows (nat_lt b.counts.last_goal) told) in
+    let told : AreSettledBut (λ k. is_among k t.told.items || nat_lt b.counts.last_goal k) f program t = rw steps.tells (settled_but_told f program b m t event steps.told settled) in
+    let woken : AreSettledBut (nat_lt u.begun.last_goal) f program u = rw (counts_then program b m t u v w event.begun event.since steps) (steps.wakes.settles f knows (nat_lt b.counts.last_goal) told) in
     let last : v.counts.last_goal ≡ u.counts.last_goal = ap (λ (x : Machine). x.counts.last_goal) steps.schedules.looks.rest in
     shifts_settled f program v w steps.shifts
     (last_settled f program v u.counts.last_goal (looks_machine t v (told_looks program m t u v w steps) (told_machine m t steps.tells event.is)) (omega (arith, last)) (steps.schedules.settles f knows woken))
@@ -191,27 +170,17 @@ let_then b m i come enabled =
 -- what is woken may step as before
 let_woken : (program : Program) (numbers : List ℕ) (b m n : Machine) (k : ℕ) → Wakes program numbers m n → AreLet b k m → AreLet b k n
 let_woken program numbers b m n k w a =
-    let L : Machine → Type 0 = λ x. AllByRecursion (IsLet b k x) n.goals.goals in
-    subst L (sym w.looks.rest)
+    rw w.looks.rest
     (unready_hold (IsLet b k m) (λ g o p. ((λ early. let x = p.0 early in (record { low = x.0.low; high = x.0.high }, x.1)), (λ late up. p.1 late up))) n.goals.goals m.goals.goals w.flags a)
 
 -- goals may step as their shoens let them, after the shifts of a machine
 shifts_enabled : (b m n : Machine) → IsMachine m → m.shoens.kept ≡ b.shoens.shoens → m.shoens.kept_work ≡ b.shoens.work → (m.shifts ≡ false → SameFlags b.shoens m.shoens) → Shifts m n → AreLet b m.counts.last_goal m → AreEnabled n.shoens.shoens n.shoens.work n.goals.goals
-shifts_enabled b m n i kept work same s a =
-    let N : Machine → Type 0 = λ x. AreEnabled x.shoens.shoens x.shoens.work n.goals.goals in
-    let G : List (Goal CellName) → Type 0 = λ gs. AreEnabled m.shoens.shoens m.shoens.work gs in
-    subst N (sym s.rest) (subst G (sym s.goals) (by_case m.shifts refl))
+shifts_enabled b m n i kept work same s a = rw (s.rest, s.goals) (by_case m.shifts refl)
   where
-    now : Goal CellName → Bool
-    now g = is_enabled_at m.shoens.shoens m.shoens.work g.shoen
-
     since : AreShifts m.shoens s.shifts → (g : Goal CellName) → WasLet b g → g.number ≤ b.counts.last_goal → IsRightBut m.shoens s.shifts g
     since right g was early =
         let w = was early in
-        let O : List (Shoen CellName) → Type 0 = λ ss. IsOwned (length ss) g in
-        let S : List (Shoen CellName) → Type 0 = λ ss. IsEnabled ss b.shoens.work g in
-        let W : List ℕ → Type 0 = λ ws. IsEnabled m.shoens.kept ws g in
-        right_since m.shoens s.shifts g right (subst O (sym kept) w.0) (subst W (sym work) (subst S (sym kept) w.1))
+        right_since m.shoens s.shifts g right (rw kept w.0) (rw (kept, work) w.1)
 
     by_case : (c : Bool) → m.shifts ≡ c → AreEnabled m.shoens.shoens m.shoens.work (if c then shifted_by s.shifts m.goals.goals else m.goals.goals)
     by_case true q =
@@ -232,23 +201,19 @@ steps_enabled program b m t u v w event steps enabled =
     let begun = event.begun in
     let s = event.since in
     let last = b.counts.last_goal in
-    let T : Machine → Type 0 = λ x. AreLet b last x in
-    let N : ℕ → Type 0 = λ n. AreLet b n u in
-    let V : ℕ → Type 0 = λ n. AreLet b n v in
     let same_last = counts_then program b m t u v w begun s steps in
-    let told = subst T (sym steps.tells) (let_then b m event.was s.come enabled) in
-    let woken = subst N (sym same_last) (let_woken program t.told.items b t u last steps.wakes told) in
+    let told : AreLet b last t = rw steps.tells (let_then b m event.was s.come enabled) in
+    let woken : AreLet b u.begun.last_goal u = rw same_last (let_woken program t.told.items b t u last steps.wakes told) in
     let l = told_looks program m t u v w steps in
     let shoens : v.shoens ≡ m.shoens = ap (λ (x : Machine). x.shoens) l.rest ∙ ap (λ (x : Machine). x.shoens) steps.tells in
     let shifts : v.shifts ≡ m.shifts = ap (λ (x : Machine). x.shifts) l.rest ∙ ap (λ (x : Machine). x.shifts) steps.tells in
     let up_to : v.counts.last_goal ≡ u.counts.last_goal = ap (λ (x : Machine). x.counts.last_goal) steps.schedules.looks.rest in
-    let F : Tree CellName → Type 0 = λ x. SameFlags b.shoens x in
     shifts_enabled b v w (looks_machine t v l (told_machine m t steps.tells event.is))
     (ap (λ (x : Tree CellName). x.kept) shoens ∙ ap (λ (x : Trail). x.shoens) s.keeps.trail ∙ begun.shoens)
     (ap (λ (x : Tree CellName). x.kept_work) shoens ∙ ap (λ (x : Trail). x.work) s.keeps.trail ∙ begun.work)
-    (λ q. subst F (sym shoens) (s.flags (sym shifts ∙ q)))
+    (λ q. rw shoens (s.flags (sym shifts ∙ q)))
     steps.shifts
-    (subst V (sym up_to) (steps.schedules.flags b (omega (arith, same_last)) woken))
+    (rw up_to (steps.schedules.flags b (omega (arith, same_last)) woken))
 
 -- ---- the machine rests
 
@@ -257,7 +222,7 @@ steps_rested program b m t u v w begun s j r steps =
     let done = steps_reschedule program m t u v w j steps in
     let event : HasBegun b m = record { begun = begun; was = r.machine; is = j; since = s } in
     let names : w.names ≡ b.names = ap (λ (x : Machine). x.names) done.rest ∙ ap (λ (x : Trail). x.names) s.keeps.trail in
-    let back : (f : Reading) → Fits w.names.names f → Fits b.names.names f = λ f. (let F : NameShelf → Type 0 = λ x. Fits x.names f in λ fits. subst F names fits) in
+    let back : (f : Reading) → Fits w.names.names f → Fits b.names.names f = λ f fits. rw names at fits in
     record {
       machine = done.machine;
       rules = r.rules ∙ sym (ap (λ (x : Machine). x.rules) done.rest ∙ ap (λ (x : Trail). x.rules) s.keeps.trail);
@@ -275,11 +240,13 @@ still_lets b m n s le e q = s.flags q n le ∙ e
 
 -- goals that were looked at mean what they meant
 pub looked_read : (t : Means) (gs ks : List (Goal CellName)) → map unlooked gs ≡ map unlooked ks → map (goal_with t) gs ≡ map (goal_with t) ks
-looked_read t gs ks e = sym (bare_read gs) ∙ ap (map (goal_with t)) e ∙ bare_read ks
-  where
-    bare_read : (xs : List (Goal CellName)) → map (goal_with t) (map unlooked xs) ≡ map (goal_with t) xs
-    bare_read [] = refl
-    bare_read (x ∷ xs) = ap (λ (ys : List model.Goal). goal_with t x ∷ ys) (bare_read xs)
+looked_read t gs ks e = sym (map-map (goal_with t) unlooked gs) ∙ ap (map (goal_with t)) e ∙ map-map (goal_with t) unlooked ks
+
+-- goals that were looked at again mean what they meant, whatever the store holds
+pub looked_state : (f : Reading) (s : State) (h : Held CellName) (u v : Machine) → Reschedules u v → worked f s h (made u) ≡ worked f s h (made v)
+looked_state f s h u v r =
+    let G : List model.Goal → State = λ gs. (let z : State = record (worked f s h (made u)) { goals = gs } in z) in
+    ap G (sym (looked_read (meaning f h) v.goals.goals u.goals.goals r.goals)) ∙ ap (λ (x : Machine). worked f s h (made x)) (sym r.rest)
 
 -- a machine that was rescheduled has come on as it had
 pub turns_rescheduled : (change : Reading → State → State) (b m n : Machine) → Turns change b m → Reschedules m n → Turns change b n
@@ -289,9 +256,5 @@ turns_rescheduled change b m n p r ms =
       inside = r.machine.inside;
       states = λ f knows s.
           let H : Held CellName → State = λ h. worked f s h (made n) in
-          let G : List model.Goal → State = λ gs. (let z : State = record (worked f s m.store.held (made m)) { goals = gs } in z) in
-          a.states f knows s
-          ∙ ap G (sym (looked_read (meaning f m.store.held) n.goals.goals m.goals.goals r.goals))
-          ∙ ap (λ (x : Machine). worked f s m.store.held (made x)) (sym r.rest)
-          ∙ ap H (sym r.held);
+          a.states f knows s ∙ looked_state f s m.store.held m n r ∙ ap H (sym r.held);
     }

@@ -1,17 +1,12 @@
 -- Goals of a machine that came, and are looked at in order of number.
-use Rattle.kl1_machine.proofs.Words.{◌≡◌, ℕ, suc, ◌≤◌, ◌==◌, ◌||◌, Bool, false, if◌then◌else◌, List, [], ◌∷◌, map, refl, sym, ap, ◌∙◌, arith, subst, ⊎_elim, Option, None, find, AllByRecursion, ne_eqb, eq-eqb, cases_eq, ltb-false, le-ltb, CellName, Kept, Held, Goal, Task, is_monitor, is_monitor_task, looked_at, is_enabled_at, Program, IsSettled, Machine, unlooked, IsLet, Schedules}
-use Rattle.std.proofs.Common.{nat_lt}
+use Rattle.kl1_machine.proofs.Words.{◌≡◌, ℕ, suc, ◌≤◌, ◌==◌, ◌||◌, Bool, false, if◌then◌else◌, map, refl, sym, ap, ◌∙◌, arith, Option, None, find, ne_eqb, eq-eqb, cases_eq, ltb-false, le-ltb, CellName, Kept, Goal, Task, is_monitor, is_monitor_task, looked_at, is_enabled_at, Program, IsSettled, Machine, unlooked, IsLet, Schedules, inl, inr, map-map, all_then, nat_lt}
 use Rattle.kl1_goals.specs.Lists.{has_number}
-use Rattle.kl1_machine.proofs.Sincing.{each_so, each_both}
+use Rattle.kl1_machine.proofs.Sincing.{each_both}
 use Rattle.kl1_machine.proofs.Looking.{each_changed, looks_same, looks_then, IsFor, IsLook, look_ready, one_of, none_of, one_settled, settled_but_more, settled_but_none}
 
 -- one number more
 one_later : (n m : ℕ) → m ≡ suc n → (k : ℕ) → nat_lt m k ≡ false → (k ≡ m → ⊥) → nat_lt n k ≡ false
 one_later n m next k e other = le-ltb n k (let le = ltb-false m k e in omega (arith, le, next, other))
-
-looked_unlooked : (n : ℕ) (o : Option ℕ) (b : Bool) (gs : List (Goal CellName)) → map unlooked (map (looked_at n o b) gs) ≡ map unlooked gs
-looked_unlooked n o b [] = refl
-looked_unlooked n o b (g ∷ gs) = ap (λ (ks : List (Goal CellName)). unlooked g ∷ ks) (looked_unlooked n o b gs)
 
 -- the goal of the next number was looked at
 pub schedules_one : (program : Program) (m : Machine) (k : Kept CellName) (n number : ℕ) (goal : Goal CellName) (o : Option ℕ) (may : Bool) → number ≡ suc n → IsLook program m k number goal o → may ≡ (is_monitor goal || is_enabled_at m.shoens.shoens m.shoens.work goal.shoen) →
@@ -19,10 +14,9 @@ pub schedules_one : (program : Program) (m : Machine) (k : Kept CellName) (n num
 schedules_one program m k n number goal o may next look lets =
     let for = one_of number 0 m.goals.goals goal look.order look.found in
     record {
-      looks = record { goals = looked_unlooked number o may m.goals.goals; held = look.held; grown = look.grown; rest = refl };
+      looks = record { goals = map-map unlooked (looked_at number o may) m.goals.goals; held = look.held; grown = look.grown; rest = refl };
       settles = λ f knows all.
-          let H : Held CellName → Type 0 = λ h. AllByRecursion (λ g. nat_lt number g.number ≡ false → IsSettled f k.hooks h program m.shoens.shoens g) (map (looked_at number o may) m.goals.goals) in
-          subst H (sym look.held)
+          rw look.held
           (each_changed (IsFor number goal) (λ g. nat_lt n g.number ≡ false → IsSettled f m.store.hooks m.store.held program m.shoens.shoens g) (λ g. nat_lt number g.number ≡ false → IsSettled f k.hooks m.store.held program m.shoens.shoens g) (looked_at number o may) m.goals.goals
           (λ g is s e. one_settled f program m k (record goal { number = number }) o look.grown ((look_ready program m k number goal o look).settled f knows) g (if g.number == number then may else g.is_enabled) is (λ other. s (one_later n number next g.number e other)))
           for all);
@@ -37,15 +31,15 @@ schedules_one program m k n number goal o may next look lets =
           let other : g.number ≡ number → ⊥ = λ same. omega (arith, early, same, next, low) in
           (record { low = w.0.low; high = w.0.high }, ap (λ (c : Bool). if c then may else g.is_enabled) (ne_eqb g.number number other) ∙ w.1),
       λ late up.
-          ⊎_elim
-          (λ (same : g.number ≡ number).
-          let for = is same in
-          ap (λ (c : Bool). if c then may else g.is_enabled) (eq-eqb g.number number same)
-          ∙ lets
-          ∙ ap (λ (x : Task CellName). is_monitor_task x || is_enabled_at m.shoens.shoens m.shoens.work goal.shoen) (sym for.1)
-          ∙ ap (λ (k : ℕ). is_monitor g || is_enabled_at m.shoens.shoens m.shoens.work k) (sym for.0))
-          (λ (other : g.number ≡ number → ⊥). ap (λ (c : Bool). if c then may else g.is_enabled) (ne_eqb g.number number other) ∙ was.1 late (omega (arith, up, next, other)))
-          (cases_eq g.number number),
+          elim (cases_eq g.number number) [
+            | inl same ↦
+                let for = is same in
+                ap (λ (c : Bool). if c then may else g.is_enabled) (eq-eqb g.number number same)
+                ∙ lets
+                ∙ ap (λ (x : Task CellName). is_monitor_task x || is_enabled_at m.shoens.shoens m.shoens.work goal.shoen) (sym for.1)
+                ∙ ap (λ (k : ℕ). is_monitor g || is_enabled_at m.shoens.shoens m.shoens.work k) (sym for.0)
+            | inr other ↦ ap (λ (c : Bool). if c then may else g.is_enabled) (ne_eqb g.number number other) ∙ was.1 late (omega (arith, up, next, other))
+          ],
     )
 
 -- a number that no goal has
@@ -58,10 +52,6 @@ schedules_none program m n number next e = record {
       m.goals.goals
       (none_of number m.goals.goals e) all;
 }
-
--- no number
-pub schedules_nothing : (program : Program) (m : Machine) (n : ℕ) → Schedules program n n m m
-schedules_nothing program m n = record { looks = looks_same m; settles = λ f knows all. all; flags = λ b low all. all }
 
 -- some numbers, and then those after them
 pub schedules_then : (program : Program) (i j k : ℕ) (m u v : Machine) → i ≤ j → Schedules program i j m u → Schedules program j k u v → Schedules program i k m v
@@ -76,5 +66,5 @@ pub schedules_less : (program : Program) (i j k : ℕ) (m u : Machine) → k ≤
 schedules_less program i j k m u le p = record {
   looks = p.looks;
   settles = λ f knows all. settled_but_more f program u (nat_lt j) (nat_lt k) (λ n e. le-ltb j n (let a = ltb-false k n e in omega (arith, a, le))) (p.settles f knows all);
-  flags = λ b low all. each_so (IsLet b j u) (IsLet b k u) (λ g was. (was.0, (λ late up. was.1 late (omega (arith, up, le))))) u.goals.goals (p.flags b low all);
+  flags = λ b low all. all_then (IsLet b j u) (IsLet b k u) (λ g was. (was.0, (λ late up. was.1 late (omega (arith, up, le))))) u.goals.goals (p.flags b low all);
 }

@@ -1,5 +1,5 @@
 -- Messages that are put on control streams, and what becomes of a machine.
-use Rattle.kl1_machine.proofs.Words.{rules, ◌≡◌, ℕ, suc, ◌+◌, ◌-◌, List, [], length, refl, sym, ap, ◌∙◌, arith, subst, Option, Some, None, option_map, Message, Term, variable, integer, atom, structure, replace, cell, message_term, message_nodes, State, change_shoen, replace_in_state, control, sent, refuse, with_entry, Transition, with_control_tail, sent_on, step, Reads, CellName, Cell, Variable, Held, Kept, IsNoVariable, HasPut, PutAs, Origin, Shoen, changed, with_control, Refusal, refusal_of, Reading, built, Means, meaning, origin_with, shoen_with, state_with, worked, RefusesMessage, AllowsMessage, same_state, replaced_state, changed_in, changed_count, base, Machine, made, IsMachine, Becomes, Turns, TurnsAs, having_shoens, usage_of}
+use Rattle.kl1_machine.proofs.Words.{rules, ◌≡◌, ℕ, suc, ◌+◌, ◌-◌, List, [], length, refl, sym, ap, ◌∙◌, arith, Option, Some, None, option_map, Message, variable, replace, cell, message_term, message_nodes, State, change_shoen, replace_in_state, control, sent, refuse, with_entry, Transition, with_control_tail, sent_on, step, Reads, CellName, Cell, Variable, Held, Kept, HasPut, PutAs, Origin, Shoen, changed, with_control, Refusal, refusal_of, Reading, built, Means, meaning, origin_with, shoen_with, state_with, worked, RefusesMessage, AllowsMessage, same_state, replaced_state, changed_in, changed_count, base, Machine, made, IsMachine, Becomes, Turns, TurnsAs, having_shoens, usage_of, no_end}
 use Rattle.kl1_model.specs.State as model
 use Rattle.kl1_model.specs.code.Steps as model_sending
 use Rattle.kl1_user_effects.specs.Messages.{Counts}
@@ -16,12 +16,6 @@ going_read t next e h = ap (λ o. let z : model.Shoen = record (shoen_with t h) 
     by_case None = refl
     by_case (Some o) = ap (λ x. let z : Option model.Origin = Some (record { goal = t o.goal; reports = t o.reports; control = x }) in z) (sym e)
 
-sent_nowhere : (n : ℕ) (m : Message) (t : Term) (s : State) → IsNoVariable t → sent_on n m t s ≡ s
-sent_nowhere n m (variable v) s e = absurd (e)
-sent_nowhere n m (integer i) s e = refl
-sent_nowhere n m (atom a) s e = refl
-sent_nowhere n m (structure f ts) s e = refl
-
 -- if the tail is no variable
 pub nothing_sent : (n : ℕ) (message : Message) (x : Cell CellName) (m : Machine) (k : Kept CellName) → IsMachine m → Grows m k → PutAs built m.store.held k.held x message None → TurnsAs (λ f. sent_on n message (meaning f m.store.held x)) m (record m { store = k })
 nothing_sent n message x m k i g put =
@@ -30,7 +24,7 @@ nothing_sent n message x m k i g put =
     record {
       turns = λ ms. record {
         inside = j.inside;
-        states = λ f knows s. sent_nowhere n message (meaning f h x) (worked f s h (made m)) (put f knows.reads).1 ∙ ap (λ (z : Held CellName). worked f s z (made m)) (sym (put f knows.reads).0);
+        states = λ f knows s. no_end n message (meaning f h x) (worked f s h (made m)) (put f knows.reads).1 ∙ ap (λ (z : Held CellName). worked f s z (made m)) (sym (put f knows.reads).0);
       };
       machine = j;
       named = record { name = refl; spelled = refl };
@@ -89,13 +83,10 @@ counted_machine variables nodes m i = search rules
 pub sent_as : (n : ℕ) (message : Message) (x : Cell CellName) (next nodes : ℕ) (m : Machine) (k : Kept CellName) (u : Machine) → IsMachine m → HasPut built m.store.held k.held x message next →
     Becomes (having_shoens (changed n (going_on next) m.shoens.shoens) (record m { store = k })) u → nodes ≡ message_nodes message → TurnsAs (λ f. sent_on n message (meaning f m.store.held x)) m (counting (u.counts.variables + 1) (u.counts.nodes + nodes) u)
 sent_as n message x next nodes m k u i put b same =
-    let go : Reading → State → State = λ f. sent_on n message (meaning f m.store.held x) in
     let y : Machine = having_shoens (changed n (going_on next) m.shoens.shoens) (record m { store = k }) in
     let more : suc m.counts.variables ≡ m.counts.variables + 1 = omega arith in
-    let V : ℕ → Type 0 = λ v. TurnsAs go m (counting v (m.counts.nodes + nodes) y) in
-    let N : ℕ → Type 0 = λ w. TurnsAs go m (counting (suc m.counts.variables) (m.counts.nodes + w) y) in
-    let T : Machine → Type 0 = λ z. IsMachine z → TurnsAs go m (counting (z.counts.variables + 1) (z.counts.nodes + nodes) z) in
-    subst T (sym b.is) (λ j. subst V more (subst N (sym same) (puts_on n message x next m k i put (counted_machine (suc m.counts.variables) (m.counts.nodes + message_nodes message) y j)))) b.machine
+    rw (b.is, ← more, same)
+    (puts_on n message x next m k i put (counted_machine (suc m.counts.variables) (m.counts.nodes + message_nodes message) y (rw b.is at b.machine)))
 
 -- ---- a message that was sent
 

@@ -1,16 +1,11 @@
 -- Goals that are let to step, or held back, where that may be other than when an event began.
-use Rattle.kl1_machine.proofs.Words.{◌≡◌, ℕ, ◌==◌, ◌||◌, ◌&&◌, not, Bool, true, false, if◌then◌else◌, List, [], ◌∷◌, length, map, refl, sym, ap, ◌∙◌, arith, AllByRecursion, eqb-true, recursion_from_All, is_among, CellName, Hook, Held, Goal, is_monitor, enabled_in, Shoen, Tree, is_enabled_at, shoens_of, AreShifts, Shift, Program, Reading, IsOwned, IsEnabled, AreEnabled, AreSettled, shifted_by, or_true, unlooked, among_contains}
-use Rattle.kl1_machine.proofs.Sincing.{each_so}
+use Rattle.kl1_machine.proofs.Words.{◌≡◌, ℕ, ◌==◌, ◌||◌, not, Bool, true, false, List, [], ◌∷◌, length, map, refl, sym, ap, ◌∙◌, arith, AllByRecursion, eqb-true, recursion_from_All, is_among, CellName, Hook, Held, Goal, is_monitor, enabled_in, Shoen, Tree, is_enabled_at, shoens_of, AreShifts, Shift, Program, Reading, IsOwned, IsEnabled, AreEnabled, AreSettled, shifted_by, or-true, unlooked, among_contains, all_then, map-map, inl, inr, cases_Bool}
 
 -- ---- shifts change nothing but whether goals may step
 
-one_unlooked : (n : ℕ) (b : Bool) (gs : List (Goal CellName)) → map unlooked (map (enabled_in n b) gs) ≡ map unlooked gs
-one_unlooked n b [] = refl
-one_unlooked n b (g ∷ gs) = ap (λ (ks : List (Goal CellName)). unlooked g ∷ ks) (one_unlooked n b gs)
-
 pub shifted_unlooked : (ss : List Shift) (gs : List (Goal CellName)) → map unlooked (shifted_by ss gs) ≡ map unlooked gs
 shifted_unlooked [] gs = refl
-shifted_unlooked (s ∷ ss) gs = shifted_unlooked ss (map (enabled_in s.shoen s.is_enabled) gs) ∙ one_unlooked s.shoen s.is_enabled gs
+shifted_unlooked (s ∷ ss) gs = shifted_unlooked ss (map (enabled_in s.shoen s.is_enabled) gs) ∙ map-map unlooked (enabled_in s.shoen s.is_enabled) gs
 
 -- settled goals stay so
 one_settled : (f : Reading) (hooks : List Hook) (h : Held CellName) (program : Program) (shoens : List (Shoen CellName)) (n : ℕ) (b : Bool) (gs : List (Goal CellName)) → AreSettled f hooks h program shoens gs → AreSettled f hooks h program shoens (map (enabled_in n b) gs)
@@ -33,25 +28,20 @@ IsRightBut tree shifts g = (is_monitor g || not (is_shifted g.shoen shifts)) ≡
 
 -- a shift of a goal's shoen, or of another
 right_next : (tree : Tree CellName) (s : Shift) (shifts : List Shift) (g : Goal CellName) → s.is_enabled ≡ is_enabled_at tree.shoens tree.work s.shoen → IsRightBut tree (s ∷ shifts) g → IsRightBut tree shifts (enabled_in s.shoen s.is_enabled g)
-right_next tree s shifts g right r = by_case (g.shoen == s.shoen) (is_monitor g) refl refl
-  where
-    F : ℕ → Bool
-    F = is_enabled_at tree.shoens tree.work
-
-    unless : (a b c d : Bool) → a ≡ d → b ≡ false → (d || not c) ≡ true → (a || not (b || c)) ≡ true
-    unless a b c d e f g = ap (λ x. x || not (b || c)) e ∙ ap (λ x. d || not (x || c)) f ∙ g
-
-    by_case : (b m : Bool) → (g.shoen == s.shoen) ≡ b → is_monitor g ≡ m → IsRightBut tree shifts (record g { is_enabled = if b && not m then s.is_enabled else g.is_enabled })
-    by_case true true p q = λ e. r (ap (λ x. x || not (is_shifted g.shoen (s ∷ shifts))) q)
-    by_case true false p q = λ e. right ∙ ap F (sym (eqb-true g.shoen s.shoen p)) ∙ ap (λ x. x || F g.shoen) (sym q)
-    by_case false m p q = λ e. r (unless (is_monitor g) (g.shoen == s.shoen) (is_shifted g.shoen shifts) (is_monitor g) refl p e)
+right_next tree s shifts g right r e = elim (cases_Bool (g.shoen == s.shoen)) [
+  | inl p ↦ elim (cases_Bool (is_monitor g)) [
+    | inl q ↦ rw (p, q) (rw q at (r (rw q)))
+    | inr q ↦ rw (p, q) (right ∙ ap (is_enabled_at tree.shoens tree.work) (sym (eqb-true g.shoen s.shoen p)))
+  ]
+  | inr p ↦ rw p (r (rw p e))
+]
 
 rights_next : (tree : Tree CellName) (s : Shift) (shifts : List Shift) (gs : List (Goal CellName)) → s.is_enabled ≡ is_enabled_at tree.shoens tree.work s.shoen → AllByRecursion (IsRightBut tree (s ∷ shifts)) gs → AllByRecursion (IsRightBut tree shifts) (map (enabled_in s.shoen s.is_enabled) gs)
 rights_next tree s shifts [] right a = tt
 rights_next tree s shifts (g ∷ gs) right a = (right_next tree s shifts g right a.0, rights_next tree s shifts gs right a.1)
 
 all_shifted : (tree : Tree CellName) (shifts : List Shift) (gs : List (Goal CellName)) → AllByRecursion (λ (s : Shift). s.is_enabled ≡ is_enabled_at tree.shoens tree.work s.shoen) shifts → AllByRecursion (IsRightBut tree shifts) gs → AreEnabled tree.shoens tree.work (shifted_by shifts gs)
-all_shifted tree [] gs right a = each_so (IsRightBut tree []) (IsEnabled tree.shoens tree.work) (λ g r. r (or_true (is_monitor g))) gs a
+all_shifted tree [] gs right a = all_then (IsRightBut tree []) (IsEnabled tree.shoens tree.work) (λ g r. r (or-true (is_monitor g))) gs a
 all_shifted tree (s ∷ shifts) gs right a = all_shifted tree shifts (map (enabled_in s.shoen s.is_enabled) gs) right.1 (rights_next tree s shifts gs right.0 a)
 
 -- goals that are right but for shifts may step as a tree has it after them

@@ -1,74 +1,30 @@
 -- What stays since an event began, whatever is done.
-use Rattle.kl1_machine.proofs.Words.{rules, ◌≡◌, ℕ, suc, ◌<◌, ◌&&◌, Bool, true, false, if◌then◌else◌, List, [], ◌∷◌, ◌++◌, length, refl, sym, ap, ◌∙◌, arith, subst, append_assoc, OnOk, Result, Ok, Err, filter, AllByRecursion, on_ok_weaker, CellName, Kept, Task, Goal, Tabled, Spelled, filter_append, filter_in, filter_owned, filter_up_to, Machine, IsMachine, Keeps, goal_at, Becomes, Puts, with_goal, having_goals, HasCome, KeepsControl, Since, StillSince}
-use Rattle.std.proofs.Common.{Option, Some}
+use Rattle.kl1_machine.proofs.Words.{rules, ◌≡◌, ℕ, suc, ◌<◌, ◌&&◌, Bool, true, if◌then◌else◌, List, [], ◌∷◌, ◌++◌, length, refl, sym, ap, ◌∙◌, arith, append_assoc, OnOk, Result, Ok, Err, filter, AllByRecursion, on_ok_weaker, CellName, Kept, Task, Goal, Tabled, Spelled, Machine, IsMachine, Keeps, goal_at, Becomes, Puts, with_goal, having_goals, HasCome, KeepsControl, Since, StillSince, inl, inr, cases_Bool, all_append, all_filter, all_of, Option, Some, filter-append, IsTaskIn, IsOwned, ◌≤◌, length_all, has_grown, HasGrown-trans, Grown-same}
 use Rattle.std.proofs.lemmas.List.{append-nil}
-use Rattle.kl1_machine.proofs.Keeping.{Grows, keeps_same, keeps_then, keeps_store, keeps_back, keeps_goals}
+use Rattle.kl1_machine.proofs.Keeping.{Grows, keeps_same, keeps_then, keeps_goals}
 
 -- ---- lists
-
-all_left : (gs : List (Goal CellName)) → filter (λ g. true) gs ≡ gs
-all_left [] = refl
-all_left (g ∷ gs) = ap (λ l. g ∷ l) (all_left gs)
-
-pub both_all : (P : Goal CellName → Type 0) (gs hs : List (Goal CellName)) → AllByRecursion P gs → AllByRecursion P hs → AllByRecursion P (gs ++ hs)
-both_all P [] hs a b = b
-both_all P (g ∷ gs) hs a b = (a.0, both_all P gs hs a.1 b)
-
-pub each_so : (P Q : Goal CellName → Type 0) → ((g : Goal CellName) → P g → Q g) → (gs : List (Goal CellName)) → AllByRecursion P gs → AllByRecursion Q gs
-each_so P Q f [] a = tt
-each_so P Q f (g ∷ gs) a = (f g a.0, each_so P Q f gs a.1)
 
 pub each_both : (P Q R : Goal CellName → Type 0) → ((g : Goal CellName) → P g → Q g → R g) → (gs : List (Goal CellName)) → AllByRecursion P gs → AllByRecursion Q gs → AllByRecursion R gs
 each_both P Q R f [] a b = tt
 each_both P Q R f (g ∷ gs) a b = (f g a.0 b.0, each_both P Q R f gs a.1 b.1)
 
-pub fewer : (P : Goal CellName → Type 0) (p : Goal CellName → Bool) (gs : List (Goal CellName)) → AllByRecursion P gs → AllByRecursion P (filter p gs)
-fewer P p [] a = tt
-fewer P p (g ∷ gs) a = by_case (p g) (fewer P p gs a.1)
-  where
-    by_case : (b : Bool) → AllByRecursion P (filter p gs) → AllByRecursion P (if b then g ∷ filter p gs else filter p gs)
-    by_case true k = (a.0, k)
-    by_case false k = k
-
 filter_both : (p q : Goal CellName → Bool) (gs : List (Goal CellName)) → filter p (filter q gs) ≡ filter (λ g. q g && p g) gs
 filter_both p q [] = refl
-filter_both p q (g ∷ gs) = by_case (q g) (filter_both p q gs)
-  where
-    by_case : (b : Bool) → filter p (filter q gs) ≡ filter (λ k. q k && p k) gs → filter p (if b then g ∷ filter q gs else filter q gs) ≡ (if b && p g then g ∷ filter (λ k. q k && p k) gs else filter (λ k. q k && p k) gs)
-    by_case true e = ap (λ (ks : List (Goal CellName)). if p g then g ∷ ks else ks) e
-    by_case false e = e
+filter_both p q (g ∷ gs) = elim (cases_Bool (q g)) [
+  | inl y ↦ rw y (ap (λ (ks : List (Goal CellName)). if p g then g ∷ ks else ks) (filter_both p q gs))
+  | inr y ↦ rw y (filter_both p q gs)
+]
 
 -- ---- goals that come and go
 
 pub come_same : (b : Machine) → HasCome b b
-come_same b = record { left = λ g. true; added = []; goals = sym (append-nil (filter (λ g. true) b.goals.goals) ∙ all_left b.goals.goals); above = tt; last = omega arith }
-
-come_fewer : (b m : Machine) (p : Goal CellName → Bool) → HasCome b m → HasCome b (having_goals (filter p m.goals.goals) m)
-come_fewer b m p h = record {
-  left = λ g. h.left g && p g;
-  added = filter p h.added;
-  goals = ap (λ (gs : List (Goal CellName)). filter p gs) h.goals ∙ filter_append p (filter h.left b.goals.goals) h.added ∙ ap (λ (gs : List (Goal CellName)). gs ++ filter p h.added) (filter_both p h.left b.goals.goals);
-  above = fewer (λ g. b.counts.last_goal < g.number) p h.added h.above;
-  last = h.last;
-}
-
-come_more : (b m : Machine) (g : Goal CellName) → m.counts.last_goal < g.number → HasCome b m → HasCome b (with_goal g m)
-come_more b m g lt h = record {
-  left = h.left;
-  added = h.added ++ g ∷ [];
-  goals = ap (λ (gs : List (Goal CellName)). gs ++ g ∷ []) h.goals ∙ append_assoc (filter h.left b.goals.goals) h.added (g ∷ []);
-  above = both_all (λ k. b.counts.last_goal < k.number) h.added (g ∷ []) h.above (let le = h.last in omega (arith, le, lt), tt);
-  last = let le = h.last in omega (arith, le, lt);
-}
+come_same b = record { left = λ g. true; added = []; goals = sym (append-nil (filter (λ g. true) b.goals.goals) ∙ length_all b.goals.goals); above = tt; last = omega arith }
 
 -- ---- since an event began
 
 pub since_same : (b : Machine) → Since b b
-since_same b = record { keeps = keeps_same b; hooks = refl; come = come_same b; shoens = omega arith; controls = same b.goals.goals; flags = λ e k le. refl; work = omega arith }
-  where
-    same : (gs : List (Goal CellName)) → AllByRecursion (KeepsControl b b) gs
-    same [] = tt
-    same (g ∷ gs) = (λ le monitor told. refl, same gs)
+since_same b = record { keeps = keeps_same b; hooks = refl; come = come_same b; shoens = omega arith; controls = all_of (KeepsControl b b) (λ g le monitor told. refl) b.goals.goals; flags = λ e k le. refl; work = omega arith }
 
 -- what was when a call began is kept, by another call after it too
 pub kept_after : (m v n : Machine) → (Since m m → Since m v) → Keeps v n → Keeps m n
@@ -82,7 +38,7 @@ still (Err x) b n s = s.keeps
 -- a store that grows, by no hook, changes nothing of it
 pub since_store : (b m : Machine) (k : Kept CellName) → Grows m k → Since b m → Since b (record m { store = k })
 since_store b m k g s = record {
-  keeps = keeps_then b m (record m { store = k }) s.keeps (keeps_store m k g);
+  keeps = keeps_then b m (record m { store = k }) s.keeps (record { grown = has_grown m.store k g.grown g.hooks; trail = refl });
   hooks = g.hooks ∙ s.hooks;
   come = record { left = s.come.left; added = s.come.added; goals = s.come.goals; above = s.come.above; last = s.come.last };
   shoens = s.shoens;
@@ -100,9 +56,15 @@ pub since_fewer : (b m : Machine) (p : Goal CellName → Bool) → Since b m →
 since_fewer b m p s = record {
   keeps = record { grown = s.keeps.grown; trail = s.keeps.trail };
   hooks = s.hooks;
-  come = come_fewer b m p s.come;
+  come = record {
+    left = λ g. s.come.left g && p g;
+    added = filter p s.come.added;
+    goals = ap (λ (gs : List (Goal CellName)). filter p gs) s.come.goals ∙ filter-append p (filter s.come.left b.goals.goals) s.come.added ∙ ap (λ (gs : List (Goal CellName)). gs ++ filter p s.come.added) (filter_both p s.come.left b.goals.goals);
+    above = all_filter (λ (g : Goal CellName). b.counts.last_goal < g.number) p s.come.added s.come.above;
+    last = s.come.last;
+  };
   shoens = s.shoens;
-  controls = fewer (KeepsControl b m) p m.goals.goals s.controls;
+  controls = all_filter (KeepsControl b m) p m.goals.goals s.controls;
   flags = s.flags;
   work = s.work;
 }
@@ -112,20 +74,26 @@ pub since_more : (b m : Machine) (g : Goal CellName) → m.counts.last_goal < g.
 since_more b m g lt s = record {
   keeps = record { grown = s.keeps.grown; trail = s.keeps.trail };
   hooks = s.hooks;
-  come = come_more b m g lt s.come;
+  come = record {
+    left = s.come.left;
+    added = s.come.added ++ g ∷ [];
+    goals = ap (λ (gs : List (Goal CellName)). gs ++ g ∷ []) s.come.goals ∙ append_assoc (filter s.come.left b.goals.goals) s.come.added (g ∷ []);
+    above = all_append (λ (k : Goal CellName). b.counts.last_goal < k.number) s.come.added (g ∷ []) s.come.above (let le = s.come.last in omega (arith, le, lt), tt);
+    last = let le = s.come.last in omega (arith, le, lt);
+  };
   shoens = s.shoens;
-  controls = both_all (KeepsControl b m) m.goals.goals (g ∷ []) s.controls ((λ up monitor told. let le = s.come.last in absurd (omega (arith, le, lt, up))), tt);
+  controls = all_append (KeepsControl b m) m.goals.goals (g ∷ []) s.controls ((λ up monitor told. let le = s.come.last in absurd (omega (arith, le, lt, up))), tt);
   flags = s.flags;
   work = s.work;
 }
 
 pub since_put : (b m n : Machine) (shoen priority : ℕ) (task : Task CellName) → Puts shoen priority task m n → Since b m → Since b n
-since_put b m n shoen priority task p s = let P : Machine → Type 0 = λ x. Since b x in subst P (sym p.is) (since_more b m (goal_at (suc m.counts.last_goal) shoen priority task) (omega arith) s)
+since_put b m n shoen priority task p s = rw p.is (since_more b m (goal_at (suc m.counts.last_goal) shoen priority task) (omega arith) s)
 
 -- a store that went back to what it was before a part of the event
 pub since_back : (b m n : Machine) (k : Kept CellName) → k.held ≡ m.store.held → k.hooks ≡ m.store.hooks → Since b m → Since b n → Since b (record n { store = k })
 since_back b m n k held hooks s t = record {
-  keeps = record { grown = (keeps_then b m (record m { store = k }) s.keeps (keeps_back m m k (keeps_same m) held hooks)).grown; trail = t.keeps.trail };
+  keeps = record { grown = HasGrown-trans b.store m.store k s.keeps.grown (has_grown m.store k (rw held (Grown-same m.store.held)) hooks); trail = t.keeps.trail };
   hooks = hooks ∙ s.hooks;
   come = record { left = t.come.left; added = t.come.added; goals = t.come.goals; above = t.come.above; last = t.come.last };
   shoens = t.shoens;
@@ -140,8 +108,13 @@ fewer_machine : (m : Machine) (p : Goal CellName → Bool) → IsMachine m → I
 fewer_machine m p i =
     let w = i.inside in
     record {
-      inside = record { some = w.some; goals = filter_in m.store.held p m.goals.goals w.goals; shoens = w.shoens; owned = filter_owned (length m.shoens.shoens) p m.goals.goals w.owned };
-      last = filter_up_to m.counts.last_goal p m.goals.goals i.last;
+      inside = record {
+        some = w.some;
+        goals = all_filter (λ (g : Goal CellName). IsTaskIn m.store.held g.task) p m.goals.goals w.goals;
+        shoens = w.shoens;
+        owned = all_filter (IsOwned (length m.shoens.shoens)) p m.goals.goals w.owned;
+      };
+      last = all_filter (λ (g : Goal CellName). g.number ≤ m.counts.last_goal) p m.goals.goals i.last;
       placed = i.placed;
       known = i.known;
     }
@@ -152,13 +125,10 @@ goals_are r s gs rest is = rest ∙ ap (λ (hs : List (Goal CellName)). let z : 
 
 pub fewer_becomes : {T E : Type 0} (r : Result T E) (m : Machine) (t : Tabled CellName) (p : Goal CellName → Bool) → IsMachine m → t ≡ record m.goals { goals = t.goals } → OnOk r (t.goals ≡ filter p m.goals.goals) → OnOk r (Becomes (having_goals (filter p m.goals.goals) m) (record m { goals = t }))
 fewer_becomes r m t p i rest =
-    let P : Tabled CellName → Type 0 = λ s. Becomes (having_goals (filter p m.goals.goals) m) (record m { goals = s }) in
-    on_ok_weaker r (λ (is : t.goals ≡ filter p m.goals.goals). subst P (sym (goals_are m.goals t (filter p m.goals.goals) rest is)) (record { is = refl; machine = fewer_machine m p i }))
+    on_ok_weaker r (λ (is : t.goals ≡ filter p m.goals.goals). rw (goals_are m.goals t (filter p m.goals.goals) rest is) (record { is = refl; machine = fewer_machine m p i }))
 
 pub fewer_since : {T E : Type 0} (r : Result T E) (b m : Machine) (t : Tabled CellName) (p : Goal CellName → Bool) → t ≡ record m.goals { goals = t.goals } → OnOk r (t.goals ≡ filter p m.goals.goals) → Since b m → StillSince r b (record m { goals = t })
-fewer_since (Ok x) b m t p rest is s =
-    let P : Tabled CellName → Type 0 = λ q. Since b (record m { goals = q }) in
-    subst P (sym (goals_are m.goals t (filter p m.goals.goals) rest is)) (since_fewer b m p s)
+fewer_since (Ok x) b m t p rest is s = rw (goals_are m.goals t (filter p m.goals.goals) rest is) (since_fewer b m p s)
 fewer_since (Err x) b m t p rest ok s = keeps_then b m (record m { goals = t }) s.keeps (keeps_goals m t m.counts rest)
 
 -- ---- a new name

@@ -1,6 +1,5 @@
 -- Goals of the console that are built, and starts.
-use Rattle.kl1_machine.proofs.Words.{◌≡◌, ℕ, suc, ◌+◌, ◌-◌, ◌==◌, Bool, true, false, if◌then◌else◌, List, [], length, refl, sym, ap, ◌∙◌, arith, subst, inl, inr, Option, Some, None, or_cases, false≢true, bytes_eq-Decides, Living, True, text_of, Term, variable, integer, atom, structure, nodes_of, report_of, is_goal, highest, is_numbered, goal_nodes, State, fresh, names_of, with_names, has_made_last, report_tail, reported_on, reported_at, report, started_report, exhausted_report, open_shoen, with_next_variables, started_shoen, start_goal, Reads, CellName, no_names, Cell, Held, IsIn, with_variable, Kept, IsFormed, Grown, Grown-variable, Grown-trans, term_of-variable, term_of-unbound, term_of-Atom, Instruction, IsRowOf, with_variables, AreGoalVariables, kept_with, beyond_unbound, Origin, Shoen, Reading, built, reading_of, reading_fits, meaning, shoen_with, worked, IsMadeIn, in_grown, read_as, rereads, Machine, made, IsMachine, counting, CanStart, Brings, OpensAs, bare, IsPlain, IsPlainShoen, ArePlain, ReadsNames, BuildsGoal, OpensStreams}
-use Rattle.std.proofs.Common.{IsTrue, bytes_eq}
+use Rattle.kl1_machine.proofs.Words.{◌≡◌, ℕ, suc, ◌+◌, ◌-◌, ◌==◌, true, false, List, [], length, refl, sym, ap, ◌∙◌, arith, inl, inr, Option, Some, None, or_cases, false≢true, bytes_eq-Decides, Living, True, text_of, Term, variable, atom, nodes_of, report_of, is_goal, highest, is_numbered, goal_nodes, State, fresh, names_of, with_names, has_made_last, report_tail, reported_on, report, started_report, exhausted_report, open_shoen, with_next_variables, started_shoen, start_goal, Reads, CellName, no_names, Cell, Held, IsIn, with_variable, Kept, IsFormed, Grown, Grown-variable, Grown-trans, term_of-variable, term_of-unbound, term_of-Atom, Instruction, IsRowOf, with_variables, AreGoalVariables, kept_with, beyond_unbound, Origin, Shoen, Reading, built, reading_of, reading_fits, meaning, shoen_with, worked, IsMadeIn, in_grown, read_as, rereads, Machine, made, IsMachine, counting, CanStart, Brings, OpensAs, bare, IsPlain, IsPlainShoen, ArePlain, ReadsNames, BuildsGoal, OpensStreams, cases_Bool, IsTrue, bytes_eq, same_text}
 use Rattle.kl1_model.specs.State as model
 use Rattle.kl1_model.specs.Opening.{with_shoen}
 use Rattle.kl1_store.specs.declared.cell.Cell.TheVariants as cell
@@ -40,14 +39,10 @@ built_goal goal numbers row m one k cells x p variables nodes =
       bindings = p.bindings ∙ ap (λ (z : Held CellName). z.bindings) p.one_is;
       kept = λ f reads y j. p.builds.kept f reads y (in_grown h one p.first y j) ∙ ap (λ (z : Held CellName). meaning f z y) p.one_is ∙ kept_with f h (highest goal) y;
       means = λ f reads names.
-          let T : List (List ℕ) → Type 0 = λ ts. IsRowOf ts row (nodes_of goal) in
-          (p.builds.built_is f reads goal (subst T (sym names) p.row_is)).next p.numbered (h.variables - 1) p.variables.next p.variables.free;
+          (p.builds.built_is f reads goal (rw names p.row_is)).next p.numbered (h.variables - 1) p.variables.next p.variables.free;
     }
 
 -- ---- streams that open
-
-pub fresh_grows : (h k : Held CellName) → k ≡ with_variable h → Grown h k
-fresh_grows h k is = let G : Held CellName → Type 0 = λ z. Grown h z in subst G (sym is) (Grown-variable h)
 
 pub streams_opened : (goal : Cell CellName) (m : Machine) (a : Held CellName) (k : Kept CellName) (control reports : ℕ) → IsMachine m → IsFormed m.store.held → IsIn m.store.held goal → (control ≡ m.store.held.variables) × (a ≡ with_variable m.store.held) → (reports ≡ a.variables) × (k.held ≡ with_variable a) → k.hooks ≡ m.store.hooks →
     OpensStreams goal m (record m { store = k }) (record { goal = goal; reports = cell.Variable reports; control = cell.Variable control })
@@ -59,8 +54,7 @@ streams_opened goal m a k control reports i formed j p q hooks =
     let second : reports ≡ suc h.variables = q.0 ∙ ap (λ (z : Held CellName). z.variables) p.1 ∙ omega arith in
     let first = p.0 in
     let count : k.held.variables ≡ h.variables + 2 = ap (λ (z : Held CellName). z.variables) is ∙ omega arith in
-    let G : Held CellName → Type 0 = λ z. Grown h z in
-    let up : Grown h k.held = subst G (sym is) (Grown-trans h one two (Grown-variable h) (Grown-variable one)) in
+    let up : Grown h k.held = rw is (Grown-trans h one two (Grown-variable h) (Grown-variable one)) in
     let same : (f : Reading) (y : Cell CellName) → meaning f k.held y ≡ meaning f h y = λ f y. ap (λ (z : Held CellName). meaning f z y) is ∙ term_of-variable f one y ∙ term_of-variable f h y in
     record {
       rest = refl;
@@ -92,28 +86,18 @@ report_aside n x ns ws s = by_shoen (model.shoen_at n s.shoens)
     by_tail None = refl
     by_tail (Some v) = refl
 
-    by_broken : (b : Bool) (t : Term) → (if b then aside ns ws s else reported_at n x t (aside ns ws s)) ≡ aside ns ws (if b then s else reported_at n x t s)
-    by_broken true t = refl
-    by_broken false t = by_tail (report_tail (has_made_last s) x t)
-
     by_shoen : (o : Option model.Shoen) → report_of o n x (aside ns ws s) ≡ aside ns ws (report_of o n x s)
     by_shoen None = refl
-    by_shoen (Some h) = by_broken h.is_broken h.tail
+    by_shoen (Some h) = elim (cases_Bool h.is_broken) [ inl e ↦ rw e | inr e ↦ rw e (by_tail (report_tail (has_made_last s) x h.tail)) ]
 
 open_aside : (h : model.Shoen) (goal : Term) (ns : List (List ℕ)) (ws : List ℕ) (s : State) → open_shoen h goal (aside ns ws s) ≡ aside ns ws (open_shoen h goal s)
-open_aside h goal ns ws s = by_empty (h.allowance == 0)
-  where
-    said : State
-    said = report h.number started_report (with_shoen h goal s)
-
-    once : report h.number started_report (with_shoen h goal (aside ns ws s)) ≡ aside ns ws said
-    once = report_aside h.number started_report ns ws (with_shoen h goal s)
-
-    by_empty : (b : Bool) →
-        (if b then report h.number exhausted_report (report h.number started_report (with_shoen h goal (aside ns ws s))) else report h.number started_report (with_shoen h goal (aside ns ws s)))
-        ≡ aside ns ws (if b then report h.number exhausted_report said else said)
-    by_empty true = ap (report h.number exhausted_report) once ∙ report_aside h.number exhausted_report ns ws said
-    by_empty false = once
+open_aside h goal ns ws s =
+    let said = report h.number started_report (with_shoen h goal s) in
+    let once : report h.number started_report (with_shoen h goal (aside ns ws s)) ≡ aside ns ws said = report_aside h.number started_report ns ws (with_shoen h goal s) in
+    elim (cases_Bool (h.allowance == 0)) [
+      | inl e ↦ rw e (ap (report h.number exhausted_report) once ∙ report_aside h.number exhausted_report ns ws said)
+      | inr e ↦ rw e once
+    ]
 
 open_work : (h : model.Shoen) (goal : Term) (s : State) → (open_shoen h goal s).work ≡ s.work
 open_work h goal s = ap (λ (z : State). z.work) (open_aside h goal s.names s.work s)
@@ -135,27 +119,20 @@ opened_work h x m n p =
 goal_name : (t : List ℕ) → is_goal (atom t) ≡ true → t ≡ text_of True
 goal_name t e = (bytes_eq-Decides t (text_of True)).0 (elim (or_cases (bytes_eq t (text_of True)) false e) [ inl is ↦ is | inr other ↦ absurd (false≢true other) ])
 
-text_is : (t u : List ℕ) → atom t ≡ atom u → t ≡ u
-text_is t u e = cc
-
 -- the cell of a goal, if it is a name by itself, is one that all readings read the same
 goal_plain : (f g : Reading) (goal : Term) (last : ℕ) (h : Held CellName) (x : Cell CellName) → is_goal goal ≡ true → Reads built f → Reads built g → meaning g h x ≡ with_next_variables last goal → IsPlain f g x
 goal_plain f g goal last h x is first second means = by_cell x means
   where
     by_goal : (a : CellName) (t : Term) → is_goal t ≡ true → atom (g a) ≡ with_next_variables last t → f a ≡ g a
-    by_goal a (variable v) e p = absurd (cc)
-    by_goal a (integer i) e p = absurd (cc)
     by_goal a (atom t) e p =
-        let own : g a ≡ text_of True = text_is (g a) t p ∙ goal_name t e in
+        let own : g a ≡ text_of True = same_text (g a) t p ∙ goal_name t e in
         let same : a ≡ built True = second.once a (built True) (own ∙ sym (second.texts True)) in
         ap f same ∙ first.texts True ∙ sym own
-    by_goal a (structure s ts) e p = absurd (cc)
+    by_goal a _ e p = absurd (cc)
 
     by_cell : (y : Cell CellName) → meaning g h y ≡ with_next_variables last goal → IsPlain f g y
-    by_cell (cell.Variable v) e = refl
-    by_cell (cell.Integer i) e = refl
     by_cell (cell.Atom a) e = ap atom (by_goal a goal is (sym (term_of-Atom g h a) ∙ e))
-    by_cell (cell.Structure s) e = refl
+    by_cell _ e = refl
 
 -- ---- starts
 
@@ -257,11 +234,9 @@ module _ (numbers : List CellName) (w : Start) (nodes : ℕ) (m a b : Machine) (
 
   pub started : (n : Machine) (number : ℕ) → number ≡ suc (length m.shoens.shoens) → Opens (shoen_for number w o) x b n → Brings (λ s. start_goal s w.allowance w.low w.high goal) goal numbers m n
   started n number number_is opened =
-      let N : ℕ → Type 0 = λ k. Opens (shoen_for k w o) x b n in
-      let B : Machine → Type 0 = λ y. Opens (shoen_for (suc (length m.shoens.shoens)) w o) x y n in
       let h = shoen_for (suc (length m.shoens.shoens)) w o in
       let c : Machine = record (starting w nodes m) { store = b.store } in
-      let p : Opens h x c n = subst B prepared (subst N number_is opened) in
+      let p : Opens h x c n = rw (number_is, prepared) at opened in
       record {
         states = λ f reads names s.
             let t = meaning f b.store.held in

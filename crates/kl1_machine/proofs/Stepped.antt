@@ -1,14 +1,17 @@
 -- Reductions by which goals make moves.
-use Rattle.kl1_machine.proofs.Words.{◌≡◌, ℕ, ◌+◌, ◌<◌, ◌||◌, Bool, true, false, List, [], ◌∷◌, ◌++◌, length, map, refl, sym, ap, ◌∙◌, subst, find, AllByRecursion, Term, atom, State, without_goal, charge, after_reduction, Action, moves, moved, names, task_action, CellName, Known, number_by, Cell, Held, IsFormed, Predicate, Place, Move, IsMove, MoveIn, Goal, is_other, is_monitor, Shoen, is_enabled_at, Numbered, contents, Program, Spelled, Reading, Fits, Means, meaning, task_with, goal_with, aim, IsEnabled, IsOwned, NameShelf, AreSmall, keeps_names, name_of, IsNewName, name_for, Knows, worked, others_read, Machine, PlannedMove, made, having_goals, IsRested, Making, ReadsText, ReadsAll, IsBoundLast, HasName, HoldsSpare, CanPublish, Patches, ReadsNew, IsNamed, StepsAs, Reschedules, CanDo, MovesBy, IsSteppable, ReadsAlike, IsAtomAt, atom_at, otherwise, otherwise_fits, otherwise_other, both_read, first_read, second_read, as_modules, fits_modules, modules_fit, same_text}
+use Rattle.kl1_machine.proofs.Words.{◌≡◌, ℕ, ◌<◌, ◌||◌, true, List, [], ◌∷◌, ◌++◌, length, map, refl, sym, ap, ◌∙◌, subst, find, AllByRecursion, Term, atom, State, charge, after_reduction, Action, moves, moved, names, task_action, CellName, Known, number_by, Cell, Held, IsFormed, Predicate, Place, Move, MoveIn, Goal, is_other, is_enabled_at, Numbered, contents, Program, Reading, Fits, Means, meaning, task_with, goal_with, aim, IsEnabled, IsOwned, AreSmall, keeps_names, name_of, IsNewName, name_for, Knows, worked, others_read, Machine, PlannedMove, made, having_goals, IsRested, Making, ReadsText, ReadsAll, CanPublish, ReadsNew, IsNamed, StepsAs, Reschedules, CanDo, MovesBy, IsSteppable, ReadsAlike, IsAtomAt, atom_at, otherwise, otherwise_fits, otherwise_other, both_read, first_read, second_read, as_modules, fits_modules, modules_fit, same_text, inl, inr}
 use Rattle.std.proofs.Common.{Option, Some, None}
+use Rattle.std.proofs.lemmas.Bool.{cases_Bool}
 use Rattle.std.specs.Prelude.{filter}
 use Rattle.kl1_model.specs.State as model
+use Rattle.kl1_model.specs.State.{fresh}
+use Rattle.kl1_atoms.specs.Knowing.{option_cases}
 use Rattle.kl1_model.specs.Reduction as reduction
 use Rattle.kl1_goals_moves.specs.declared.moves.Move.TheVariants as made_move
 use Rattle.kl1_goals.specs.Lists.{has_number}
 use Rattle.kl1_machine.specs.Reducing.{Reduces}
 use Rattle.kl1_machine.proofs.Planned.{found_holds}
-use Rattle.kl1_machine.proofs.Resting.{looked_read}
+use Rattle.kl1_machine.proofs.Resting.{looked_state}
 
 -- ---- what a machine knows
 
@@ -18,18 +21,12 @@ rested_knows program m f rested fits = record { reads = fits.reads; rows = reste
 
 -- ---- what a goal is for two readings
 
-head_same : (x y : model.Goal) (xs ys : List model.Goal) → x ∷ xs ≡ y ∷ ys → x ≡ y
-head_same x y xs ys e = cc
-
-tail_same : (x y : model.Goal) (xs ys : List model.Goal) → x ∷ xs ≡ y ∷ ys → xs ≡ ys
-tail_same x y xs ys e = cc
-
 each_same : (t u : Means) (gs : List (Goal CellName)) → map (goal_with t) gs ≡ map (goal_with u) gs → AllByRecursion (λ g. goal_with t g ≡ goal_with u g) gs
 each_same t u [] e = tt
-each_same t u (g ∷ gs) e = (
-  head_same (goal_with t g) (goal_with u g) (map (goal_with t) gs) (map (goal_with u) gs) e,
-  each_same t u gs (tail_same (goal_with t g) (goal_with u g) (map (goal_with t) gs) (map (goal_with u) gs) e),
-)
+each_same t u (g ∷ gs) e =
+    let first : goal_with t g ≡ goal_with u g = cc in
+    let rest : map (goal_with t) gs ≡ map (goal_with u) gs = cc in
+    (first, each_same t u gs rest)
 
 -- two readings of the names of a machine of which all read the same, and goal `n` of it
 pub record ReadBoth (m : Machine) (n : ℕ) (g : Goal CellName) (f h : Reading) : Type 0 where
@@ -40,24 +37,7 @@ pub record ReadBoth (m : Machine) (n : ℕ) (g : Goal CellName) (f h : Reading) 
 
 -- a state with nothing but modules
 abbrev pub bare : Program → State
-bare program = record {
-  own_name = [];
-  rules = program.rules;
-  goals = [];
-  shoens = [];
-  work = [];
-  modules = contents program.loaded;
-  names = [];
-  last_variable = 0;
-  last_goal = 0;
-  last_shoen = 0;
-  variables = 0;
-  nodes = 0;
-  reports = 0;
-  entries = 0;
-  run = 0;
-  sessions = 0;
-}
+bare program = record (fresh program.rules []) { modules = contents program.loaded }
 
 -- a goal is the same for both
 pub same_goal : (program : Program) (m : Machine) (n : ℕ) (g : Goal CellName) (f h : Reading) → ReadBoth m n g f h → goal_with (meaning f m.store.held) g ≡ goal_with (meaning h m.store.held) g
@@ -122,12 +102,10 @@ module _ (program : Program) (m : Machine) (n c : ℕ) (p : IsChosen program m n
       let text = p.text in
       let h = otherwise known text f in
       let other : Fits known h = otherwise_fits known text f none fits in
-      let I : Move CellName → Type 0 = λ k. MoveIn m.store.held p.planned.predicate p.places text (Some k) in
-      let at : IsAtomAt m.store.held y f text = atom_at f m.store.held y text p.formed (subst I is q.runnable.inside).1 e in
-      let F : Move CellName → Type 0 = λ k. IsMove f m.store.held (Some (q.move f)) p.planned.predicate p.places text (Some k) in
-      let H : Move CellName → Type 0 = λ k. IsMove h m.store.held (Some (q.move h)) p.planned.predicate p.places text (Some k) in
-      let one = subst F is (q.is f (rested_knows program m f p.rested fits)) in
-      let two = subst H is (q.is h (rested_knows program m h p.rested other)) in
+      let uses = rw is at q.runnable.inside in
+      let at : IsAtomAt m.store.held y f text = atom_at f m.store.held y text p.formed uses.1 e in
+      let one = rw is at (q.is f (rested_knows program m f p.rested fits)) in
+      let two = rw is at (q.is h (rested_knows program m h p.rested other)) in
       let same : meaning f m.store.held y ≡ meaning h m.store.held y = named_same (q.move f) (q.move h) text text (meaning f m.store.held y) (meaning h m.store.held y) (same_move f h fits other) one two in
       otherwise_other known text f at.number at.read (same_text (h at.number) text (sym (at.means h) ∙ sym same ∙ e))
 
@@ -146,18 +124,6 @@ module _ (program : Program) (m : Machine) (n c : ℕ) (p : IsChosen program m n
 
 -- ---- the reduction
 
--- a machine without a goal means a state without it
-without_read : (f : Reading) (s : State) (m : Machine) (n : ℕ) → worked f s m.store.held (made (having_goals (filter (is_other n) m.goals.goals) m)) ≡ without_goal n (worked f s m.store.held (made m))
-without_read f s m n =
-    let G : List model.Goal → State = λ gs. (let z : State = record (worked f s m.store.held (made m)) { goals = gs } in z) in
-    ap G (sym (others_read (meaning f m.store.held) n m.goals.goals))
-
--- goals that were looked at again mean what they meant, whatever the store holds
-looked_state : (f : Reading) (s : State) (h : Held CellName) (u v : Machine) → Reschedules u v → worked f s h (made u) ≡ worked f s h (made v)
-looked_state f s h u v r =
-    let G : List model.Goal → State = λ gs. (let z : State = record (worked f s h (made u)) { goals = gs } in z) in
-    ap G (sym (looked_read (meaning f h) v.goals.goals u.goals.goals r.goals)) ∙ ap (λ (x : Machine). worked f s h (made x)) (sym r.rest)
-
 -- the goal has been removed and has made its move, which comes to machine `u`, and goals are looked at again
 pub moved_reduces : (program : Program) (m u v : Machine) (n c : ℕ) (p : IsChosen program m n c) → StepsAs (making program m n c p) p.goal p.planned.cell (having_goals (filter (is_other p.goal.number) m.goals.goals) m) u → Reschedules u v → Reduces program n c m v
 moved_reduces program m u v n c p steps r = record {
@@ -173,25 +139,16 @@ moved_reduces program m u v n c p steps r = record {
       let own = rested_knows program m f p.rested (named.fits f fits) in
       let knows : Knows ms f = record { reads = fits.reads; rows = both_read f program.loaded (as_modules more) own.rows (fits_modules f more fits) } in
       let name : v.name ≡ name_for p.planned.made m.names.names p.text = ap (λ (x : Machine). x.name) r.rest ∙ steps.name in
-      let P : Option Spelled → Held CellName → Type 0 = λ o h. Patches o key h last in
-      let Q : Option Spelled → Type 0 = λ o. P o v.store.held in
-      let R : Held CellName → Type 0 = λ h. P u.spelled h in
-      let so : P u.spelled u.store.held = subst R r.held (subst Q (ap (λ (x : Machine). x.spelled) r.rest) patches) in
+      let spelled : v.spelled ≡ u.spelled = ap (λ (x : Machine). x.spelled) r.rest in
+      let so = rw (spelled, r.held) at patches in
       let reads = names_read program m n c p ms more key v.name fit named name in
       let change : State → State = λ z. after_reduction g.shoen (moved (goal_with (meaning f m.store.held) g) (aim f m.store.held p.planned.cell) (p.makes.move f) (charge g.shoen z)) in
-      ap change (sym (without_read f s m g.number)) ∙ (steps.turns ms p.makes.move key last reads so (λ q k. p.makes.is q (old q k))).states f knows s ∙ looked_state f s last u v r;
-  spare_last =
-      (let H : Option Spelled → Held CellName → Type 0 = λ o h. HoldsSpare o h in
-      let O : Option Spelled → Type 0 = λ o. H o u.store.held in
-      let T : Held CellName → Type 0 = λ h. H v.spelled h in
-      subst T (sym r.held) (subst O (sym (ap (λ (x : Machine). x.spelled) r.rest)) steps.spare_last));
+      ap (λ (gs : List model.Goal). change (let z : State = record (worked f s m.store.held (made m)) { goals = gs } in z)) (others_read (meaning f m.store.held) g.number m.goals.goals)
+      ∙ (steps.turns ms p.makes.move key last reads so (λ q k. p.makes.is q (old q k))).states f knows s ∙ looked_state f s last u v r;
+  spare_last = (let spelled : v.spelled ≡ u.spelled = ap (λ (x : Machine). x.spelled) r.rest in rw (spelled, r.held) steps.spare_last);
 }
 
 -- ---- what is asked of a step
-
--- a goal that may step is let by its shoen
-shoen_lets : (shoens : List (Shoen CellName)) (work : List ℕ) (g : Goal CellName) → is_monitor g ≡ false → g.is_enabled ≡ true → IsEnabled shoens work g → is_enabled_at shoens work g.shoen ≡ true
-shoen_lets shoens work g acts on is = ap (λ b. b || is_enabled_at shoens work g.shoen) (sym acts) ∙ sym is ∙ on
 
 -- the shoen of a goal that makes a move is there
 pub owned_by : (program : Program) (m : Machine) (n c : ℕ) (p : IsChosen program m n c) → IsOwned (length m.shoens.shoens) p.goal
@@ -200,24 +157,19 @@ owned_by program m n c p = found_holds (IsOwned (length m.shoens.shoens)) n m.go
 -- and lets its goals step
 pub let_by : (program : Program) (m : Machine) (n c : ℕ) (p : IsChosen program m n c) → is_enabled_at m.shoens.shoens m.shoens.work p.goal.shoen ≡ true
 let_by program m n c p =
-    shoen_lets m.shoens.shoens m.shoens.work p.goal p.makes.runnable.reduces p.steppable.enabled (found_holds (IsEnabled m.shoens.shoens m.shoens.work) n m.goals.goals p.goal p.rested.enabled p.steppable.found)
+    ap (λ b. b || is_enabled_at m.shoens.shoens m.shoens.work p.goal.shoen) (sym p.makes.runnable.reduces)
+    ∙ sym (found_holds (IsEnabled m.shoens.shoens m.shoens.work) n m.goals.goals p.goal p.rested.enabled p.steppable.found)
+    ∙ p.steppable.enabled
 
 -- ---- the name of a step can be published
 
 -- a text that a move uses as a name is new, if it is to be published
 is_new : (h : Held CellName) (p : Predicate CellName) (places : List (Place CellName)) (text : List ℕ) (m : Move CellName) (known : List Known) → MoveIn h p places text (Some m) → IsNewName known (name_for m known text)
-is_new h p places text (made_move.Commits place) known i = tt
-is_new h p places text (made_move.Raises b) known i = tt
-is_new h p places text (made_move.Unifies x y) known i = tt
-is_new h p places text (made_move.Names x) known i = by_case (number_by known text) (keeps_names known text) refl refl
-  where
-    by_case : (o : Option ℕ) (b : Bool) → number_by known text ≡ o → keeps_names known text ≡ b → IsNewName known (name_of o b text)
-    by_case None true e f = (i.0, (e, f))
-    by_case None false e f = tt
-    by_case (Some n) b e f = tt
-is_new h p places text (made_move.Opens s) known i = tt
-is_new h p places text made_move.Goes known i = tt
-is_new h p places text made_move.GivesWay known i = tt
+is_new h p places text (made_move.Names x) known i = elim (option_cases (number_by known text)) [
+  | inl new ↦ elim (cases_Bool (keeps_names known text)) [ inl keeps ↦ rw (new, keeps) (i.0, (new, keeps)) | inr full ↦ rw (new, full) tt ]
+  | inr old ↦ rw old.1 tt
+]
+is_new h p places text y known i = tt
 
 -- the machine can publish the name of a step, if there is one
 pub stepped_publishes : (program : Program) (m u v : Machine) (n c : ℕ) (p : IsChosen program m n c) → AreSmall m.names.names → 0 < m.names.room → u.names ≡ m.names →
@@ -229,18 +181,10 @@ stepped_publishes program m u v n c p small room same steps r =
     let name : v.name ≡ name_for x known p.text = ap (λ (x : Machine). x.name) r.rest ∙ steps.name in
     let spelled : v.spelled ≡ u.spelled = ap (λ (x : Machine). x.spelled) r.rest in
     let new : IsNewName known (name_for x known p.text) = is_new m.store.held p.planned.predicate p.places p.text x known p.makes.runnable.inside in
-    let N1 : Option (List ℕ) → Type 0 = λ o. IsNewName known o in
-    let N2 : NameShelf → Type 0 = λ s. IsNewName s.names v.name in
-    let L : Option Spelled → Type 0 = λ o. IsBoundLast o u.store.held in
-    let M : Held CellName → Type 0 = λ h. IsBoundLast v.spelled h in
-    let H : Option Spelled → Type 0 = λ o. HasName o u.name in
-    let K : Option (List ℕ) → Type 0 = λ o. HasName v.spelled o in
-    let S : NameShelf → Type 0 = λ s. AreSmall s.names in
-    let R : NameShelf → Type 0 = λ s. 0 < s.room in
     record {
-      name = subst N2 (sym same_names) (subst N1 (sym name) new);
-      last = subst M (sym r.held) (subst L (sym spelled) steps.last);
-      has = subst K (sym (ap (λ (x : Machine). x.name) r.rest)) (subst H (sym spelled) steps.has);
-      small = subst S (sym same_names) small;
-      room = subst R (sym same_names) room;
+      name = rw (same_names, name) new;
+      last = rw (spelled, r.held) steps.last;
+      has = λ e. spelled ∙ steps.has (sym (ap (λ (x : Machine). x.name) r.rest) ∙ e);
+      small = rw same_names small;
+      room = rw same_names room;
     }

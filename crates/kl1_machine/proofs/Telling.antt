@@ -1,5 +1,5 @@
 -- What a report leaves of a machine.
-use Rattle.kl1_machine.proofs.Words.{◌≡◌, ℕ, suc, ◌-◌, not, ◌&&◌, ◌||◌, Bool, true, false, if◌then◌else◌, List, [], refl, sym, ap, ◌∙◌, subst, find, Option, Some, None, is_some, option_map, Term, variable, integer, atom, structure, State, report, is_reported, close, is_reported_at, is_reported_of, close_of, Reads, CellName, Cell, Kept, Grown-same, Told, Dropped, Broken, Sent, Breaks, ToldAs, Shoen, Tree, has_number, changed, Numbered, Reading, built, meaning, shoen_with, unheard, worked, found_in, changed_count, torn, tailed, last_made, after_report, report_turns, no_report_turns, turns_none, finds, same_free, sent_free, Counts, Machine, made, IsMachine, Tells, TurnsAs, Since}
+use Rattle.kl1_machine.proofs.Words.{◌≡◌, ℕ, suc, ◌-◌, not, ◌&&◌, ◌||◌, Bool, true, false, if◌then◌else◌, List, [], refl, sym, ap, ◌∙◌, find, Option, Some, None, is_some, option_map, Term, variable, State, report, is_reported, close, is_reported_at, is_reported_of, close_of, Reads, CellName, Cell, Kept, Grown-same, Told, Dropped, Broken, Sent, Breaks, ToldAs, Shoen, Tree, has_number, changed, Numbered, Reading, built, meaning, shoen_with, worked, found_in, changed_count, torn, tailed, last_made, after_report, report_turns, no_report_turns, turns_none, finds, same_free, sent_free, Counts, Machine, made, IsMachine, Tells, TurnsAs, Since}
 use Rattle.kl1_model.specs.State as model
 use Rattle.kl1_user_effects.specs.Works.{Turns}
 use Rattle.kl1_machine.proofs.Keeping.{Grows, grown_machine}
@@ -15,15 +15,12 @@ told_by f s m n x o e =
 
 breaks_none : (m t : Term) (last : Bool) → Breaks last t m → is_reported_at last m t ≡ false
 breaks_none m (variable v) last e = ap (λ b. is_some (if b then None else Some v)) e
-breaks_none m (integer i) last e = refl
-breaks_none m (atom a) last e = refl
-breaks_none m (structure g ts) last e = refl
+breaks_none m _ last e = refl
 
 -- whether it is, by what became of it
 abbrev pub is_sent : Told → Bool
-is_sent Dropped = false
-is_sent Broken = false
 is_sent (Sent next) = true
+is_sent _ = false
 
 -- what became of a report of a shoen of a machine
 pub record Hears (m : Machine) (k : Kept CellName) (n : ℕ) (x : Cell CellName) (sh : Shoen CellName) (told : Told) : Type 0 where
@@ -55,23 +52,12 @@ told_tree n Broken t = record t { shoens = changed n torn t.shoens }
 told_tree n (Sent next) t = record t { shoens = changed n (tailed next) t.shoens }
 
 abbrev pub told_counts : Told → Counts → Counts
-told_counts Dropped c = c
-told_counts Broken c = c
 told_counts (Sent next) c = record c { reports = suc c.reports }
+told_counts _ c = c
 
 -- a machine after a report
 abbrev pub told_machine : Machine → Kept CellName → ℕ → Told → Machine
 told_machine m k n told = record m { store = k; shoens = told_tree n told m.shoens; counts = told_counts told m.counts }
-
-unheard_torn : (n : ℕ) (t : Tree CellName) (sh : Shoen CellName) → find (has_number n) t.shoens ≡ Some sh → sh.is_broken ≡ false → changed n torn t.shoens ≡ unheard n (find (has_number n) t.shoens) t.shoens
-unheard_torn n t sh e whole = ap (λ b. if b then t.shoens else changed n torn t.shoens) (sym whole) ∙ ap (λ (o : Option (Shoen CellName)). unheard n o t.shoens) (sym e)
-
-unheard_same : (n : ℕ) (t : Tree CellName) (sh : Shoen CellName) → find (has_number n) t.shoens ≡ Some sh → sh.is_broken ≡ true → t.shoens ≡ unheard n (find (has_number n) t.shoens) t.shoens
-unheard_same n t sh e broken = ap (λ b. if b then t.shoens else changed n torn t.shoens) (sym broken) ∙ ap (λ (o : Option (Shoen CellName)). unheard n o t.shoens) (sym e)
-
--- with these shoens
-abbrev with_shoens : Machine → Kept CellName → List (Shoen CellName) → Machine
-with_shoens m k ss = record m { store = k; shoens = record m.shoens { shoens = ss } }
 
 heard_turns : (m : Machine) (k : Kept CellName) (n : ℕ) (x : Cell CellName) (sh : Shoen CellName) (told : Told) → Hears m k n x sh told → (ms : List Numbered) → Turns ms (λ f. report n (meaning f m.store.held x)) m.store.held k.held (made m) (after_report n (made m) told)
 heard_turns m k n x sh told a ms = report_turns ms m.store.held k.held (made m) n sh x told a.grows.grown a.machine.inside a.found a.told_as
@@ -82,7 +68,7 @@ tells m k n x sh Dropped a =
     record {
       turns = heard_turns m k n x sh Dropped a;
       told_is = told_as m k n x sh Dropped a;
-      dropped = λ b. ap (with_shoens m k) (unheard_same n m.shoens sh a.found d.0);
+      dropped = λ b. rw (a.found, d.0);
       keeps = same_free m.store.held k.held m.shoens.shoens n d.1;
       machine = record { inside = (heard_turns m k n x sh Dropped a []).inside; last = a.machine.last; placed = a.machine.placed; known = a.machine.known };
       named = record { name = refl; spelled = refl };
@@ -95,7 +81,7 @@ tells m k n x sh Broken a =
     record {
       turns = heard_turns m k n x sh Broken a;
       told_is = told_as m k n x sh Broken a;
-      dropped = λ b. ap (with_shoens m k) (unheard_torn n m.shoens sh a.found d.whole);
+      dropped = λ b. rw (a.found, d.whole);
       keeps = same_free m.store.held k.held m.shoens.shoens n d.same;
       machine = record { inside = (heard_turns m k n x sh Broken a []).inside; last = a.machine.last; placed = a.machine.placed; known = a.machine.known ∙ sym count };
       named = record { name = refl; spelled = refl };
@@ -118,17 +104,14 @@ tells m k n x sh (Sent next) a =
 
 -- with the tree and the count that the code has
 pub tells_by : (m : Machine) (k : Kept CellName) (n : ℕ) (x : Cell CellName) (sh : Shoen CellName) (told : Told) (t : Tree CellName) → t ≡ told_tree n told m.shoens → Hears m k n x sh told → Tells n x m (record (told_machine m k n told) { shoens = t }) (is_sent told)
-tells_by m k n x sh told t e a = let P : Tree CellName → Type 0 = λ u. Tells n x m (record (told_machine m k n told) { shoens = u }) (is_sent told) in subst P (sym e) (tells m k n x sh told a)
+tells_by m k n x sh told t e a = rw e (tells m k n x sh told a)
 
 -- what an event has done
 pub since_heard : (b m : Machine) (k : Kept CellName) (n : ℕ) (x : Cell CellName) (sh : Shoen CellName) (told : Told) (t : Tree CellName) → t ≡ told_tree n told m.shoens → Hears m k n x sh told → IsTree m.shoens → Since b m → Since b (record (told_machine m k n told) { shoens = t })
-since_heard b m k n x sh told t e a tree s = let P : Tree CellName → Type 0 = λ u. Since b (record (told_machine m k n told) { shoens = u }) in subst P (sym e) (by_case told)
+since_heard b m k n x sh told t e a tree s = rw e (by_case told)
   where
-    grown : Machine
-    grown = record m { store = k }
-
-    changes : (reports : ℕ) (f : Shoen CellName → Shoen CellName) → IsQuiet f → Since b (record grown { shoens = record m.shoens { shoens = changed n f m.shoens.shoens }; counts = record m.counts { reports = reports } })
-    changes reports f q = since_changed b grown n reports f q tree (grown_machine m k a.grows a.machine) (since_store b m k a.grows s)
+    changes : (reports : ℕ) (f : Shoen CellName → Shoen CellName) → IsQuiet f → Since b (record m { store = k; shoens = record m.shoens { shoens = changed n f m.shoens.shoens }; counts = record m.counts { reports = reports } })
+    changes reports f q = since_changed b (record m { store = k }) n reports f q tree (grown_machine m k a.grows a.machine) (since_store b m k a.grows s)
 
     by_case : (d : Told) → Since b (told_machine m k n d)
     by_case Dropped = since_store b m k a.grows s
@@ -140,7 +123,7 @@ pub tells_none : (m : Machine) (n : ℕ) (x : Cell CellName) → IsMachine m →
 tells_none m n x i e = record {
   turns = λ ms. no_report_turns ms m.store.held (made m) n x i.inside e;
   told_is = λ f reads s. told_by f s m n (meaning f m.store.held x) None e;
-  dropped = λ b. ap (λ (o : Option (Shoen CellName)). let z : Machine = record m { shoens = record m.shoens { shoens = unheard n o m.shoens.shoens } } in z) (sym e);
+  dropped = λ b. rw e;
   keeps = same_free m.store.held m.store.held m.shoens.shoens n refl;
   machine = i;
   named = record { name = refl; spelled = refl };

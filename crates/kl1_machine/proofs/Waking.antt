@@ -1,16 +1,8 @@
 -- Goals of a machine that are woken, one number after another.
-use Rattle.kl1_machine.proofs.Words.{◌≡◌, ℕ, ◌+◌, ◌<◌, ◌≤◌, ◌==◌, ◌||◌, Bool, true, false, List, [], ◌∷◌, ◌++◌, length, map, take, get_or, refl, sym, ap, ◌∙◌, subst, Option, None, find, OnOk, Result, on_ok_weaker, AllByRecursion, ne_eqb, take_more, take_all, list_any-append, is_among, CellName, Kept, Held, Tabled, Goal, stood_by, Program, IsSettled, Machine, unready, unlooked, Wakes}
+use Rattle.kl1_machine.proofs.Words.{◌≡◌, ℕ, ◌+◌, ◌<◌, ◌≤◌, ◌==◌, ◌||◌, Bool, false, List, [], ◌∷◌, ◌++◌, length, map, take, get_or, refl, ap, ◌∙◌, Option, None, find, OnOk, Result, on_ok_weaker, ne_eqb, take_more, take_all, list_any-append, is_among, CellName, Kept, Tabled, Goal, stood_by, Program, IsSettled, Machine, unready, unlooked, Wakes, map-map, or_group}
 use Rattle.kl1_goals.specs.Lists.{has_number}
 use Rattle.kl1_machine.proofs.Sincing.{goals_are}
 use Rattle.kl1_machine.proofs.Looking.{each_changed, looks_same, looks_then, IsFor, IsLook, look_ready, one_of, one_settled, settled_but_more, settled_but_none}
-
-stood_unready : (n : ℕ) (o : Option ℕ) (gs : List (Goal CellName)) → map unready (map (stood_by n o) gs) ≡ map unready gs
-stood_unready n o [] = refl
-stood_unready n o (g ∷ gs) = ap (λ (ks : List (Goal CellName)). unready g ∷ ks) (stood_unready n o gs)
-
-stood_unlooked : (n : ℕ) (o : Option ℕ) (gs : List (Goal CellName)) → map unlooked (map (stood_by n o) gs) ≡ map unlooked gs
-stood_unlooked n o [] = refl
-stood_unlooked n o (g ∷ gs) = ap (λ (ks : List (Goal CellName)). unlooked g ∷ ks) (stood_unlooked n o gs)
 
 -- one number less
 one_less : (n : ℕ) (q : ℕ → Bool) (k : ℕ) → q k ≡ false → (k ≡ n → ⊥) → (is_among k (n ∷ []) || q k) ≡ false
@@ -20,33 +12,20 @@ one_less n q k e other = ap (λ b. (b || false) || q k) (ne_eqb k n other) ∙ e
 pub wakes_one : {T E : Type 0} (done : Result T E) (program : Program) (m : Machine) (k : Kept CellName) (r : Tabled CellName) (n : ℕ) (goal : Goal CellName) (o : Option ℕ) → IsLook program m k n goal o → r ≡ record m.goals { goals = r.goals } → OnOk done (r.goals ≡ map (stood_by n o) m.goals.goals) →
     OnOk done (Wakes program (n ∷ []) m (record m { store = k; goals = r }))
 wakes_one done program m k r n goal o look rest =
-    let W : Tabled CellName → Type 0 = λ x. Wakes program (n ∷ []) m (record m { store = k; goals = x }) in
-    on_ok_weaker done (λ (is : r.goals ≡ map (stood_by n o) m.goals.goals). subst W (sym (goals_are m.goals r (map (stood_by n o) m.goals.goals) rest is)) stands)
-  where
-    stands : Wakes program (n ∷ []) m (record m { store = k; goals = record m.goals { goals = map (stood_by n o) m.goals.goals } })
-    stands = record {
-      looks = record { goals = stood_unlooked n o m.goals.goals; held = look.held; grown = look.grown; rest = refl };
-      flags = stood_unready n o m.goals.goals;
+    on_ok_weaker done (λ (is : r.goals ≡ map (stood_by n o) m.goals.goals). rw (goals_are m.goals r (map (stood_by n o) m.goals.goals) rest is) (record {
+      looks = record { goals = map-map unlooked (stood_by n o) m.goals.goals; held = look.held; grown = look.grown; rest = refl };
+      flags = map-map unready (stood_by n o) m.goals.goals;
       settles = λ f knows q all.
-          let H : Held CellName → Type 0 = λ h. AllByRecursion (λ g. q g.number ≡ false → IsSettled f k.hooks h program m.shoens.shoens g) (map (stood_by n o) m.goals.goals) in
           let was : ℕ → Bool = λ i. is_among i (n ∷ []) || q i in
-          subst H (sym look.held)
+          rw look.held
           (each_changed (IsFor n goal) (λ g. was g.number ≡ false → IsSettled f m.store.hooks m.store.held program m.shoens.shoens g) (λ g. q g.number ≡ false → IsSettled f k.hooks m.store.held program m.shoens.shoens g) (stood_by n o) m.goals.goals
           (λ g is s e. one_settled f program m k (record goal { number = n }) o look.grown ((look_ready program m k n goal o look).settled f knows) g g.is_enabled is (λ other. s (one_less n q g.number e other)))
           (one_of n 0 m.goals.goals goal look.order look.found) all);
-    }
+    }))
 
 -- a number that no goal has
 pub wakes_none : (program : Program) (m : Machine) (n : ℕ) → None ≡ find (has_number n) m.goals.goals → Wakes program (n ∷ []) m m
 wakes_none program m n e = record { looks = looks_same m; flags = refl; settles = λ f knows q all. settled_but_none f program m n (λ k. is_among k (n ∷ []) || q k) q e (one_less n q) all }
-
--- no number
-pub wakes_nothing : (program : Program) (m : Machine) → Wakes program [] m m
-wakes_nothing program m = record { looks = looks_same m; flags = refl; settles = λ f knows q all. all }
-
-or_apart : (a b c : Bool) → ((a || b) || c) ≡ (a || (b || c))
-or_apart true b c = refl
-or_apart false b c = refl
 
 -- these numbers, and then those
 pub wakes_then : (program : Program) (ns ms : List ℕ) (m u v : Machine) → Wakes program ns m u → Wakes program ms u v → Wakes program (ns ++ ms) m v
@@ -57,21 +36,15 @@ wakes_then program ns ms m u v p q = record {
       q.settles f knows r
       (p.settles f knows (λ k. is_among k ms || r k)
       (settled_but_more f program m (λ k. is_among k (ns ++ ms) || r k) (λ k. is_among k ns || (is_among k ms || r k))
-      (λ k e. ap (λ b. b || r k) (list_any-append (λ i. k == i) ns ms) ∙ or_apart (is_among k ns) (is_among k ms) (r k) ∙ e) all));
+      (λ k e. ap (λ b. b || r k) (list_any-append (λ i. k == i) ns ms) ∙ or_group (is_among k ns) (is_among k ms) (r k) ∙ e) all));
 }
-
--- one more of the numbers
-wakes_next : (program : Program) (told : List ℕ) (i d : ℕ) (m u v : Machine) → i < length told → Wakes program (take i told) m u → Wakes program (get_or told i d ∷ []) u v → Wakes program (take (i + 1) told) m v
-wakes_next program told i d m u v lt p q =
-    let W : List ℕ → Type 0 = λ ns. Wakes program ns m v in
-    subst W (sym (take_more told i d lt)) (wakes_then program (take i told) (get_or told i d ∷ []) m u v p q)
 
 -- one more of the numbers that a machine was told
 pub wakes_more : (program : Program) (i n : ℕ) (m u v : Machine) → i < length m.told.items → Wakes program (take i m.told.items) m u → n ≡ get_or u.told.items i n → Wakes program (n ∷ []) u v → Wakes program (take (i + 1) m.told.items) m v
 wakes_more program i n m u v lt p e q =
-    let W : ℕ → Type 0 = λ k. Wakes program (k ∷ []) u v in
-    wakes_next program m.told.items i n m u v lt p (subst W (e ∙ ap (λ (x : Machine). get_or x.told.items i n) p.looks.rest) q)
+    rw (take_more m.told.items i n lt)
+    (wakes_then program (take i m.told.items) (get_or m.told.items i n ∷ []) m u v p (rw (e ∙ ap (λ (x : Machine). get_or x.told.items i n) p.looks.rest) at q))
 
 -- all of them
 pub wakes_all : (program : Program) (told : List ℕ) (i : ℕ) (m u : Machine) → length told ≤ i → Wakes program (take i told) m u → Wakes program told m u
-wakes_all program told i m u le p = let W : List ℕ → Type 0 = λ ns. Wakes program ns m u in subst W (take_all i told le) p
+wakes_all program told i m u le p = rw (take_all i told le) at p

@@ -30,12 +30,12 @@ use Rattle.kl1_user_effects.specs.Drafts.{names_with}
 use Rattle.kl1_user_effects.specs.Naming.{AreSmall}
 use Rattle.kl1_user_effects.specs.Calling.{spare, keeps_names, IsNewName}
 use Rattle.kl1_user_effects.specs.Moving.{name_for}
-use Rattle.kl1_user_effects.specs.Late.{StaysFree}
+use Rattle.kl1_user_effects.specs.Late.{KeepsLate}
 use Rattle.kl1_machine.specs.declared.machine.Machine.{Machine}
 use Rattle.kl1_machine.specs.Machines.{made, IsMachine}
 use Rattle.kl1_machine.specs.declared.machine.naming.Named.{Named}
 use Rattle.kl1_machine.specs.declared.machine.naming.Named.TheVariants as named
-use Rattle.kl1_machine.specs.Effects.{Turns, KeepsName}
+use Rattle.kl1_machine.specs.Effects.{TurnsAs}
 use Rattle.kl1_machine.specs.Moving.{Making, IsMade}
 
 -- ---- which variable becomes a name
@@ -99,12 +99,10 @@ UsesName y text m n (named.Becomes v) = Spells v y text m n
 
 -- ---- what comes while the variable is still unbound
 
--- a machine has come on by this change of states, by which variable `v` stays as it is
-pub record LateAs (v : ℕ) (change : Reading → State → State) (m n : Machine) : Type 0 where
-  pub turns : Turns change m n
-  pub machine : IsMachine n
-  pub named : KeepsName m n
-  pub free : StaysFree v m.store.held n.store.held
+-- a machine has come on by this change of states, by which the variable that becomes a name at the end, if one does, stays as it is
+pub record LateAs (v : Option ℕ) (change : Reading → State → State) (m n : Machine) : Type 0 where
+  pub does : TurnsAs change m n
+  pub free : KeepsLate v m.store.held n.store.held
 
 -- ---- a variable that becomes a name
 

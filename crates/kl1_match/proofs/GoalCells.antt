@@ -80,22 +80,22 @@ goal_row_has names row goal last cells is next = goal_row_below names row goal (
 -- ---- the goal
 
 -- variables from 1 on
-abbrev AreFromOne : List ℕ → Type 0
+abbrev pub AreFromOne : List ℕ → Type 0
 AreFromOne [] = Unit {0}
 AreFromOne (v ∷ vs) = (1 ≤ v) × AreFromOne vs
 
-numbered_from_one : (seen : ℕ) (vs : List ℕ) → numbered_after seen vs ≡ true → AreFromOne vs
+pub numbered_from_one : (seen : ℕ) (vs : List ℕ) → numbered_after seen vs ≡ true → AreFromOne vs
 numbered_from_one seen [] h = tt
 numbered_from_one seen (v ∷ vs) h =
     let p = and_parts (nat_le 1 v && nat_le v (suc seen)) (numbered_after (max seen v) vs) h in
     let q = and_parts (nat_le 1 v) (nat_le v (suc seen)) p.0 in
     (leb-true 1 v q.0, numbered_from_one (max seen v) vs p.1)
 
-one_left : (us vs : List ℕ) → AreFromOne (us ++ vs) → AreFromOne us
+pub one_left : (us vs : List ℕ) → AreFromOne (us ++ vs) → AreFromOne us
 one_left [] vs h = tt
 one_left (u ∷ us) vs h = (h.0, one_left us vs h.1)
 
-one_right : (us vs : List ℕ) → AreFromOne (us ++ vs) → AreFromOne vs
+pub one_right : (us vs : List ℕ) → AreFromOne (us ++ vs) → AreFromOne vs
 one_right [] vs h = h
 one_right (u ∷ us) vs h = one_right us vs h.1
 

@@ -1,6 +1,4 @@
-mod Serving
 pub mod Ready
 pub mod SettledStays
-mod Numbers
 pub mod Plans
 pub mod Words

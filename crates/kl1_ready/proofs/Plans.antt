@@ -1,5 +1,5 @@
 -- What goals are to do: moves that are found are those of the definitions.
-use Rattle.kl1_ready.proofs.Words.{◌≡◌, ℕ, ◌==◌, if◌then◌else◌, Bool, true, false, List, [], length, get_or, refl, sym, ap, ◌∙◌, arith, subst, Option, Some, None, MatchOption, option_map, eq-eqb, ne_eqb, MatchOption-at_some, slice_get-get_or, text_of, Term, Module, goal_look, Rules, reads, moves, read_action, task_action, substitute_move, monitor_action, move_by, Reads, CellName, AreNames, are_names, Cell, Variable, Qualified, Held, IsIn, arguments_of, Control, Awaits, Tells, TellsOther, Ends, BreaksOff, control_as, Predicate, AreSome, Place, Move, ExecuteArguments, order_at, IsOrder, IsMove, MoveIn, move_by_clause, substitute_move_of, SubstituteMoves, Monitor, Reduces, Substitutes, Goal, is_monitor, Shoen, shoen_in, contents, Program, Reading, built, reading_of, reading_fits, meaning, task_with, shoen_with, aim, whole, worked, Made, Knows, found_in, Plan, PlannedMove, Serves, CanDo, ReadsBy, MovesBy, IsPlan, DoesNothing, is_read, move_or_go}
+use Rattle.kl1_ready.proofs.Words.{◌≡◌, ℕ, ◌==◌, if◌then◌else◌, Bool, true, false, List, [], length, get_or, refl, sym, ap, ◌∙◌, arith, subst, Option, Some, None, MatchOption, option_map, eq-eqb, ne_eqb, MatchOption-at_some, slice_get-get_or, text_of, Term, Module, goal_look, Rules, reads, moves, read_action, task_action, substitute_move, monitor_action, move_by, Reads, CellName, no_names, Cell, Variable, Qualified, Held, IsIn, arguments_of, Control, Awaits, control_as, Predicate, AreSome, Place, Move, ExecuteArguments, order_at, IsOrder, IsMove, MoveIn, move_by_clause, substitute_move_of, SubstituteMoves, Monitor, Reduces, Substitutes, Goal, is_monitor, Shoen, shoen_in, contents, Program, Reading, built, reading_of, reading_fits, meaning, task_with, shoen_with, aim, whole, worked, Made, Knows, found_in, Plan, PlannedMove, Serves, CanDo, ReadsBy, MovesBy, IsPlan, DoesNothing, is_read, move_or_go}
 use Rattle.kl1_model.specs.Control as model_control
 use Rattle.kl1_model.specs.State as model
 use Rattle.kl1_model.specs.Reduction as reduction
@@ -29,10 +29,7 @@ monitor_reads f h s c k b zero same e =
   where
     by_front : (k : Control CellName) → read_action (control_as f h k) ≡ (if is_read k then Some (reads (control_as f h k)) else None)
     by_front (Awaits v) = refl
-    by_front (Tells m rest) = refl
-    by_front (TellsOther m rest) = refl
-    by_front Ends = refl
-    by_front (BreaksOff x) = refl
+    by_front _ = refl
 
 -- ---- what any other goal can do
 
@@ -87,19 +84,9 @@ allowed f h o p places text made.GivesWay i k = gives o reduction.gives_way k
 -- a substitute's move, told of cells, of which it has none
 pub substitute_moves : (f : Reading) (h : Held CellName) (o : Option reduction.Move) (p : Predicate CellName) (places : List (Place CellName)) (text : List ℕ) (m : Option (Move CellName)) → substitute_move_of m o → IsMove f h o p places text m × MoveIn h p places text m
 substitute_moves f h o p places text None s = (s, tt)
-substitute_moves f h o p places text (Some (made.Commits place)) s = absurd s
 substitute_moves f h o p places text (Some (made.Raises b)) s = (s, tt)
-substitute_moves f h o p places text (Some (made.Unifies a b)) s = absurd s
-substitute_moves f h o p places text (Some (made.Names a)) s = absurd s
-substitute_moves f h o p places text (Some (made.Opens n)) s = absurd s
-substitute_moves f h o p places text (Some made.Goes) s = absurd s
 substitute_moves f h o p places text (Some made.GivesWay) s = (s, tt)
-
--- there is a reading of the names of the language
-no_names : AreNames []
-no_names =
-    are_names (λ n t. ⊥) [] (record { names = λ t n e. absurd e; not_built_in = λ t n e. absurd e; from_64 = λ t n e. absurd e; one_text = λ t u n d e. absurd e; one_number = λ t m n d e. absurd e })
-    (record { by_text = λ t n e. absurd (cc); by_number = λ t n e. absurd (cc) })
+substitute_moves f h o p places text _ s = absurd s
 
 -- the move of a substitute has no cells
 pub inside_by : (h : Held CellName) (y : Cell CellName) (c : ℕ) (p : Predicate CellName) (places : List (Place CellName)) (text : List ℕ) (o : Option (Move CellName)) → ((f : Reading) → Reads built f → SubstituteMoves (meaning f h y) c o) → MoveIn h p places text o

@@ -1,5 +1,5 @@
 -- What is found when a goal is looked at.
-use Rattle.kl1_ready.proofs.Words.{◌≡◌, ℕ, ◌||◌, Bool, true, false, List, refl, sym, ap, subst, ◌∙◌, Option, Some, None, option_map, Rules, Module, Term, path_within, awaited_by_term, awaited_by_substitute, Reads, CellName, Cell, Qualified, Hook, Held, qualified_term, Predicate, Kind, IsKind, HasPredicate, StandsAs, SubstituteStands, hangs_on_same, Monitor, Reduces, Substitutes, Shoen, shoen_in, is_enabled_at, Program, contents, HangsOnEach, Reading, built, meaning, aim, Knows, control_at, front_with, monitor_clause, awaited_by_monitor, kind_at, IsReadyBy, IsHeardAt, IsReadyAt}
+use Rattle.kl1_ready.proofs.Words.{◌≡◌, ℕ, true, List, refl, ap, subst, ◌∙◌, Option, None, option_map, Rules, Module, Term, path_within, awaited_by_term, awaited_by_substitute, Reads, CellName, Cell, Qualified, Hook, Held, qualified_term, Predicate, Kind, IsKind, HasPredicate, StandsAs, SubstituteStands, hangs_on_same, Monitor, Reduces, Substitutes, Shoen, shoen_in, is_enabled_at, Program, contents, HangsOnEach, Reading, built, meaning, aim, Knows, control_at, front_with, monitor_clause, awaited_by_monitor, kind_at, IsReadyBy, IsReadyAt, AreCompiled, Call, Calls, Clause, Finds, FoundAs, Numbered, Serves, and_parts, call_at, calls_same, clauses_of, eqb-true, map, same_name, sym, ◌==◌, ◌&&◌}
 
 -- a goal whose number hangs on what it waits for, and that can step by this clause
 pub ready_by : (rules : Rules) (h : Held CellName) (hooks : List Hook) (kind : Kind CellName) (p : Predicate CellName) (n : ℕ) (vs ws : List ℕ) (clause : Option ℕ) →
@@ -35,32 +35,43 @@ ready_substitute h hooks x n vs clause stands hangs program shoens shoen =
 pub no_control : (shoens : List (Shoen CellName)) (n : ℕ) → None ≡ shoen_in n shoens → None ≡ control_at shoens n
 no_control shoens n e = ap (λ o. option_map (λ (k : Shoen CellName). k.control) o) e
 
--- the monitor of a shoen that isn't there
-pub ready_nobody : (program : Program) (shoens : List (Shoen CellName)) (h : Held CellName) (hooks : List Hook) (n shoen : ℕ) → None ≡ shoen_in shoen shoens → IsReadyAt program shoens h hooks n shoen Monitor None
-ready_nobody program shoens h hooks n shoen e =
-    let none = no_control shoens shoen e in
-    record {
-      settled = λ f knows.
-          let H : Option (Cell CellName) → Type 0 = λ x. HangsOnEach hooks n (awaited_by_monitor (front_with (meaning f h) x)) in
-          record { standing = ap (λ x. monitor_clause (front_with (meaning f h) x)) none; hung = subst H none tt };
-    }
-
--- the monitor of a shoen, by its control stream
-pub ready_monitor : (program : Program) (shoens : List (Shoen CellName)) (h : Held CellName) (hooks : List Hook) (n shoen : ℕ) (s : Shoen CellName) (clause : Option ℕ) → Some s ≡ shoen_in shoen shoens → IsHeardAt h hooks s.control n clause → IsReadyAt program shoens h hooks n shoen Monitor clause
-ready_monitor program shoens h hooks n shoen s clause e hears =
-    let is : Some s.control ≡ control_at shoens shoen = ap (λ o. option_map (λ (k : Shoen CellName). k.control) o) e in
-    record {
-      settled = λ f knows.
-          let H : Option (Cell CellName) → Type 0 = λ x. HangsOnEach hooks n (awaited_by_monitor (front_with (meaning f h) x)) in
-          record { standing = hears.standing f knows.reads ∙ ap (λ x. monitor_clause (front_with (meaning f h) x)) is; hung = subst H is (hears.hung f knows.reads) };
-    }
-
--- the shoen of a goal lets it step
-pub lets_too : (b c : Bool) → c ≡ true → true ≡ (b || c)
-lets_too true c e = refl
-lets_too false c e = sym e
+-- a monitor, by what is left of its shoen's control stream, if that shoen is there
+pub ready_monitor : (program : Program) (shoens : List (Shoen CellName)) (h : Held CellName) (hooks : List Hook) (n shoen : ℕ) (x : Option (Cell CellName)) (clause : Option ℕ) → x ≡ control_at shoens shoen →
+    ((f : Reading) → Reads built f → clause ≡ monitor_clause (front_with (meaning f h) x)) → ((f : Reading) → Reads built f → HangsOnEach hooks n (awaited_by_monitor (front_with (meaning f h) x))) → IsReadyAt program shoens h hooks n shoen Monitor clause
+ready_monitor program shoens h hooks n shoen x clause is stands hangs = record {
+  settled = λ f knows. record {
+    standing = stands f knows.reads ∙ ap (λ y. monitor_clause (front_with (meaning f h) y)) is;
+    hung = subst (λ y. HangsOnEach hooks n (awaited_by_monitor (front_with (meaning f h) y))) is (hangs f knows.reads);
+  };
+}
 
 -- the shoen of number 0, which isn't there, holds no goal back
 pub nobody_lets : (shoens : List (Shoen CellName)) (work : List ℕ) → is_enabled_at shoens work 0 ≡ true
 unfolding path_within
 nobody_lets shoens work = refl
+
+-- ---- predicates that goals call, found or known
+
+-- a predicate that was found serves whatever goals call it
+pub call_serves : (ms : List Numbered) (kind : Kind CellName) (c : Call CellName) (found : Option (Predicate CellName)) (p : Predicate CellName) → kind ≡ Calls c → Finds ms c.module_name c.name c.count found →
+    ((f : CellName → List ℕ) (cs : List Clause) → FoundAs f cs found → AreCompiled (map f p.names.now) p.clauses.now cs) → Serves ms kind p
+call_serves ms kind c found p e finds compiled =
+    subst (λ k. Serves ms k p) (sym e) (λ f knows call asks. compiled f (clauses_of (contents ms) call) (finds f knows.reads knows.rows call asks))
+
+-- what serves goals of a kind is the predicate of each of them
+pub serves_has : (ms : List Numbered) (kind : Kind CellName) (p : Predicate CellName) → Serves ms kind p → (f : Reading) → Knows ms f → (h : Held CellName) (t : Term) → IsKind f h t kind → HasPredicate f h (contents ms) kind p
+serves_has ms (Calls c) p s f knows h t is = s f knows (call_at f h c) (record { module_is = refl; name_is = refl; counted = is.counted })
+serves_has ms _ p s f knows h t is = tt
+
+-- what serves a call serves goals that call the same
+pub serves_same : (ms : List Numbered) (c : Call CellName) (kind : Kind CellName) (p : Predicate CellName) → calls_same c kind ≡ true → Serves ms (Calls c) p → Serves ms kind p
+serves_same ms c (Calls d) p e s = λ f knows call asks.
+    let one = and_parts (d.module_name.number == c.module_name.number && d.name.number == c.name.number) (d.count == c.count) e in
+    let two = and_parts (d.module_name.number == c.module_name.number) (d.name.number == c.name.number) one.0 in
+    s f knows call
+    (record {
+      module_is = asks.module_is ∙ ap f (same_name d.module_name c.module_name (eqb-true d.module_name.number c.module_name.number two.0));
+      name_is = asks.name_is ∙ ap f (same_name d.name c.name (eqb-true d.name.number c.name.number two.1));
+      counted = asks.counted ∙ eqb-true d.count c.count one.1;
+    })
+serves_same ms c _ p e s = tt

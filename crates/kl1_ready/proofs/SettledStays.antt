@@ -1,5 +1,5 @@
 -- Goals that nothing woke stay as they stood.
-use Rattle.kl1_ready.proofs.Words.{◌≡◌, ℕ, suc, ◌==◌, Bool, true, false, if◌then◌else◌, List, [], ◌∷◌, map, refl, sym, ap, ◌∙◌, arith, subst, Contains, Option, Some, None, option_map, ne_eqb, Term, substituted, Replacement, awaits_message, tells, tells_other, ends, breaks_off, control_of, awaited_by_control, awaited_by_found, LeavesEach, term_clause, awaited_by_term, awaited_by_substitute, look_clause, substitute_clause, control_substituted, values_of, replaced_is, substitutes_stay, term_stays, is_replaced, left_alone, control_stays, CellName, Cell, Hook, Held, IsIn, term_of, bound_since, IsFormed, Grown, is_later, Task, Monitor, Reduces, Substitutes, Goal, Shoen, shoen_in, contents, Program, HangsOnEach, Reading, meaning, task_with, aim, IsTaskIn, AreShoensIn, control_at, front_with, control_with, control_clause, monitor_clause, awaited_by_monitor, task_clause, awaited_by_task, IsSettled, aim_later}
+use Rattle.kl1_ready.proofs.Words.{◌≡◌, ℕ, suc, true, false, if◌then◌else◌, List, [], ◌∷◌, map, refl, sym, ap, ◌∙◌, arith, subst, Contains, Option, Some, None, ne_eqb, Term, substituted, Replacement, awaits_message, control_of, awaited_by_control, awaited_by_found, LeavesEach, term_clause, awaited_by_term, awaited_by_substitute, look_clause, substitute_clause, control_substituted, values_of, replaced_is, substitutes_stay, term_stays, is_replaced, left_alone, control_stays, CellName, Cell, Hook, Held, IsIn, term_of, bound_since, IsFormed, Grown, is_later, Task, Monitor, Reduces, Substitutes, Goal, Shoen, shoen_in, contents, Program, HangsOnEach, Reading, meaning, task_with, aim, IsTaskIn, AreShoensIn, control_at, front_with, control_with, control_clause, monitor_clause, awaited_by_monitor, task_clause, awaited_by_task, IsSettled, aim_later, all_then, found_shoen_in, inl, inr, option_cases}
 use Rattle.kl1_model.specs.Control.{Control}
 
 -- a number hangs on no variable of these
@@ -9,14 +9,8 @@ HangsOnNone hooks n vs = (v : ℕ) → Contains vs v → Contains hooks (record 
 never_replaced : (rs : List Replacement) (v : ℕ) → (Contains (map (λ r. r.number) rs) v → ⊥) → is_replaced rs v ≡ false
 never_replaced [] v h = refl
 never_replaced (r ∷ rs) v h =
-    ap (λ b. if b then true else is_replaced rs v) (ne_eqb v r.number (λ e. h (first_is e)))
-    ∙ never_replaced rs v (λ c. h (later c))
-  where
-    first_is : v ≡ r.number → Contains (r.number ∷ map (λ r. r.number) rs) v
-    first_is e = (0, omega arith, sym e)
-
-    later : Contains (map (λ r. r.number) rs) v → Contains (r.number ∷ map (λ r. r.number) rs) v
-    later c = (suc c.0, omega arith, c.2)
+    ap (λ b. if b then true else is_replaced rs v) (ne_eqb v r.number (λ e. h (0, omega arith, sym e)))
+    ∙ never_replaced rs v (λ c. h (suc c.0, omega arith, c.2))
 
 -- a substitution that leaves each variable on which a number hangs
 leaves_hung : (rs : List Replacement) (hooks : List Hook) (n : ℕ) (vs : List ℕ) → HangsOnEach hooks n vs → HangsOnNone hooks n (map (λ r. r.number) rs) → LeavesEach (values_of rs) vs
@@ -27,20 +21,15 @@ leaves_hung rs hooks n (v ∷ vs) h free = (left_alone rs v (never_replaced rs v
 
 -- the cell of a shoen's control stream is of the store
 pub control_in : (h : Held CellName) (shoens : List (Shoen CellName)) (n : ℕ) (x : Cell CellName) → AreShoensIn h shoens → control_at shoens n ≡ Some x → IsIn h x
-control_in h [] n x all e = absurd (cc)
-control_in h (s ∷ ss) n x all e = here (s.number == n) (control_in h ss n x all.1) e
-  where
-    here : (b : Bool) → (control_at ss n ≡ Some x → IsIn h x) → option_map (λ (k : Shoen CellName). k.control) (if b then Some s else shoen_in n ss) ≡ Some x → IsIn h x
-    here true later k = subst (IsIn h) (let c : s.control ≡ x = cc in c) all.0.control
-    here false later k = later k
+control_in h shoens n x all e = elim (option_cases (shoen_in n shoens)) [
+  | inl none ↦ let no : None ≡ Some x = rw none at e in absurd (cc)
+  | inr some ↦ let is : Some some.0.control ≡ Some x = rw some.1 at e in subst (IsIn h) (let c : some.0.control ≡ x = cc in c) (found_shoen_in h n shoens some.0 all some.1).control
+]
 
 -- the clause of a monitor, and what it waits for, stay
 front_stays : (s : ℕ → Term) (c : Control) → (control_clause (control_substituted s c) ≡ control_clause c) × (awaited_by_control (control_substituted s c) ≡ awaited_by_control c)
 front_stays s (awaits_message v) = (refl, refl)
-front_stays s (tells m rest) = (refl, refl)
-front_stays s (tells_other m rest) = (refl, refl)
-front_stays s ends = (refl, refl)
-front_stays s (breaks_off t) = (refl, refl)
+front_stays s _ = (refl, refl)
 
 -- a monitor that hangs on no variable that was bound waits as it did
 abbrev MonitorStays : Reading → Held CellName → Held CellName → Option (Cell CellName) → Type 0
@@ -103,10 +92,8 @@ stays_settled f hooks old new program before after g a i s =
         (ap substitute_clause is ∙ ap look_clause stays, ap awaited_by_substitute is ∙ ap awaited_by_found stays)
 
 -- and stays so if more is hung
-pub hung_more : (hooks more : List Hook) (n : ℕ) (vs : List ℕ) → ((k : Hook) → Contains hooks k → Contains more k) → HangsOnEach hooks n vs → HangsOnEach more n vs
-hung_more hooks more n [] up h = tt
-hung_more hooks more n (v ∷ vs) up h = (up (record { variable = v; number = n }) h.0, hung_more hooks more n vs up h.1)
-
 pub settled_more : (f : Reading) (hooks more : List Hook) (h : Held CellName) (program : Program) (shoens : List (Shoen CellName)) (g : Goal CellName) → ((k : Hook) → Contains hooks k → Contains more k) → IsSettled f hooks h program shoens g → IsSettled f more h program shoens g
 settled_more f hooks more h program shoens g up s =
-    record { standing = s.standing; hung = hung_more hooks more g.number (awaited_by_task program.rules (contents program.loaded) (control_with (meaning f h) shoens g.shoen) (task_with (meaning f h) g.task)) up s.hung }
+    let hook : ℕ → Hook = λ v. record { variable = v; number = g.number } in
+    let awaited = awaited_by_task program.rules (contents program.loaded) (control_with (meaning f h) shoens g.shoen) (task_with (meaning f h) g.task) in
+    record { standing = s.standing; hung = all_then (λ v. Contains hooks (hook v)) (λ v. Contains more (hook v)) (λ v c. up (hook v) c) awaited s.hung }

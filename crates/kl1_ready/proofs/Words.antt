@@ -1,6 +1,7 @@
 -- The words that this crate's proofs use, and where they come from.
 pub use Rattle.std.proofs.Math.Dec.{eqb}
-pub use Rattle.std.proofs.lemmas.Bool.{and_parts}
+pub use Rattle.std.proofs.lemmas.Bool.{and_parts, or_right}
+pub use Rattle.std.proofs.lemmas.Bool.Decides.{same_from_decides}
 pub use Rattle.std.proofs.lemmas.List.{nil_from_length}
 pub use Rattle.std.proofs.lemmas.List.Filters.{dedup_is}
 pub use Rattle.std.proofs.lemmas.List.Kept.{Contains-dedup_nat, Contains-from_dedup}
@@ -24,7 +25,7 @@ pub use Rattle.kl1_model.specs.code.Awaited.{awaited_by_control, awaited_by_foun
 pub use Rattle.kl1_model.specs.code.Steps.{monitor_action, substitute_move}
 pub use Rattle.kl1_model.specs.code.Waits.{LeavesEach, awaited_by_substitute, awaited_by_term, look_clause, move_by, substitute_clause, term_clause}
 pub use Rattle.kl1_model.specs.laws.WaitsLaws.{control_substituted}
-pub use Rattle.kl1_atoms.specs.Knowing.{are_names}
+pub use Rattle.kl1_atoms.specs.Knowing.{no_names, option_cases}
 pub use Rattle.kl1_store.proofs.Later.{is_later}
 pub use Rattle.kl1_store.specs.Later.{bound_since}
 pub use Rattle.kl1_clause.specs.Clauses.{AreCompiled}
@@ -46,9 +47,10 @@ pub use Rattle.kl1_goals_moves.specs.Substitutes.{SubstituteMoves, SubstituteSta
 pub use Rattle.kl1_goals_moves.specs.declared.call.Call.{Call}
 pub use Rattle.kl1_goals_moves.specs.declared.kind.Kind.TheVariants.{Calls}
 pub use Rattle.kl1_goals_moves.specs.declared.moves.Move.{Move}
-pub use Rattle.kl1_user_effects.proofs.Aims.{aim_later, kind_at}
-pub use Rattle.kl1_user_effects.proofs.States.{found_in, found_shoen_in}
-pub use Rattle.kl1_user_effects.proofs.Words.{AreNames, AreShoensIn, Bool, Cell, CellName, Clause, ExecuteArguments, Goal, Grown, HangsOnEach, Held, Hook, IsFormed, IsIn, IsKind, IsOrder, IsPermutation, IsSettled, IsTaskIn, Kind, Knows, List, Made, Module, Monitor, None, Numbered, Option, Program, Qualified, Reading, Reads, Reduces, Replacement, Rules, Shoen, Some, Substitutes, Task, Term, Variable, [], aim, among_contains, ap, arguments_of, arith, awaited_by_task, built, contains_among, contents, control_of, control_with, drop, eq-eqb, eqb-true, false, get_or, if◌then◌else◌, is_among, is_monitor, is_monitor_task, length, map, meaning, ne_eqb, option_map, qualified_term, reading_fits, reading_of, refl, rules, shoen_in, shoen_with, subst, suc, sym, task_clause, task_with, text_of, true, worked, ℕ, ◌&&◌, ◌++◌, ◌==◌, ◌||◌, ◌∙◌, ◌∷◌, ◌≡◌}
+pub use Rattle.kl1_user_effects.proofs.Lists.{all_then}
+pub use Rattle.kl1_user_effects.proofs.States.{aim_later, found_in, found_shoen_in, kind_at}
+pub use Rattle.kl1_user_effects.proofs.Swapping.{same_name}
+pub use Rattle.kl1_user_effects.proofs.Words.{AreNames, AreShoensIn, Bool, Cell, CellName, Clause, ExecuteArguments, Goal, Grown, HangsOnEach, Held, Hook, IsFormed, IsIn, IsKind, IsOrder, IsPermutation, IsSettled, IsTaskIn, Kind, Knows, List, Made, Module, Monitor, None, Numbered, Option, Program, Qualified, Reading, Reads, Reduces, Replacement, Rules, Shoen, Some, Substitutes, Task, Term, Variable, [], aim, among_contains, ap, arguments_of, arith, awaited_by_task, built, contains_among, contents, control_of, control_with, drop, eq-eqb, eqb-true, false, get_or, if◌then◌else◌, inl, inr, is_among, is_monitor, is_monitor_task, length, map, meaning, ne_eqb, option_map, qualified_term, reading_fits, reading_of, refl, rules, shoen_in, shoen_with, subst, suc, sym, task_clause, task_with, text_of, true, worked, ℕ, ◌&&◌, ◌++◌, ◌==◌, ◌||◌, ◌∙◌, ◌∷◌, ◌≡◌}
 unfoldable pub use Rattle.kl1_user_effects.proofs.Words.{path_within, term_of}
 pub use Rattle.kl1_user_effects.specs.Account.{whole}
 pub use Rattle.kl1_user_effects.specs.Installing.{shifted_by}

@@ -6,8 +6,8 @@ use Rattle.std.proofs.lemmas.Bool.{cases_eq}
 use Rattle.std.proofs.lemmas.Option.{slice_get_within, get_or_from_slice_get}
 use Rattle.kl1_model.specs.declared.rules.Rules.TheVariants.{Three}
 use Rattle.kl1_model.specs.Record.{Record}
-use Rattle.kl1_model.specs.Event.{refused, syntax}
-use Rattle.kl1_model_server.specs.Journal.{Kept}
+use Rattle.kl1_model.specs.Event.{Reply, refused, syntax}
+use Rattle.kl1_model_server.specs.Journal.{Kept, Done}
 use Rattle.kl1_model_server.specs.Command.{Command, command_of, act, reply_lines, written_line}
 use Rattle.kl1_model_server.specs.Script.{are_distinct, is_account, done_by, alone_after, written_reply, written_for}
 use Rattle.kl1_atoms.specs.Names.{AreNames}
@@ -17,27 +17,27 @@ use Rattle.kl1_world.specs.Worlds.{account_in, AreFresh}
 use Rattle.kl1_script.specs.Alone.{AreAlone}
 use Rattle.kl1_script.proofs.Others.{own_more, other_more, are_apart, none_named, one_place, is_named}
 
--- in a world the command of a record was done to the account at a place, and to no other
-pub record Does (old new : List Held) (place : ℕ) (c : Option Command) : Type 0 where
-  pub kept : (f : Reading) → Fits (account_in new place).0.names f → kept_of f (account_in new place) ≡ (done_by (kept_of f (account_in old place)) c).kept
+-- in a world the command of a record was done to the account at a place, with this reply, and to no other
+pub record Does (old new : List Held) (place : ℕ) (c : Option Command) (reply : Reply) : Type 0 where
+  pub done : (f : Reading) → Fits (account_in new place).0.names f → done_by (kept_of f (account_in old place)) c ≡ record { kept = kept_of f (account_in new place); reply = reply }
   pub before : (f : Reading) → Fits (account_in new place).0.names f → Fits (account_in old place).0.names f
   pub others : (u : ℕ) → (u ≡ place → ⊥) → account_in new u ≡ account_in old u
   pub many : length new ≡ length old
 
--- no command was done
-pub does_nothing : (world : List Held) (place : ℕ) (c : Option Command) → c ≡ None → Does world world place c
+-- there was no command
+pub does_nothing : (world : List Held) (place : ℕ) (c : Option Command) → c ≡ None → Does world world place c (refused syntax)
 does_nothing world place c none = record {
-  kept = λ f fits. ap (λ (x : Option Command). (done_by (kept_of f (account_in world place)) x).kept) (sym none);
+  done = λ f fits. ap (done_by (kept_of f (account_in world place))) none;
   before = λ f fits. fits;
   others = λ u apart. refl;
   many = refl;
 }
 
--- a command was done
-pub does_command : (old new : List Held) (place : ℕ) (c : Option Command) (d : Command) → Some d ≡ c → ((f : Reading) → Fits (account_in new place).0.names f → kept_of f (account_in new place) ≡ (act (kept_of f (account_in old place)) d).kept) →
-    ((f : Reading) → Fits (account_in new place).0.names f → Fits (account_in old place).0.names f) → ((u : ℕ) → (u ≡ place → ⊥) → account_in new u ≡ account_in old u) → length new ≡ length old → Does old new place c
-does_command old new place c d is kept before others many = record {
-  kept = λ f fits. kept f fits ∙ ap (λ (x : Option Command). (done_by (kept_of f (account_in old place)) x).kept) is;
+-- a command was done, with this reply
+pub does_command : (old new : List Held) (place : ℕ) (c : Option Command) (d : Command) (reply : Reply) → Some d ≡ c → ((f : Reading) → Fits (account_in new place).0.names f → act (kept_of f (account_in old place)) d ≡ record { kept = kept_of f (account_in new place); reply = reply }) →
+    ((f : Reading) → Fits (account_in new place).0.names f → Fits (account_in old place).0.names f) → ((u : ℕ) → (u ≡ place → ⊥) → account_in new u ≡ account_in old u) → length new ≡ length old → Does old new place c reply
+does_command old new place c d reply is done before others many = record {
+  done = λ f fits. ap (done_by (kept_of f (account_in old place))) (sym is) ∙ done f fits;
   before = before;
   others = others;
   many = many;
@@ -54,24 +54,27 @@ alone_still names world bs r none w = record {
   kept = λ u f within fits. w.kept u f within fits ∙ sym (other_more (get_or names u []) bs r (none_named names r.name u none within));
 }
 
-kept_at : (names : List (List ℕ)) (old new : List Held) (bs : List Record) (r : Record) (place u : ℕ) (f : Reading) → are_distinct names ≡ true → place < length names → get_or names place [] ≡ r.name → Does old new place (command_of r.request) → AreAlone names old bs → u < length names → Fits (account_in new u).0.names f →
+kept_at : (names : List (List ℕ)) (old new : List Held) (bs : List Record) (r : Record) (place : ℕ) (reply : Reply) (u : ℕ) (f : Reading) → are_distinct names ≡ true → slice_get names place ≡ Some r.name → Does old new place (command_of r.request) reply → AreAlone names old bs → u < length names → Fits (account_in new u).0.names f →
     (u ≡ place) ⊎ (u ≡ place → ⊥) → kept_of f (account_in new u) ≡ alone_after (get_or names u []) (bs ++ r ∷ [])
-kept_at names old new bs r place u f distinct at name does w within fits (inl same) =
+kept_at names old new bs r place reply u f distinct at does w within fits (inl same) =
     let P : ℕ → Type 0 = λ n. Fits (account_in new n).0.names f in
     let Q : ℕ → Type 0 = λ n. kept_of f (account_in new n) ≡ alone_after (get_or names n []) (bs ++ r ∷ []) in
     let there = subst P same fits in
-    subst Q (sym same) (does.kept f there ∙ ap (λ (k : Kept). (done_by k (command_of r.request)).kept) (w.kept place f at (does.before f there)) ∙ sym (own_more (get_or names place []) bs r (sym name)))
-kept_at names old new bs r place u f distinct at name does w within fits (inr apart) =
+    let was = w.kept place f (slice_get_within names place r.name at) (does.before f there) in
+    subst Q (sym same)
+    (sym (ap (λ (x : Done). x.kept) (does.done f there)) ∙ ap (λ (k : Kept). (done_by k (command_of r.request)).kept) was ∙ sym (own_more (get_or names place []) bs r (sym (get_or_from_slice_get names place r.name [] at))))
+kept_at names old new bs r place reply u f distinct at does w within fits (inr apart) =
     let stays = does.others u apart in
     let P : Held → Type 0 = λ a. Fits a.0.names f in
+    let name = get_or_from_slice_get names place r.name [] at in
     ap (kept_of f) stays ∙ w.kept u f within (subst P stays fits)
-    ∙ sym (other_more (get_or names u []) bs r (are_apart r.name (get_or names u []) (λ e. apart (one_place names u place distinct within at (sym e ∙ sym name)))))
+    ∙ sym (other_more (get_or names u []) bs r (are_apart r.name (get_or names u []) (λ e. apart (one_place names u place distinct within (slice_get_within names place r.name at) (sym e ∙ sym name)))))
 
 -- the accounts after a record of the account at a place
-pub alone_done : (names : List (List ℕ)) (old new : List Held) (bs : List Record) (r : Record) (place : ℕ) → are_distinct names ≡ true → slice_get names place ≡ Some r.name → Does old new place (command_of r.request) → AreAlone names old bs → AreAlone names new (bs ++ r ∷ [])
-alone_done names old new bs r place distinct at does w = record {
+pub alone_done : (names : List (List ℕ)) (old new : List Held) (bs : List Record) (r : Record) (place : ℕ) (reply : Reply) → are_distinct names ≡ true → slice_get names place ≡ Some r.name → Does old new place (command_of r.request) reply → AreAlone names old bs → AreAlone names new (bs ++ r ∷ [])
+alone_done names old new bs r place reply distinct at does w = record {
   many = does.many ∙ w.many;
-  kept = λ u f within fits. kept_at names old new bs r place u f distinct (slice_get_within names place r.name at) (get_or_from_slice_get names place r.name [] at) does w within fits (cases_eq u place);
+  kept = λ u f within fits. kept_at names old new bs r place reply u f distinct at does w within fits (cases_eq u place);
 }
 
 for_account : (names : List (List ℕ)) (bs : List Record) (r : Record) (place : ℕ) → slice_get names place ≡ Some r.name → written_for names bs r ≡ written_reply r.name (reply_lines (done_by (alone_after r.name bs) (command_of r.request)).reply)
@@ -89,17 +92,15 @@ pub written_refused : (names : List (List ℕ)) (bs : List Record) (r : Record) 
 written_refused names bs r place at none =
     for_account names bs r place at ∙ ap (λ (c : Option Command). written_reply r.name (reply_lines (done_by (alone_after r.name bs) c).reply)) none
 
--- what is written for a record of an account, whose command has this reply for each reading of the account's names
-pub written_done : (names : List (List ℕ)) (old new : List Held) (bs : List Record) (r : Record) (place : ℕ) (d : Command) (out now : List ℕ) → slice_get names place ≡ Some r.name → Some d ≡ command_of r.request → AreNames (account_in new place).0.names → ((f : Reading) → Fits (account_in new place).0.names f → Fits (account_in old place).0.names f) →
-    ((f : Reading) → Fits (account_in new place).0.names f → now ≡ out ++ written_reply r.name (reply_lines (act (kept_of f (account_in old place)) d).reply)) → AreAlone names old bs → now ≡ out ++ written_for names bs r
-written_done names old new bs r place d out now at is known before told w =
+-- what is written for a record of an account to which its command was done; some reading fits the account's names
+pub written_done : (names : List (List ℕ)) (old new : List Held) (bs : List Record) (r : Record) (place : ℕ) (reply : Reply) → slice_get names place ≡ Some r.name → AreNames (account_in new place).0.names → Does old new place (command_of r.request) reply → AreAlone names old bs → written_for names bs r ≡ written_reply r.name (reply_lines reply)
+written_done names old new bs r place reply at known does w =
     let f = reading_of (account_in new place).0.names in
     let fits = reading_fits (account_in new place).0.names known in
-    let same = w.kept place f (slice_get_within names place r.name at) (before f fits) ∙ ap (λ n. alone_after n bs) (get_or_from_slice_get names place r.name [] at) in
-    told f fits
-    ∙ ap (λ (x : Option Command). out ++ written_reply r.name (reply_lines (done_by (kept_of f (account_in old place)) x).reply)) is
-    ∙ ap (λ (k : Kept). out ++ written_reply r.name (reply_lines (done_by k (command_of r.request)).reply)) same
-    ∙ ap (λ x. out ++ x) (sym (for_account names bs r place at))
+    let same = w.kept place f (slice_get_within names place r.name at) (does.before f fits) ∙ ap (λ n. alone_after n bs) (get_or_from_slice_get names place r.name [] at) in
+    for_account names bs r place at
+    ∙ ap (λ (k : Kept). written_reply r.name (reply_lines (done_by k (command_of r.request)).reply)) (sym same)
+    ∙ ap (λ (x : Done). written_reply r.name (reply_lines x.reply)) (does.done f fits)
 
 -- what holds in any case holds after a success
 pub always_ok : {T E P : Type 0} (r : Result T E) → P → OnOk r P

@@ -15,7 +15,7 @@ ghost use Rattle.kl1_script.specs.Alone.{AreAlone};
 use crate::accounts::place_in;
 use kl1_atoms::AtomSource;
 use kl1_codes::CodeSource;
-use kl1_command::{Command, Parsed, Performed, command_in, put_lines};
+use kl1_command::{Parsed, Performed, command_in, put_lines};
 use kl1_lines::Record;
 use kl1_user_events::{Refusal, Reply};
 use kl1_world::{AccountName, World};
@@ -41,35 +41,18 @@ pub(crate) fn put_record<A: AtomSource + Drop, C: CodeSource + Drop>(
     let Some(account) = place_in(accounts, found.name) else {
         return out.extend_from_slice(b"! account\n");
     };
-    match command_in(alloc, found.request) {
-        Ok(Parsed::Command(command)) => put_performed(world, account, &command, found.name, out),
-        Ok(Parsed::Refused) => put_lines(out, found.name, &Reply::Refused(Refusal::Syntax)),
-        Err(error) => Err(error),
-    }
-}
-
-/// Does a command to an account, and puts its reply after the bytes.
-fn put_performed<A: AtomSource + Drop, C: CodeSource + Drop>(
-    world: &mut World<A, C>,
-    account: usize,
-    command: &Command,
-    name: &[u8],
-    out: &mut Vec<u8>,
-) -> Result<(), AllocError>
-    requires { account < length world.old.0 }
-    ensures kept { OnOk result ((f : Reading) → Fits (account_in world.new.0 account).0.names f → kept_of f (account_in world.new.0 account) ≡ (act (kept_of f (account_in world.old.0 account)) (command_view command.now)).kept) }
-    ensures reply { OnOk result ((f : Reading) → Fits (account_in world.new.0 account).0.names f → out.new.items ≡ out.old.items ++ written_reply name.now (reply_lines (act (kept_of f (account_in world.old.0 account)) (command_view command.now)).reply)) }
-    ensures err { OnErr result (out.new.items ≡ out.old.items) }
-    ensures before { (f : Reading) → Fits (account_in world.new.0 account).0.names f → Fits (account_in world.old.0 account).0.names f }
-    ensures others { (u : ℕ) → (u ≡ account → ⊥) → account_in world.new.0 u ≡ account_in world.old.0 u }
-    ensures many { length world.new.0 ≡ length world.old.0 }
-    ensures names { AreNames (account_in world.new.0 account).0.names }
-{
-    let performed = world.perform(account, command);
+    let command = match command_in(alloc, found.request) {
+        Ok(Parsed::Command(command)) => command,
+        Ok(Parsed::Refused) => {
+            return put_lines(out, found.name, &Reply::Refused(Refusal::Syntax));
+        }
+        Err(error) => return Err(error),
+    };
+    let performed = world.perform(account, &command);
     // This is called for the fact that it proves: some reading fits the account's names.
     world.shows_names(account);
     match performed {
-        Performed::Whole(reply) => put_lines(out, name, &reply),
+        Performed::Whole(reply) => put_lines(out, found.name, &reply),
         Performed::Short { steps: _steps } => Err(AllocError),
         Performed::Memory => Err(AllocError),
     }

@@ -46,46 +46,20 @@ pub fn run_script_over<C: CodeSource + Drop, R: Source, W: Sink>(
     ensures runs { Runs output script_replies (streams R.remaining R.failures W.contents W.failures source.old sink.old) (streams R.remaining R.failures W.contents W.failures source.new sink.new) result }
     ensures few { ReadsFew (R.remaining source.old) (R.remaining source.new) (MOST_SCRIPT_BYTES + 1) }
 {
-    match read_all(alloc, source) {
-        Ok(script) => answer(alloc, codes, script.as_slice(), sink),
-        Err(fault) => Err(fault),
-    }
-}
-
-/// Writes the output of a script.
-fn answer<C: CodeSource + Drop, W: Sink>(
-    alloc: Global,
-    codes: C,
-    script: &[u8],
-    sink: &mut W,
-) -> Result<(), ScriptFault>
-    ensures { Ends (W.contents sink.old) (W.contents sink.new) (W.failures sink.old) (W.failures sink.new) (output script.now) (script_replies script.now) result }
-{
-    let (line, rest) = split_line(script);
-    match accounts_in(alloc, line) {
-        Ok(Some(accounts)) => answer_shared(alloc, accounts.as_slice(), codes, rest, sink),
-        Ok(None) => finish_with(sink, b"", b"! accounts\n"),
-        Err(_) => Err(ScriptFault::Memory),
-    }
-}
-
-/// Writes what is written for the records of a text, over a table of names that is made for the accounts.
-fn answer_shared<C: CodeSource + Drop, W: Sink>(
-    alloc: Global,
-    accounts: &[AccountName],
-    codes: C,
-    text: &[u8],
-    sink: &mut W,
-) -> Result<(), ScriptFault>
-    requires some { 0 < length accounts.now }
-    requires few { length accounts.now ≤ MOST_ACCOUNTS }
-    requires distinct { IsTrue (are_distinct accounts.now) }
-    ensures { Ends (W.contents sink.old) (W.contents sink.new) (W.failures sink.old) (W.failures sink.new) (written_records accounts.now (records_of text.now)) (replies_from accounts.now [] (records_of text.now).list) result }
-{
+    let script = match read_all(alloc, source) {
+        Ok(script) => script,
+        Err(fault) => return Err(fault),
+    };
+    let (line, text) = split_line(script.as_slice());
+    let accounts = match accounts_in(alloc, line) {
+        Ok(Some(accounts)) => accounts,
+        Ok(None) => return finish_with(sink, b"", b"! accounts\n"),
+        Err(_) => return Err(ScriptFault::Memory),
+    };
     match AtomTable::new(alloc, accounts.len()) {
         Ok((table, seats)) => answer_over(
             alloc,
-            accounts,
+            accounts.as_slice(),
             SharedAtoms { table: &table },
             seats,
             codes,

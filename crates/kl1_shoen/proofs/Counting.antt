@@ -81,7 +81,7 @@ counted_some {N = N} ss cs i x a lt is =
     let m = sum_at (λ (h : Shoen N). cond (is_living_child_of x.parent h) 1 0) ss i x lt is in
     omega (arith, o, m)
 
-count_none : {A : Type 0} (p : A → Bool) (xs : List A) → count_by p xs ≡ 0 → list_any p xs ≡ false
+pub count_none : {A : Type 0} (p : A → Bool) (xs : List A) → count_by p xs ≡ 0 → list_any p xs ≡ false
 count_none p [] e = refl
 count_none p (x ∷ xs) e = by_case (p x) (count_by p xs) (list_any p xs) (sym (sum_by-cons (λ z. cond (p z) 1 0) x xs) ∙ e) (count_none p xs)
   where
@@ -89,7 +89,7 @@ count_none p (x ∷ xs) e = by_case (p x) (count_by p xs) (list_any p xs) (sym (
     by_case true n c e f = absurd (omega (arith, e))
     by_case false n c e f = f (omega (arith, e))
 
-count_some : {A : Type 0} (p : A → Bool) (xs : List A) → 0 < count_by p xs → list_any p xs ≡ true
+pub count_some : {A : Type 0} (p : A → Bool) (xs : List A) → 0 < count_by p xs → list_any p xs ≡ true
 count_some p [] lt = absurd (omega (arith, lt))
 count_some p (x ∷ xs) lt = by_case (p x) (count_by p xs) (list_any p xs) (let s = sum_by-cons (λ z. cond (p z) 1 0) x xs in omega (arith, s, lt)) (count_some p xs)
   where

@@ -75,7 +75,7 @@ tested_is {N = N} f h ss hs p q n e same =
 pub blocking_at_is : {N : Type 0} (f : N → List ℕ) (h : Held N) (ss : List (Shoen N)) (work : List ℕ) (s : State) → Has f h ss work s → (n : ℕ) → tree.is_blocking_at s n ≡ is_blocking_at ss work n
 blocking_at_is f h ss work s e n = tested_is f h ss s.shoens (is_blocking s) (is_blocking_in ss work) n e.shoens (blocking_is f h ss work s e)
 
-any_same : (p q : ℕ → Bool) → ((n : ℕ) → p n ≡ q n) → (ns : List ℕ) → list_any p ns ≡ list_any q ns
+pub any_same : (p q : ℕ → Bool) → ((n : ℕ) → p n ≡ q n) → (ns : List ℕ) → list_any p ns ≡ list_any q ns
 any_same p q e [] = refl
 any_same p q e (n ∷ ns) = ap₂ (λ b c. b || c) (e n) (any_same p q e ns)
 

@@ -99,7 +99,7 @@ pub puts : {N : Type 0} (built : BuiltIn → N) (f : N → List ℕ) (old new : 
     sent_on n m (term_of f old tail) s ≡ put_at n d.number m next s
 puts built f old new tail m next n s e d = ap (λ t. sent_on n m t s) (d.tail_is f) ∙ ap (λ k. put_at n d.number m k s) (e ∙ sym d.next_is)
 
-no_end : (n : ℕ) (m : Message) (t : Term) (s : State) → IsNoVariable t → sent_on n m t s ≡ s
+pub no_end : (n : ℕ) (m : Message) (t : Term) (s : State) → IsNoVariable t → sent_on n m t s ≡ s
 no_end n m (variable v) s e = absurd e
 no_end n m (integer i) s e = refl
 no_end n m (atom a) s e = refl

@@ -35,7 +35,7 @@ solved_by v t b = if b then None else Some (record { number = v; by = t } ∷ []
 abbrev pub one_equation : ℕ → Term → List Equation
 one_equation v t = record { left = variable v; right = t } ∷ []
 
-front_solves : (last v : ℕ) (t : Term) (b : Bool) → after (mgu_within (suc (suc last)) 1) (λ to. mgu_within (suc last) (equations_size to) to) (if b then conflicts else eliminates v t []) ≡ solved_by v t b
+pub front_solves : (last v : ℕ) (t : Term) (b : Bool) → after (mgu_within (suc (suc last)) 1) (λ to. mgu_within (suc last) (equations_size to) to) (if b then conflicts else eliminates v t []) ≡ solved_by v t b
 unfolding mgu_within
 front_solves last v t true = refl
 front_solves last v t false = refl
@@ -104,7 +104,7 @@ occurs_cell v n t lt = ap (λ c. occurs v t || (c || false)) (ne_eqb v n (λ e. 
     or_none false = refl
 
 -- an equation of an unbound variable and a cell
-sides : {N : Type 0} (f : N → List ℕ) (h : Held N) (v : ℕ) (x : Cell N) (t : Term) → is_bound v h.bindings ≡ false → term_of f h x ≡ t → equation_of f h (Variable v) x ≡ one_equation v t
+pub sides : {N : Type 0} (f : N → List ℕ) (h : Held N) (v : ℕ) (x : Cell N) (t : Term) → is_bound v h.bindings ≡ false → term_of f h x ≡ t → equation_of f h (Variable v) x ≡ one_equation v t
 sides f h v x t u e =
     ap (λ l. let q : Equation = record { left = l; right = term_of f h x } in q ∷ []) (term_of-unbound f h v u)
     ∙ ap (λ r. let q : Equation = record { left = variable v; right = r } in q ∷ []) e

@@ -17,17 +17,11 @@ DoesTo r old event new = IfOk r (λ reply. (f : Reading) → Fits new.names f �
 
 -- an event did this to an account, said of the account and the event under other names
 pub does_same : {E : Type 0} (r : Result Reply E) (old other new : Account) (event by : model.Event) → other ≡ old → event ≡ by → DoesTo r other event new → DoesTo r old by new
-does_same {E} r old other new event by was is h =
-    let P : Account → Type 0 = λ a. DoesTo {E = E} r a event new in
-    let Q : model.Event → Type 0 = λ e. DoesTo {E = E} r old e new in
-    subst Q is (subst P was h)
+does_same r old other new event by was is h = rw (was, is) at h
 
 -- what is answered to a query that changes nothing, said of the same account and query under other names
 pub asks_same : {E : Type 0} (r : Result Reply E) (old other : Account) (event by : model.Event) → other ≡ old → event ≡ by → DoesTo r other event other → DoesTo r old by old
-asks_same {E} r old other event by was is h =
-    let P : Account → Type 0 = λ a. DoesTo {E = E} r a event a in
-    let Q : model.Event → Type 0 = λ e. DoesTo {E = E} r old e old in
-    subst Q is (subst P was h)
+asks_same r old other event by was is h = rw (was, is) at h
 
 -- an event that leaves the names did this, said under other names, and told for the readings that fit them before
 pub leaves_names : {E : Type 0} (r : Result Reply E) (old other new : Account) (event by : model.Event) → other ≡ old → event ≡ by → new.names ≡ other.names →

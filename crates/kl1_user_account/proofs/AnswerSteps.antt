@@ -1,33 +1,19 @@
 -- What refuses an answer, and the step of one that nothing refuses.
-use Rattle.kl1_user_account.proofs.Words.{◌≡◌, ℕ, ◌+◌, ◌-◌, not, ◌&&◌, Bool, true, false, if◌then◌else◌, List, [], ◌∷◌, refl, sym, ap, ap₂, ◌∙◌, subst, nat_le, Option, Some, None, option_map, option_and_then, unwrap_or, and_parts, Rules, Limits, Term, highest, structures_of, State, has_substitutes, shoen_at, is_living, names_of, with_names, Transition, answer, refuse, unless, syntax, no_shoen, shoen_ended, if_living, may_answer, has_room_to_answer, unanswered_at, answer_by, answer_living, answer_to, step, Reads, CellName, Known, Held, IsUnbound, Refusal, Syntax, NoShoen, Ended, Goal, Origin, Shoen, shoen_in, lives_in, Reading, built, Means, meaning, origin_with, shoen_with, state_with, with_kept, found_in, kept_at, Counted, HasNames, refusals_of, refused_or, IsFree, has_room_to_answer_beside, RefusesAnswer, IsAnswerable}
-use Rattle.kl1_model.specs.State.{Origin as Tails, Shoen as ShoenMeant}
+use Rattle.kl1_user_account.proofs.Words.{◌≡◌, ℕ, ◌+◌, ◌-◌, not, ◌&&◌, Bool, true, false, if◌then◌else◌, List, [], ◌∷◌, refl, sym, ap, ap₂, ◌∙◌, nat_le, Option, Some, None, option_map, option_and_then, unwrap_or, and_parts, Rules, Limits, Term, highest, structures_of, State, has_substitutes, shoen_at, is_living, names_of, with_names, Transition, answer, refuse, unless, syntax, no_shoen, shoen_ended, if_living, may_answer, has_room_to_answer, unanswered_at, answer_by, answer_living, answer_to, step, Reads, CellName, Known, Held, IsUnbound, Refusal, Syntax, NoShoen, Ended, Goal, Origin, Shoen, shoen_in, lives_in, Reading, built, Means, meaning, origin_with, shoen_with, state_with, with_kept, found_in, kept_at, Counted, HasNames, refusals_of, refused_or, IsFree, has_room_to_answer_beside, RefusesAnswer, IsAnswerable}
+use Rattle.kl1_model.specs.State.{Origin as Tails}
 use Rattle.kl1_user_account.proofs.StartSteps.{refusals_at, refusals_in}
 
 -- ---- a shoen of which the console keeps something
 
--- what is done to a shoen of which the console keeps this, or nothing
-abbrev living_by : State → (Tails → Transition) → ShoenMeant → Option Tails → Transition
-living_by s act h o = elim o [ None ↦ refuse s no_shoen | Some x ↦ if is_living h.life then act x else refuse s shoen_ended ]
-
 module _ (s : State) (act : Tails → Transition) (t : Means) where
   kept_nowhere : (p : Option (Shoen CellName)) → option_and_then (λ h. h.origin) p ≡ None → if_living s act (option_map (shoen_with t) p) ≡ refuse s no_shoen
   kept_nowhere None q = refl
-  kept_nowhere (Some h) q = by h.origin q
-    where
-      by : (o : Option (Origin CellName)) → o ≡ None → living_by s act (shoen_with t h) (option_map (origin_with t) o) ≡ refuse s no_shoen
-      by None r = refl
-      by (Some o) r = absurd (cc)
+  kept_nowhere (Some h) q = rw q
 
   kept_there : (o : Origin CellName) (b : Bool) (p : Option (Shoen CellName)) → option_and_then (λ h. h.origin) p ≡ Some o → unwrap_or (option_map (λ h. is_living h.life) p) false ≡ b →
       if_living s act (option_map (shoen_with t) p) ≡ (if b then act (origin_with t o) else refuse s shoen_ended)
   kept_there o b None q r = absurd (cc)
-  kept_there o b (Some h) q r = by h.origin q
-    where
-      by : (x : Option (Origin CellName)) → x ≡ Some o → living_by s act (shoen_with t h) (option_map (origin_with t) x) ≡ (if b then act (origin_with t o) else refuse s shoen_ended)
-      by None e = absurd (cc)
-      by (Some x) e =
-          let same : x ≡ o = cc in
-          ap (λ c. if c then act (origin_with t x) else refuse s shoen_ended) r ∙ ap (λ (z : Origin CellName). if b then act (origin_with t z) else refuse s shoen_ended) same
+  kept_there o b (Some h) q r = rw (q, r)
 
 -- ---- the step of an answer
 
@@ -48,16 +34,13 @@ room_in s names c goal at =
 
 module _ (rules : Rules) (h : Held CellName) (ss : List (Shoen CellName)) (names : List Known) (c : Counted) (n report : ℕ) (goal : Term) where
   -- by whether the answer is right
-  by_right : (b : Bool) → (has_substitutes rules && may_answer n report goal) ≡ b → (f : Reading) (s : State) (goals : List (Goal CellName)) → s.rules ≡ rules → let S = with_kept f s h goals ss in
+  pub by_right : (b : Bool) → (has_substitutes rules && may_answer n report goal) ≡ b → (f : Reading) (s : State) (goals : List (Goal CellName)) → s.rules ≡ rules → let S = with_kept f s h goals ss in
       step S (answer n report goal) ≡ (if b then answer_to S report goal (option_map (shoen_with (meaning f h)) (shoen_in n ss)) else refuse S syntax)
   by_right b e f s goals same =
       let S = with_kept f s h goals ss in
       ap (λ (r : Rules). if has_substitutes r && may_answer n report goal then answer_to S report goal (shoen_at n S.shoens) else refuse S syntax) same
       ∙ ap (λ v. if v then answer_to S report goal (shoen_at n S.shoens) else refuse S syntax) e
       ∙ ap (λ z. if b then answer_to S report goal z else refuse S syntax) (found_in (meaning f h) n ss)
-
-  pub refused_wrong : (has_substitutes rules && may_answer n report goal) ≡ false → RefusesAnswer rules h ss names c n report goal Syntax
-  refused_wrong wrong f reads s goals same at = by_right false wrong f s goals same
 
   pub refused_nowhere : (has_substitutes rules && may_answer n report goal) ≡ true → kept_at n ss ≡ None → RefusesAnswer rules h ss names c n report goal NoShoen
   refused_nowhere right none f reads s goals same at =
@@ -84,14 +67,12 @@ module _ (rules : Rules) (h : Held CellName) (ss : List (Shoen CellName)) (names
   -- it may be given, if nothing refuses it
   pub answerable : (o : Origin CellName) (code : Term) (v : ℕ) (texts : List (List ℕ)) (has_room : Bool) → IsJudged rules ss names c n report goal o texts has_room None → IsFree c names texts has_room → code ≡ goal → IsUnbound h v →
       ((f : Reading) → Reads built f → unanswered_at (meaning f h o.reports) report ≡ Some v) → IsAnswerable rules h ss names c n report goal code v
-  answerable o code v texts has_room j free code_is unbound waits =
-      let F : List (List ℕ) → Bool → Type 0 = λ ts b. IsFree c names ts b in
-      record {
-        code_is = code_is;
-        may = (and_parts (has_substitutes rules) (may_answer n report goal) j.right).1;
-        free = subst (F (with_names [] (names_of goal))) j.has (subst (λ ts. F ts has_room) j.texts_are free);
-        unbound = unbound;
-        steps = λ f reads s goals same at.
-            let S = with_kept f s h goals ss in
-            answer_steps o texts has_room None j f s goals same at ∙ ap (answer_by S goal) (waits f reads);
-      }
+  answerable o code v texts has_room j free code_is unbound waits = record {
+    code_is = code_is;
+    may = (and_parts (has_substitutes rules) (may_answer n report goal) j.right).1;
+    free = rw (j.texts_are, j.has) at free;
+    unbound = unbound;
+    steps = λ f reads s goals same at.
+        let S = with_kept f s h goals ss in
+        answer_steps o texts has_room None j f s goals same at ∙ ap (answer_by S goal) (waits f reads);
+  }

@@ -40,8 +40,7 @@ task_read f a n Monitor = by_case (shoen_in n a.shoens) ∙ ap shown.awaited_by_
     by_case : (o : Option (Shoen CellName)) → awaited_by_monitor (front_with (meaning f a.held) (option_map (λ k. k.control) o)) ≡ shown.awaited_by_monitor (option_map (shoen_with (meaning f a.held)) o)
     by_case None = refl
     by_case (Some h) = refl
-task_read f a n (Reduces x) = refl
-task_read f a n (Substitutes x) = refl
+task_read f a n _ = refl
 
 -- what the goal with the number waits for
 pub some_awaited : (f : Reading) (a : Account) (n : ℕ) (g : Goal CellName) (vs : List ℕ) → find (has_number n) a.goals ≡ Some g → Knows a.modules f → ListsAwaited (program_of a) a.shoens a.held g.shoen g.task vs → AreAwaited (state_of f a) n (Some vs)

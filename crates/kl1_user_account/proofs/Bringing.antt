@@ -1,8 +1,7 @@
 -- An account after an event that brought a goal, whose names were published.
-use Rattle.kl1_user_account.proofs.Words.{◌≡◌, ℕ, suc, ◌<◌, ◌≤◌, List, length, sym, ap, ◌∙◌, subst, arith, limits_of, State, with_entry, CellName, IsNameList, Reading, Fits, Account, state_of, AreSpared, Machine, Brought, Keeps, IsRested, goal_of, change_of, PublishesNames, Brings, IsPublished, published_states, published_rested, published_alike, CountsWork, MayBring}
+use Rattle.kl1_user_account.proofs.Words.{◌≡◌, ℕ, List, sym, ap, ◌∙◌, subst, arith, State, with_entry, CellName, Reading, Fits, state_of, AreSpared, Machine, Brought, Keeps, IsRested, goal_of, change_of, PublishesNames, Brings, IsPublished, published_states, published_rested, MayBring, NameShelf, Trail}
 use Rattle.std.proofs.Common.{None}
-use Rattle.kl1_user_account.proofs.Counting.{counts_entry}
-use Rattle.kl1_user_account.proofs.Machines.{Aside, account_of, state_aside, state_is, kept_alike, Leaves, left_holds, Began, began_state, rules_after, rested_after, noted, Ends}
+use Rattle.kl1_user_account.proofs.Machines.{Aside, account_of, state_aside, state_is, kept_alike, Began, began_state, rules_after, rested_after, noted, noted_counts, Leaves, left_holds, Ends, ends_as}
 
 -- an event brought a goal, with spare numbers for those of its names that are new, and the names were published then
 pub record IsBrought (e : Began) (z : Brought) (texts : List (List ℕ)) (spares numbers : List CellName) (r n : Machine) : Type 0 where
@@ -21,20 +20,16 @@ module _ (e : Began) (z : Brought) (texts : List (List ℕ)) (spares numbers : L
   y = noted e.aside
 
   is_published : IsPublished (change_of z) (goal_of z) spares numbers b r n
-  is_published =
-      let A : Account → List (List ℕ) → Type 0 = λ a ts. AreSpared a.names 0 ts spares in
-      let L : List (List ℕ) → Type 0 = λ ts. IsNameList ts in
-      let P : List (List ℕ) → Type 0 = λ ts. PublishesNames ts spares numbers r n in
-      record {
-        brings = p.brings;
-        keeps = p.keeps;
-        reads = kept_alike e.aside b e.holds;
-        none = e.begun.name;
-        small = e.holds.0.small;
-        spared = subst (A (account_of e.aside b)) p.may.texts_are (subst (λ (a : Account). A a texts) (sym e.is) p.spared);
-        list = subst L p.may.texts_are p.may.list;
-        published = subst P p.may.texts_are p.published;
-      }
+  is_published = record {
+    brings = p.brings;
+    keeps = p.keeps;
+    reads = kept_alike e.aside b e.holds;
+    none = e.begun.name;
+    small = e.holds.0.small;
+    spared = rw (← e.is, p.may.texts_are) at p.spared;
+    list = rw p.may.texts_are at p.may.list;
+    published = rw p.may.texts_are at p.published;
+  }
 
   rested : IsRested e.program n
   rested = published_rested (change_of z) (goal_of z) spares numbers b r n is_published e.program p.rested
@@ -50,22 +45,19 @@ module _ (e : Began) (z : Brought) (texts : List (List ℕ)) (spares numbers : L
       ∙ ap (λ (s : State). with_entry s) (published_states (change_of z) (goal_of z) spares numbers b r n is_published f fits (state_aside e.aside b))
       ∙ sym (state_is f y n no_name)
 
-  -- what always holds of the account after it
-  left : Leaves y n
+  -- what it has left of the account
+  left : Leaves e (λ s. with_entry (change_of z s)) y n
   left =
-      let R : Account → Type 0 = λ a. a.entries < (limits_of a.rules).entries in
-      let room = subst R (sym e.is) p.may.room in
-      let same : n.shoens.work ≡ b.shoens.work = ap (λ (m : Machine). m.shoens.work) p.published.rest ∙ p.brings.work in
+      let room = rw (← e.is) at p.may.room in
       record {
         rested = rested_after e n rested;
-        most = subst (λ k. suc e.aside.entries ≤ (limits_of k).entries) (sym (rules_after e n rested)) (omega (arith, room));
+        rules = rules_after e n rested;
+        most = omega (arith, room);
         small = p.published.small;
-        named = λ f g one two.
-            state_is f y n no_name
-            ∙ published_alike (change_of z) (goal_of z) spares numbers b r n is_published f g one two (state_aside y n)
-            ∙ sym (state_is g y n no_name);
-        counts = subst (λ (ws : List ℕ). CountsWork (length ws) (suc e.aside.entries) 0) (sym same) (counts_entry (length b.shoens.work) e.aside.entries e.aside.run e.holds.1);
+        fits = λ f fits. rw (ap (λ (t : Trail). t.names) p.keeps.trail) at (p.published.fits f fits);
+        states = states;
+        counts = noted_counts e n (ap (λ (m : Machine). m.shoens.work) p.published.rest ∙ p.brings.work);
       }
 
   pub brought_ends : (x : Aside) → x ≡ y → Ends e.account (λ s t. with_entry (change_of z s) ≡ t) x n
-  brought_ends x beside = record { holds = left_holds x y n beside left; states = λ f fits. states f fits ∙ ap (λ (k : Aside). state_of f (account_of k n)) (sym beside) }
+  brought_ends x beside = ends_as beside (record { holds = left_holds e _ y n left; states = states })

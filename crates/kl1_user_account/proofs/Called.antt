@@ -1,10 +1,6 @@
 -- Goals in the module of a name, printed.
 use Rattle.kl1_user_account.proofs.Words.{◌≡◌, ℕ, List, [], ◌∷◌, sym, ap, ◌∙◌, append-nil, Option, Some, codes, Term, structure, none, more, print, reduces, substitutes, Colon, Printer, Whole, with_node, limited, text_of, text_in, CellName, Known, Cell, Atom, Held, Reading, Fits, built, meaning, told_in, Structure, node_with, stacked_terms}
 
--- readings that fit read the name of `:` alike
-pub colon_named : (name : CellName) (ks : List Known) (f g : Reading) → name ≡ built Colon → Fits ks f → Fits ks g → f name ≡ g name
-colon_named name ks f g is a b = ap f is ∙ a.reads.texts Colon ∙ sym (b.reads.texts Colon) ∙ sym (ap g is)
-
 -- a printer that was given `:` makes the text of the goal with its module of the two parts
 pub called_printed : (f : Reading) (h : Held CellName) (name m : CellName) (x : Cell CellName) (most : Option ℕ) (q : Printer) → f name ≡ codes ":" →
     ((ts : List Term) → text_of q ts ≡ limited most (text_in Whole [] (with_node (node_with f (Structure name 2)) ts))) → text_of q (stacked_terms f h (x ∷ Atom m ∷ [])) ≡ limited most (print (told_in (meaning f h) (Some m) (meaning f h x)))
@@ -13,10 +9,3 @@ called_printed f h name m x most q colon put =
     put (meaning f h (Atom m) ∷ meaning f h x ∷ [])
     ∙ ap (λ n. limited most (text_in Whole [] (structure n two ∷ []))) colon
     ∙ ap (limited most) (append-nil (print (structure (codes ":") two)))
-
--- readings that read a task alike read its goal alike
-pub goal_alike : (t u : Term) → reduces t ≡ reduces u → t ≡ u
-goal_alike t u e = cc
-
-pub substituted_alike : (t u : Term) → substitutes t ≡ substitutes u → t ≡ u
-substituted_alike t u e = cc

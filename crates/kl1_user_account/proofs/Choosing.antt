@@ -2,6 +2,7 @@
 use Rattle.kl1_user_account.proofs.Words.{◌≡◌, ℕ, ◌==◌, nat_lt, ◌&&◌, ◌||◌, Bool, true, false, not, if◌then◌else◌, List, [], ◌∷◌, map, refl, sym, ap, ◌∙◌, subst, arith, ◌⊎◌, inl, inr, Option, Some, None, option_map, option_and_then, is_some, filter, find, ⊤, list_any, AllByRecursion, cases_Bool, false≢true, nat_tests, State, Term, call_of, Control, awaits_message, tells, tells_other, ends, breaks_off, control_of, goal_look, Found, found, awaits, wrong, Move, moves, term_move, read_action, task_action, move_by, look_clause, call_clauses, has_runs, task_clauses, clause_for, can_step, quiet, goes_before, first_of_goals, Chosen, first, is_first, is_in_run, substitute_move, monitor_action, chosen, Hook, CellName, Task, Monitor, Reduces, Substitutes, Goal, Ready, stands, ready_by, ready_of, better, first_from, Shoen, shoen_in, contents, Reading, Fits, Account, program_of, Means, meaning, aim_with, goal_with, task_with, shoen_with, state_of, front_with, control_with, control_clause, monitor_clause, task_clause, IsSettled, AreSettled, IsEnabled, AreEnabled, found_in, enabled_read, IsKept}
 use Rattle.kl1_model.specs.State as model
 use Rattle.kl1_goals.specs.Readies.{chosen as chosen_pair}
+use Rattle.kl1_goals.proofs.Ranking.{standing_in, stands_is}
 
 -- ---- one goal before another, in numbers
 
@@ -34,9 +35,9 @@ least b (g ∷ gs) = least (if goes_before g b then g else b) gs
 abbrev is_first_among : List model.Goal → model.Goal → Bool
 is_first_among gs x = not (list_any (λ h. goes_before h x) gs)
 
-find_same : (p q : model.Goal → Bool) → ((x : model.Goal) → p x ≡ q x) → (gs : List model.Goal) → find p gs ≡ find q gs
-find_same p q e [] = refl
-find_same p q e (g ∷ gs) = ap (λ b. if b then Some g else find p gs) (e g) ∙ ap (λ o. if q g then Some g else o) (find_same p q e gs)
+-- two tests that say the same find the same
+find_same : {A : Type 0} (p q : A → Bool) → ((x : A) → p x ≡ q x) → (xs : List A) → find p xs ≡ find q xs
+find_same p q e xs = λ i. find (λ x. e x i) xs
 
 -- one of two tests says nothing that the other doesn't
 left : (x y z : Bool) → (x ≡ true → y ≡ true) → not (x || (y || z)) ≡ not (y || z)
@@ -94,29 +95,18 @@ first_is_least b (g ∷ gs) = by_case (cases_Bool (goes_before g b)) (first_is_l
 
 -- ---- the goals that stand
 
--- the clause by which a goal can step now, if it may
-abbrev pub standing_now : Goal CellName → Option ℕ
-standing_now g = if g.is_enabled then g.standing else None
-
 -- a goal stands as the definitions have it, if cells mean this
 abbrev pub IsStanding : State → Means → Goal CellName → Type 0
-IsStanding s t g = clause_for s (goal_with t g) ≡ standing_now g
+IsStanding s t g = clause_for s (goal_with t g) ≡ standing_in g
 
 -- each goal does
 abbrev pub AreStanding : State → Means → List (Goal CellName) → Type 0
 AreStanding s t goals = AllByRecursion (IsStanding s t) goals
 
-ready_is : (g : Goal CellName) → ready_of g ≡ option_map (ready_by g) (standing_now g)
+ready_is : (g : Goal CellName) → ready_of g ≡ option_map (ready_by g) (standing_in g)
 ready_is g = by_case g.is_enabled
   where
     by_case : (b : Bool) → (if b then option_map (ready_by g) g.standing else None) ≡ option_map (ready_by g) (if b then g.standing else None)
-    by_case true = refl
-    by_case false = refl
-
-pub stands_is : (g : Goal CellName) → is_some (standing_now g) ≡ stands g
-stands_is g = by_case g.is_enabled
-  where
-    by_case : (b : Bool) → is_some (if b then g.standing else None) ≡ (b && is_some g.standing)
     by_case true = refl
     by_case false = refl
 
@@ -133,7 +123,7 @@ Follows s t gs = (x : model.Goal) (c : ℕ) → clause_for s x ≡ Some c → ch
 
 follows : (s : State) (t : Means) (gs : List (Goal CellName)) → AreStanding s t gs → Follows s t gs
 follows s t [] all x c e = ap (option_map (λ k. let z : Chosen = record { goal = x.number; clause = k } in z)) e
-follows s t (g ∷ gs) all x c e = by_clause (standing_now g) all.0 (ready_is g) (follows s t gs all.1)
+follows s t (g ∷ gs) all x c e = by_clause (standing_in g) all.0 (ready_is g) (follows s t gs all.1)
   where
     here : model.Goal
     here = goal_with t g
@@ -147,16 +137,13 @@ follows s t (g ∷ gs) all x c e = by_clause (standing_now g) all.0 (ready_is g)
 
     by_clause : (o : Option ℕ) → clause_for s here ≡ o → ready_of g ≡ option_map (ready_by g) o → Follows s t gs →
         chosen s (least x (if is_some (clause_for s here) then here ∷ rest else rest)) ≡ option_map shown (first_from (better (Some (kept_by x c)) (ready_of g)) gs)
-    by_clause None p q next = ap (λ z. chosen s (least x (if is_some z then here ∷ rest else rest))) p ∙ next x c e ∙ ap (λ z. option_map shown (first_from (better (Some (kept_by x c)) z) gs)) (sym q)
-    by_clause (Some k) p q next =
-        ap (λ z. chosen s (least x (if is_some z then here ∷ rest else rest))) p
-        ∙ by_order k p next (goes_before here x)
-        ∙ ap (λ z. option_map shown (first_from (better (Some (kept_by x c)) z) gs)) (sym q)
+    by_clause None p q next = rw (p, q) (next x c e)
+    by_clause (Some k) p q next = rw (p, q) (by_order k p next (goes_before here x))
 
 -- the first that is found is the definition's
 first_found : (s : State) (t : Means) (gs : List (Goal CellName)) → AreStanding s t gs → option_map shown (first_from None gs) ≡ option_and_then (chosen s) (first_of_goals (filter (can_step s) (map (goal_with t) gs)))
 first_found s t [] all = refl
-first_found s t (g ∷ gs) all = by_clause (standing_now g) all.0 (ready_is g) (first_found s t gs all.1)
+first_found s t (g ∷ gs) all = by_clause (standing_in g) all.0 (ready_is g) (first_found s t gs all.1)
   where
     here : model.Goal
     here = goal_with t g
@@ -166,26 +153,18 @@ first_found s t (g ∷ gs) all = by_clause (standing_now g) all.0 (ready_is g) (
 
     by_clause : (o : Option ℕ) → clause_for s here ≡ o → ready_of g ≡ option_map (ready_by g) o → option_map shown (first_from None gs) ≡ option_and_then (chosen s) (first_of_goals rest) →
         option_map shown (first_from (better None (ready_of g)) gs) ≡ option_and_then (chosen s) (first_of_goals (if is_some (clause_for s here) then here ∷ rest else rest))
-    by_clause None p q next = ap (λ z. option_map shown (first_from (better None z) gs)) q ∙ next ∙ ap (λ z. option_and_then (chosen s) (first_of_goals (if is_some z then here ∷ rest else rest))) (sym p)
-    by_clause (Some k) p q next =
-        ap (λ z. option_map shown (first_from (better None z) gs)) q
-        ∙ sym (follows s t gs all.1 here k p)
-        ∙ ap (option_and_then (chosen s)) (sym (first_is_least here rest))
-        ∙ ap (λ z. option_and_then (chosen s) (first_of_goals (if is_some z then here ∷ rest else rest))) (sym p)
+    by_clause None p q next = rw (p, q) next
+    by_clause (Some k) p q next = rw (p, q) (sym (follows s t gs all.1 here k p) ∙ ap (option_and_then (chosen s)) (sym (first_is_least here rest)))
 
 any_stands : (s : State) (t : Means) (gs : List (Goal CellName)) → AreStanding s t gs → list_any stands gs ≡ list_any (can_step s) (map (goal_with t) gs)
 any_stands s t [] all = refl
-any_stands s t (g ∷ gs) all = ap (λ b. b || list_any stands gs) (sym (stands_is g)) ∙ ap (λ o. is_some o || list_any stands gs) (sym all.0) ∙ ap (λ b. can_step s (goal_with t g) || b) (any_stands s t gs all.1)
+any_stands s t (g ∷ gs) all = ap (λ b. b || list_any stands gs) (stands_is g) ∙ ap (λ o. is_some o || list_any stands gs) (sym all.0) ∙ ap (λ b. can_step s (goal_with t g) || b) (any_stands s t gs all.1)
 
 -- ---- goals that are settled and may step as the shoens have it
 
 find_none : (ns : List ℕ) → find (λ n. false) ns ≡ None
 find_none [] = refl
 find_none (n ∷ ns) = find_none ns
-
-find_alike : (p q : ℕ → Bool) → ((n : ℕ) → p n ≡ q n) → (ns : List ℕ) → find p ns ≡ find q ns
-find_alike p q e [] = refl
-find_alike p q e (n ∷ ns) = ap (λ b. if b then Some n else find p ns) (e n) ∙ ap (λ o. if q n then Some n else o) (find_alike p q e ns)
 
 some_moves : (t : Term) (o : Option Move) → is_some (option_map (moves t) o) ≡ is_some o
 some_moves t None = refl
@@ -194,10 +173,7 @@ some_moves t (Some m) = refl
 -- what a monitor can do by its one clause is allowed unless it waits
 read_is : (c : Control) → (if is_some (read_action c) then Some 0 else None) ≡ control_clause c
 read_is (awaits_message v) = refl
-read_is (tells m rest) = refl
-read_is (tells_other m rest) = refl
-read_is ends = refl
-read_is (breaks_off t) = refl
+read_is _ = refl
 
 monitor_found : (t : Means) (h : Option (Shoen CellName)) → find (λ c. is_some (monitor_action (option_map (shoen_with t) h) c)) (0 ∷ []) ≡ monitor_clause (front_with t (option_map (λ k. k.control) h))
 monitor_found t None = refl
@@ -206,8 +182,7 @@ monitor_found t (Some h) = read_is (control_of (t h.control))
 -- and what a substitute can
 substitute_found : (u : Term) (l : Found ⊤) → find (λ c. is_some (if c == 0 then option_map (moves u) (substitute_move l) else None)) (0 ∷ []) ≡ look_clause l
 substitute_found u (found right) = refl
-substitute_found u (awaits v) = refl
-substitute_found u wrong = refl
+substitute_found u _ = refl
 
 -- the clause by which a task could step is the first that is allowed
 clause_found : (f : Reading) (a : Account) (n : ℕ) (k : Task CellName) →
@@ -217,7 +192,7 @@ clause_found f a n Monitor = ap (λ h. find (λ c. is_some (monitor_action h c))
 clause_found f a n (Reduces x) =
     let u = aim_with (meaning f a.held) x in
     let ms = contents a.modules in
-    find_alike (λ c. is_some (option_map (moves u) (term_move a.rules ms u c (call_of u)))) (λ c. is_some (move_by a.rules ms u c)) (λ c. some_moves u (term_move a.rules ms u c (call_of u))) (0 ∷ call_clauses ms (call_of u))
+    find_same (λ c. is_some (option_map (moves u) (term_move a.rules ms u c (call_of u)))) (λ c. is_some (move_by a.rules ms u c)) (λ c. some_moves u (term_move a.rules ms u c (call_of u))) (0 ∷ call_clauses ms (call_of u))
 clause_found f a n (Substitutes x) = substitute_found (meaning f a.held x) (goal_look (meaning f a.held x))
 
 -- a goal that is settled, and may step as the shoens have it, stands

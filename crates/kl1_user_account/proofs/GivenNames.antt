@@ -12,15 +12,10 @@ first_names texts list (suc i) le =
     ∙ ap (λ (l : List (List ℕ)). with_text l t) (first_names texts list i (omega arith))
     ∙ not_there (take i texts) t (list.others i low) (not_before texts i t list low (get_or_default texts i [] t low))
     ∙ sym (next_take texts i t low (get_or_default texts i [] t low)) in
-    let P : ℕ → Type 0 = λ n. with_texts [] (take n texts) ≡ take n texts in
-    subst P (add-one i) step
-
--- a list of names, put to none, is what is used then
-all_names : (texts : List (List ℕ)) → IsNameList texts → with_texts [] texts ≡ texts
-all_names texts list =
-    let all : take (length texts) texts ≡ texts = take_all (length texts) texts (omega arith) in
-    ap (with_texts []) (sym all) ∙ first_names texts list (length texts) (omega arith) ∙ all
+    rw (add-one i) at step
 
 -- a list of names, put to the names of an account that has used none, is what it has used then
 pub put_to_none : (known : List Known) (texts : List (List ℕ)) → known ≡ [] → IsNameList texts → with_texts (texts_of known) texts ≡ texts
-put_to_none known texts none list = ap (λ (ks : List Known). with_texts (texts_of ks) texts) none ∙ all_names texts list
+put_to_none known texts none list =
+    let all : take (length texts) texts ≡ texts = take_all (length texts) texts (omega arith) in
+    ap (λ (ks : List Known). with_texts (texts_of ks) texts) none ∙ ap (with_texts []) (sym all) ∙ first_names texts list (length texts) (omega arith) ∙ all

@@ -17,7 +17,6 @@ mod Paging
 mod Awaiting
 mod Presences
 mod Called
-mod Texts
 mod Goals
 mod Counting
 mod Machines

@@ -1,7 +1,8 @@
 -- Reports that are listed.
-use Rattle.kl1_user_account.proofs.Words.{◌≡◌, ℕ, suc, ◌-◌, ◌<◌, ◌≤◌, ◌&&◌, true, false, if◌then◌else◌, List, [], ◌∷◌, ◌++◌, map, take, drop, append_assoc, sym, ap, ◌∙◌, arith, Option, Some, option_map, le-leb, Term, cut_print, State, syntax, refuse, read, reports, is_number, elements_of, origin_at, reports_of, step, CellName, Known, Cell, Held, IsIn, HasElement, Origin, Reading, Fits, built, Account, meaning, origin_with, state_of, kept_at, cells_of}
+use Rattle.kl1_user_account.proofs.Words.{◌≡◌, ℕ, ◌-◌, ◌<◌, ◌≤◌, ◌&&◌, true, false, if◌then◌else◌, List, [], ◌∷◌, ◌++◌, map, take, drop, sym, ap, ◌∙◌, Option, Some, option_map, le-leb, Term, cut_print, State, syntax, refuse, read, reports, is_number, elements_of, origin_at, reports_of, step, CellName, Known, Cell, Held, IsIn, HasElement, Origin, Reading, Fits, built, Account, meaning, origin_with, state_of, kept_at, cells_of}
 use Rattle.std.proofs.Common.{nat_le}
 use Rattle.kl1_user_account.proofs.Origins.{origin_is, origin_named}
+use Rattle.kl1_user_account.proofs.Paging.{one_more}
 
 -- ---- elements printed one after another
 
@@ -23,22 +24,14 @@ pub listed_more : (w : Wanted) (at : Cell CellName) (left : ℕ) (done after : L
     ((f : Reading) → Fits w.known f → text ≡ cut_print (meaning f w.held p.0)) → IsListing w p.1 (left - 1) after
 listed_more w at left done after text p l e some a is = record {
   inside = e.rest_in;
-  named = λ f g b c. tails_same (meaning f w.held p.0) (meaning g w.held p.0) (cells_of f w.held p.1) (cells_of g w.held p.1) (sym (elements f b) ∙ l.named f g b c ∙ elements g c);
+  named = λ f g b c. let all = sym (elements f b) ∙ l.named f g b c ∙ elements g c in cc;
   listed = λ f fits.
-      let rest = map cut_print (take (left - 1) (cells_of f w.held p.1)) in
-      ap (λ (xs : List (List ℕ)). xs ++ rest) a
-      ∙ append_assoc done (text ∷ []) rest
-      ∙ ap (λ (x : List ℕ). done ++ x ∷ rest) (is f fits)
-      ∙ ap (λ (k : ℕ). done ++ map cut_print (take k (meaning f w.held p.0 ∷ cells_of f w.held p.1))) (let again : suc (left - 1) ≡ left = omega (arith, some) in again)
-      ∙ ap (λ (ts : List Term). done ++ map cut_print (take left ts)) (sym (elements f fits))
-      ∙ l.listed f fits;
+      one_more cut_print done after (map cut_print (take w.most (cells_of f w.held w.list))) left (meaning f w.held p.0) (cells_of f w.held p.1) (cells_of f w.held at)
+      some (elements f fits) (l.listed f fits) (a ∙ ap (λ (x : List ℕ). done ++ x ∷ []) (is f fits));
 }
   where
     elements : (f : Reading) → Fits w.known f → cells_of f w.held at ≡ meaning f w.held p.0 ∷ cells_of f w.held p.1
     elements f fits = ap elements_of (e.is f fits.reads)
-
-    tails_same : (a b : Term) (xs ys : List Term) → a ∷ xs ≡ b ∷ ys → xs ≡ ys
-    tails_same a b xs ys e = cc
 
 -- ---- the answers
 

@@ -1,18 +1,16 @@
 -- An account after a module was loaded.
-use Rattle.kl1_user_account.proofs.Words.{◌≡◌, ℕ, suc, ◌<◌, ◌≤◌, false, List, [], ◌∷◌, ◌++◌, length, map, refl, sym, ap, ◌∙◌, subst, Rules, limits_of, Module, State, names_of_module, with_names, load, loaded, with_entry, Transition, step, with_module, CellName, AreNames, Hook, Held, HangsOnEach, with_texts, Goal, Shoen, Numbered, own_names, number_of, contents, is_numbered, Program, with_last, Reading, Fits, Account, Means, meaning, task_with, goal_with, shoen_with, texts_of, state_of, NameShelf, AreSmall, AreNumbersOf, control_with, task_clause, awaited_by_task, AreSettled, IsEnabled, of_module, Machine, IsMachine, IsRested, unready, Reschedules, AllSettled, looked_hold, unready_hold, looked_read, settled_alike, CountsWork, IsDraftOf}
+use Rattle.kl1_user_account.proofs.Words.{◌≡◌, ℕ, suc, ◌<◌, false, List, [], ◌∷◌, ◌++◌, map, refl, sym, ap, ◌∙◌, subst, Rules, limits_of, Module, State, names_of_module, with_names, load, loaded, with_entry, Transition, step, with_module, CellName, AreNames, Hook, Held, with_texts, Goal, Shoen, Numbered, own_names, number_of, contents, is_numbered, Program, with_last, Reading, Fits, Account, Means, meaning, goal_with, shoen_with, texts_of, state_of, NameShelf, AreSmall, AreNumbersOf, AreSettled, IsEnabled, of_module, Machine, IsMachine, IsRested, unready, Reschedules, AllSettled, looked_hold, unready_hold, looked_read, settled_alike, IsDraftOf, IsSettled}
 use Rattle.kl1_model.specs.State as model
-use Rattle.kl1_user_account.proofs.Counting.{counts_entry}
-use Rattle.kl1_user_account.proofs.Loads.{read_more, contents_more, still_new, has_no_room, more_entry}
-use Rattle.kl1_user_account.proofs.Machines.{Aside, account_of, program_in, Leaves, left_holds, Began, Ends}
+use Rattle.kl1_user_effects.proofs.Lists.{all_then}
+use Rattle.kl1_user_account.proofs.Counting.{more_entry}
+use Rattle.kl1_user_account.proofs.Loads.{read_more, contents_more, still_new, has_no_room}
+use Rattle.kl1_user_account.proofs.Machines.{Aside, account_of, program_in, Began, noted_counts, Leaves, left_holds, Ends, ends_as}
 
 -- goals are settled by modules of the same contents too
 settled_by : (f : Reading) (hooks : List Hook) (h : Held CellName) (rules : Rules) (ms ns : List Numbered) (ss : List (Shoen CellName)) (gs : List (Goal CellName)) → contents ms ≡ contents ns → AreSettled f hooks h (record { rules = rules; loaded = ms }) ss gs → AreSettled f hooks h (record { rules = rules; loaded = ns }) ss gs
-settled_by f hooks h rules ms ns ss [] e a = tt
-settled_by f hooks h rules ms ns ss (x ∷ gs) e a =
-    let c = control_with (meaning f h) ss x.shoen in
-    let k = task_with (meaning f h) x.task in
-    let H : List Module → Type 0 = λ cs. HangsOnEach hooks x.number (awaited_by_task rules cs c k) in
-    (record { standing = a.0.standing ∙ ap (λ (cs : List Module). task_clause rules cs c k) e; hung = subst H e a.0.hung }, settled_by f hooks h rules ms ns ss gs e a.1)
+settled_by f hooks h rules ms ns ss gs e a =
+    all_then (IsSettled f hooks h (record { rules = rules; loaded = ms }) ss) (IsSettled f hooks h (record { rules = rules; loaded = ns }) ss)
+    (λ x one. record { standing = rw e at one.standing; hung = rw e at one.hung }) gs a
 
 -- an event began, which loads this module: all goals were looked at again, and the module's names were published
 pub record IsLoaded (e : Began) (source : List ℕ) (d : Numbered) (r : Machine) (names : NameShelf) (row : List CellName) : Type 0 where
@@ -79,10 +77,11 @@ module _ (e : Began) (source : List ℕ) (d : Numbered) (r : Machine) (names : N
       ∙ ap (λ (h : Held CellName). state_of f (A h)) (sym p.looks.held)
       ∙ ap (λ (z : Machine). state_of f (account_of y (record z { names = names }))) (sym p.looks.rest)
 
-  steps : (f : Reading) → step (state_of f (account_of x b)) (load source) ≡ record { state = state_of f (account_of y n); reply = loaded d.content.name }
+  steps : (f : Reading) → step (state_of f e.account) (load source) ≡ record { state = state_of f (account_of y n); reply = loaded d.content.name }
   steps f =
       let R : State → Transition = λ z. record { state = z; reply = loaded d.content.name } in
-      draft.loads (state_of f (account_of x b))
+      ap (λ (a : Account). step (state_of f a) (load source)) (sym e.is)
+      ∙ draft.loads (state_of f (account_of x b))
       ∙ draft.draft.loads (state_of f (account_of x b)) (record { modules_are = refl; names_are = refl; full_is = refl })
       ∙ ap R (state f)
 
@@ -117,27 +116,18 @@ module _ (e : Began) (source : List ℕ) (d : Numbered) (r : Machine) (names : N
         enabled = unready_hold (IsEnabled b.shoens.shoens b.shoens.work) (λ g o q. q) r.goals.goals b.goals.goals p.flags k.enabled;
       }
 
-  left : Leaves y n
+  left : Leaves e (λ s. (step s (load source)).state) y n
   left =
       let R : Machine → Type 0 = λ z. IsRested (program_in y z) (record z { names = names }) in
-      let M : Machine → Type 0 = λ z. suc x.entries ≤ (limits_of z.rules).entries in
-      let C : Machine → Type 0 = λ z. CountsWork (length z.shoens.work) (suc x.entries) 0 in
       record {
         rested = subst R (sym p.looks.rest) rested;
-        most = subst M (sym p.looks.rest) (more_entry x.entries (limits_of b.rules).entries draft.draft.room);
+        rules = ap (λ (z : Machine). z.rules) p.looks.rest;
+        most = more_entry x.entries (limits_of b.rules).entries draft.draft.room;
         small = p.small;
-        named = λ f g one two.
-            ap (λ (t : Transition). t.state) (sym (steps f))
-            ∙ ap (λ (s : State). (step s (load source)).state) (e.holds.0.named f g (fits f one) (fits g two))
-            ∙ ap (λ (t : Transition). t.state) (steps g);
-        counts = subst C (sym p.looks.rest) (counts_entry (length b.shoens.work) x.entries x.run e.holds.1);
+        fits = fits;
+        states = λ f fit. ap (λ (t : Transition). t.state) (steps f);
+        counts = noted_counts e n (ap (λ (z : Machine). z.shoens.work) p.looks.rest);
       }
 
   pub loaded_ends : (z : Aside) → z ≡ y → Ends e.account (λ s t. step s (load source) ≡ record { state = t; reply = loaded d.content.name }) z n
-  loaded_ends z beside = record {
-    holds = left_holds z y n beside left;
-    states = λ f fit.
-        ap (λ (a : Account). step (state_of f a) (load source)) (sym e.is)
-        ∙ steps f
-        ∙ ap (λ (k : Aside). let t : Transition = record { state = state_of f (account_of k n); reply = loaded d.content.name } in t) (sym beside);
-  }
+  loaded_ends z beside = ends_as beside (record { holds = left_holds e _ y n left; states = λ f fit. steps f })

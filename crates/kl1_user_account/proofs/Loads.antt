@@ -1,6 +1,7 @@
 -- Loads, by the definition of the step.
-use Rattle.kl1_user_account.proofs.Words.{◌≡◌, ℕ, ◌<◌, ◌≤◌, suc, Bool, true, false, List, [], ◌∷◌, ◌++◌, length, not, refl, sym, ap, ap₂, ◌∙◌, subst, arith, nat_lt, is_some, le-leb, lt-ltb, ltb-true, ltb-false, map-append, MOST_NAMES, MOST_MODULES, MOST_SOURCE_BYTES, Module, read_module, good, module_of, State, names_of_module, with_names, limits_of, Transition, load, loaded, unless, are_too_many, is_full, exists, too_many_names, limit_passed, journal_full, with_entry, step, load_module, with_module, Reads, AtomNo, CellName, Known, AreNames, reading, text_or_mark, is_reading, with_texts, Numbered, own_names, number_of, IsRead, AreRead, contents, is_numbered, TellsModule, number_reads, Loading, Refused, Drafted, Reading, Fits, built, Account, texts_of, state_of, ReadsDraft, AreNumbersOf, HasModules, IsDraft, IsDraftOf, LoadsAs, StandsIn, of_module}
+use Rattle.kl1_user_account.proofs.Words.{◌≡◌, ℕ, ◌<◌, ◌≤◌, Bool, true, false, List, [], ◌∷◌, ◌++◌, length, not, sym, ap, ap₂, ◌∙◌, nat_lt, is_some, le-leb, lt-ltb, ltb-false, map-append, MOST_NAMES, MOST_MODULES, MOST_SOURCE_BYTES, Module, read_module, good, module_of, State, names_of_module, with_names, limits_of, Transition, load, loaded, unless, are_too_many, is_full, exists, too_many_names, limit_passed, journal_full, with_entry, step, load_module, with_module, CellName, Known, AreNames, with_texts, Numbered, own_names, number_of, IsRead, AreRead, contents, is_numbered, TellsModule, number_reads, Loading, Refused, Drafted, Reading, Fits, Account, texts_of, state_of, ReadsDraft, AreNumbersOf, HasModules, IsDraft, IsDraftOf, LoadsAs, StandsIn, of_module, length-map}
 use Rattle.kl1_codes.proofs.Shelving.{tells}
+use Rattle.kl1_user_effects.specs.Fitting.{reading_of, reading_fits}
 use Rattle.kl1_user_account.proofs.StartSteps.{many_is}
 
 -- ---- whether a drafted module may be loaded
@@ -10,11 +11,6 @@ pub tells_name : (ms : List Numbered) (names : List Known) (d : Numbered) (n : C
 tells_name ms names d n b r rows is t =
     let f = r.reading in
     sym (t f r.fits.reads (rows f r.fits) ∙ ap (λ x. is_some (module_of (contents ms) x)) (ap f is ∙ number_reads f r.fits.reads d r.reads))
-
--- modules are as many as their contents
-modules_count : (ms : List Numbered) → length (contents ms) ≡ length ms
-modules_count [] = refl
-modules_count (m ∷ ms) = ap suc (modules_count ms)
 
 -- what comes of a module, by whether one of its name is there, its names are too many, there is room for it, and the journal is full
 pub load_by : (ms : List Numbered) (names : List Known) (full : Bool) (m : Module) (there many room blocked : Bool) → is_some (module_of (contents ms) m.name) ≡ there → nat_lt MOST_NAMES (length (with_texts (texts_of names) (own_names m))) ≡ many → nat_lt (length ms) MOST_MODULES ≡ room → full ≡ blocked →
@@ -26,7 +22,7 @@ load_by ms names full m there many room blocked absent few less free = λ s at.
     let mine = names_of_module m in
     ap (λ (xs : List Module). U (is_some (module_of xs m.name)) (with_names s.names mine) (nat_lt (length xs) MOST_MODULES) (is_full s)) at.modules_are
     ∙ ap (λ (ns : List (List ℕ)). U (is_some (module_of (contents ms) m.name)) (with_names ns mine) (nat_lt (length (contents ms)) MOST_MODULES) (is_full s)) at.names_are
-    ∙ ap₂ (λ p r. U p (with_names (texts_of names) mine) r (is_full s)) absent (ap (λ n. nat_lt n MOST_MODULES) (modules_count ms) ∙ less)
+    ∙ ap₂ (λ p r. U p (with_names (texts_of names) mine) r (is_full s)) absent (ap (λ n. nat_lt n MOST_MODULES) (length-map ms (λ (l : Numbered). l.content)) ∙ less)
     ∙ ap (U there (with_names (texts_of names) mine) room) (at.full_is ∙ free)
     ∙ ap V (ap are_too_many (sym (of_module (texts_of names) m)) ∙ many_is (length (with_texts (texts_of names) (own_names m))) ∙ few)
 
@@ -55,9 +51,7 @@ same_parts x m n row own place is content rows = rw (content, rows) is
 
 -- a module is drafted for a source that is read as it, if it is one that may be loaded
 pub drafted_is : (ms : List Numbered) (names : List Known) (full : Bool) (text : List ℕ) (x d : Numbered) → length text ≤ MOST_SOURCE_BYTES → read_module text ≡ good d.content → x ≡ d → IsDraft ms names full d → IsDraftOf ms names full text x
-drafted_is ms names full text x d few read is draft =
-    let P : Numbered → Type 0 = λ y. IsDraftOf ms names full text y in
-    subst P (sym is) (record { draft = draft; loads = load_good text d.content few read })
+drafted_is ms names full text x d few read is draft = rw is (record { draft = draft; loads = load_good text d.content few read })
 
 -- ---- modules and readings
 
@@ -69,24 +63,14 @@ read_more f (m ∷ ms) d a r = (a.0, read_more f ms d a.1 r)
 pub contents_more : (ms : List Numbered) (d : Numbered) → contents (ms ++ d ∷ []) ≡ contents ms ++ d.content ∷ []
 contents_more ms d = map-append (λ l. l.content) ms (d ∷ [])
 
--- there is a reading that fits names
-pub some_reading : (ks : List Known) → AreNames ks → (f : Reading) × Fits ks f
-some_reading ks names =
-    let as_atom : CellName → AtomNo = λ c. record { number = c.number } in
-    let as_cell : AtomNo → CellName = λ a. record { number = a.number } in
-    let f : Reading = λ c. reading 1 ks (as_atom c) in
-    let r = is_reading 1 ks (omega arith) names in
-    let reads : Reads built f = record { once = λ a b e. ap as_cell (r.once (as_atom a) (as_atom b) e); texts = λ b. r.texts b } in
-    (f, record { reads = reads; texts = λ t n e. ap (text_or_mark 1 n) (names.back t n e) })
-
 -- under the numbers that its names got, a drafted module is still none of those that are there
 pub still_new : (ms : List Numbered) (ks : List Known) (d : Numbered) (row : List CellName) → AreNames ks → ((f : Reading) → Fits ks f → AreRead f ms) → AreNumbersOf ks (own_names d.content) row → is_some (module_of (contents ms) d.content.name) ≡ false → is_numbered ms (number_of (record d { row = row })) ≡ false
 still_new ms ks d row names rows numbers absent =
-    let r = some_reading ks names in
-    let f = r.0 in
+    let f = reading_of ks in
+    let fits = reading_fits ks names in
     let e : Numbered = record d { row = row } in
-    tells ms (number_of e) f r.1.reads (rows f r.1)
-    ∙ (ap (λ n. is_some (module_of (contents ms) n)) (number_reads f r.1.reads e (numbers f r.1)) ∙ absent)
+    tells ms (number_of e) f fits.reads (rows f fits)
+    ∙ (ap (λ n. is_some (module_of (contents ms) n)) (number_reads f fits.reads e (numbers f fits)) ∙ absent)
 
 -- ---- loads that are refused
 
@@ -94,20 +78,6 @@ still_new ms ks d row names rows numbers absent =
 abbrev pub has_no_room : Account → Bool
 has_no_room a = not (nat_lt a.entries (limits_of a.rules).entries)
 
--- if it has, there may be one entry more
-pub more_entry : (entries most : ℕ) → not (nat_lt entries most) ≡ false → suc entries ≤ most
-more_entry entries most = by (nat_lt entries most) refl
-  where
-    by : (b : Bool) → nat_lt entries most ≡ b → not b ≡ false → suc entries ≤ most
-    by true e r = ltb-true entries most e
-    by false e r = absurd (cc)
-
--- its code stands where the loading says
-pub stands_at : {C R : Type 0} (has : ℕ × ℕ → Type 0) (l : Loading C R) (d : Numbered) → StandsIn has l → l ≡ Drafted d → has d.place
-stands_at {C} {R} has l d is e = let P : Loading C R → Type 0 = λ x. StandsIn has x in subst P e is
-
 -- what comes of a source, as was found of an account by what it keeps and whether its journal is full
 pub loads_by : {C R : Type 0} (a b : Account) (full : Bool) (source : List ℕ) (l k : Loading C R) → a ≡ b → ((f : Reading) → full ≡ is_full (state_of f b)) → LoadsAs a.modules a.names full source l → l ≡ k → LoadsAs b.modules b.names (has_no_room b) source k
-loads_by {C} {R} a b full source l k view is loads e =
-    let L : Account → Bool → Loading C R → Type 0 = λ z v x. LoadsAs z.modules z.names v source x in
-    subst (L b (has_no_room b)) e (subst (λ v. L b v l) (is (λ c. [])) (subst (λ z. L z full l) view loads))
+loads_by a b full source l k view is loads e = rw (view, is (λ c. []), e) at loads

@@ -1,5 +1,5 @@
 -- An account and its machine: what always holds of the one, and what holds of the other between events.
-use Rattle.kl1_user_account.proofs.Words.{◌≡◌, ℕ, suc, ◌≤◌, false, List, [], length, refl, sym, ap, ◌∙◌, subst, Rules, limits_of, State, point_of, Known, Numbered, Program, Reading, Fits, Account, texts_of, state_of, NameShelf, AreSmall, names_with, worked, Machine, made, IsBegun, IsRested, ReadsAlike, Inside, IsKept, CountsWork}
+use Rattle.kl1_user_account.proofs.Words.{◌≡◌, ℕ, suc, ◌≤◌, false, List, [], length, refl, sym, ap, ◌∙◌, subst, Rules, limits_of, State, point_of, Known, Numbered, Program, Reading, Fits, Account, texts_of, state_of, NameShelf, AreSmall, names_with, worked, Machine, made, IsBegun, IsRested, ReadsAlike, Inside, IsKept, CountsWork, arith}
 use Rattle.std.proofs.Common.{Option, None}
 
 -- what an account has besides its machine
@@ -51,56 +51,10 @@ state_is f x m none = ap (λ (o : Option (List ℕ)). worked f (state_aside x m)
 abbrev pub Holds : Aside → Machine → Type 0
 Holds x m = IsKept (account_of x m) m.store.hooks m.goals.shoens m.goals.last × CountsWork (length m.shoens.work) x.entries x.run
 
--- the machine of an account rests
-pub kept_rested : (x : Aside) (m : Machine) → Holds x m → IsRested (program_in x m) m
-kept_rested x m h =
-    let k = h.0 in
-    record {
-      machine = record { inside = record { some = k.some; goals = k.goals; shoens = k.shoens; owned = k.owned }; last = k.last; placed = k.placed; known = k.count };
-      rules = refl;
-      first = k.first;
-      rows = k.rows;
-      settled = k.settled;
-      enabled = k.enabled;
-    }
-
 -- readings of the names read the same of it
 pub kept_alike : (x : Aside) (m : Machine) → Holds x m → ReadsAlike m
 kept_alike x m h = λ f g one two s.
     ap (λ (z : State). let y : State = record (worked f s m.store.held (made m)) { goals = z.goals; shoens = z.shoens } in y) (h.0.named f g one two)
-
--- what an event has left of an account whose machine rests: readings of its names read the same, and its journal has room and counts
-pub record Leaves (y : Aside) (m : Machine) : Type 0 where
-  pub rested : IsRested (program_in y m) m
-  pub most : y.entries ≤ (limits_of m.rules).entries
-  pub small : AreSmall m.names.names
-  pub named : (f g : Reading) → Fits m.names.names f → Fits m.names.names g → state_of f (account_of y m) ≡ state_of g (account_of y m)
-  pub counts : CountsWork (length m.shoens.work) y.entries y.run
-
--- what always holds holds of it, by whatever name what is beside the machine goes
-pub left_holds : (x y : Aside) (m : Machine) → x ≡ y → Leaves y m → Holds x m
-left_holds x y m same l =
-    let r = l.rested in
-    let H : Aside → Type 0 = λ z. Holds z m in
-    subst H (sym same) (
-      record {
-        some = r.machine.inside.some;
-        goals = r.machine.inside.goals;
-        owned = r.machine.inside.owned;
-        shoens = r.machine.inside.shoens;
-        count = r.machine.known;
-        first = r.first;
-        last = r.machine.last;
-        placed = r.machine.placed;
-        most = l.most;
-        settled = r.settled;
-        enabled = r.enabled;
-        rows = r.rows;
-        named = l.named;
-        small = l.small;
-      },
-      l.counts,
-    )
 
 -- ---- an event that begins
 
@@ -145,11 +99,24 @@ began x m b names a program same is begun view lent h =
 
 -- the machine rests by the modules that are lent
 pub began_rested : (e : Began) → IsRested e.program e.machine
-began_rested e = subst (λ (p : Program). IsRested p e.machine) (sym e.lent) (kept_rested e.aside e.machine e.holds)
+began_rested e =
+    let k = e.holds.0 in
+    subst (λ (p : Program). IsRested p e.machine) (sym e.lent) (record {
+      machine = record { inside = record { some = k.some; goals = k.goals; shoens = k.shoens; owned = k.owned }; last = k.last; placed = k.placed; known = k.count };
+      rules = refl;
+      first = k.first;
+      rows = k.rows;
+      settled = k.settled;
+      enabled = k.enabled;
+    })
 
 -- the state is what the machine makes of what is beside it
 pub began_state : (e : Began) (f : Reading) → state_of f e.account ≡ worked f (state_aside e.aside e.machine) e.machine.store.held (made e.machine)
 began_state e f = ap (state_of f) (sym e.is) ∙ state_is f e.aside e.machine e.begun.name
+
+-- all readings of its names read the same state
+began_named : (e : Began) (f g : Reading) → Fits e.machine.names.names f → Fits e.machine.names.names g → state_of f e.account ≡ state_of g e.account
+began_named e f g one two = let S : Account → Type 0 = λ a. state_of f a ≡ state_of g a in subst S e.is (e.holds.0.named f g one two)
 
 -- ---- an event that ends
 
@@ -166,7 +133,51 @@ rested_after e v r =
 abbrev pub noted : Aside → Aside
 noted x = record x { entries = suc x.entries; run = 0 }
 
+-- the journal counts it, if no reduction was charged
+pub noted_counts : (e : Began) (v : Machine) → v.shoens.work ≡ e.machine.shoens.work → CountsWork (length v.shoens.work) (suc e.aside.entries) 0
+noted_counts e v same =
+    let all = e.holds.1.all in
+    rw same (record { longest = omega arith; all = omega (arith, all); last = λ lt. absurd (omega (arith, lt)) })
+
+-- an event has left an account with a machine that rests, whose state is what this change makes of the state that was, for each reading of the
+-- names that there are now, and whose journal has room and counts
+pub record Leaves (e : Began) (change : State → State) (y : Aside) (v : Machine) : Type 0 where
+  pub rested : IsRested (program_in y v) v
+  pub rules : v.rules ≡ e.machine.rules
+  pub most : y.entries ≤ (limits_of e.machine.rules).entries
+  pub small : AreSmall v.names.names
+  pub fits : (f : Reading) → Fits v.names.names f → Fits e.machine.names.names f
+  pub states : (f : Reading) → Fits v.names.names f → change (state_of f e.account) ≡ state_of f (account_of y v)
+  pub counts : CountsWork (length v.shoens.work) y.entries y.run
+
+-- what always holds holds of it: all readings read the same, since they did so before
+pub left_holds : (e : Began) (change : State → State) (y : Aside) (v : Machine) → Leaves e change y v → Holds y v
+left_holds e change y v l =
+    let r = l.rested in (
+      record {
+        some = r.machine.inside.some;
+        goals = r.machine.inside.goals;
+        owned = r.machine.inside.owned;
+        shoens = r.machine.inside.shoens;
+        count = r.machine.known;
+        first = r.first;
+        last = r.machine.last;
+        placed = r.machine.placed;
+        most = rw l.rules l.most;
+        settled = r.settled;
+        enabled = r.enabled;
+        rows = r.rows;
+        named = λ f g one two. sym (l.states f one) ∙ ap change (began_named e f g (l.fits f one) (l.fits g two)) ∙ l.states g two;
+        small = l.small;
+      },
+      l.counts,
+    )
+
 -- an event has left an account with machine `v`, by states of which this is so
 pub record Ends (a : Account) (Steps : State → State → Type 0) (y : Aside) (v : Machine) : Type 0 where
   pub holds : Holds y v
   pub states : (f : Reading) → Fits v.names.names f → Steps (state_of f a) (state_of f (account_of y v))
+
+-- by whatever name what is beside the machine goes
+pub ends_as : {a : Account} {Steps : State → State → Type 0} {x y : Aside} {v : Machine} → x ≡ y → Ends a Steps y v → Ends a Steps x v
+ends_as {a} {Steps} {x} {y} {v} same e = let E : Aside → Type 0 = λ z. Ends a Steps z v in subst E (sym same) e

@@ -1,9 +1,8 @@
 -- A message to a shoen of an account, which its machine is sent.
-use Rattle.kl1_user_account.proofs.Words.{◌≡◌, ℕ, suc, ◌≤◌, List, length, refl, sym, ap, ◌∙◌, subst, arith, Message, control, sent, refused, Transition, limits_of, State, step, Reads, Refusal, refusal_of, Reading, Fits, built, Account, state_of, NameShelf, AreSmall, Machine, Trail, Keeps, Sends, IsRefusedMessage, refused_as, CountsWork}
-use Rattle.kl1_user_account.proofs.Counting.{counts_entry}
-use Rattle.kl1_user_account.proofs.Machines.{Aside, account_of, state_aside, state_is, Holds, Leaves, left_holds, Began, began_state, rules_after, rested_after, noted}
+use Rattle.kl1_user_account.proofs.Words.{◌≡◌, ℕ, refl, sym, ap, ◌∙◌, subst, arith, Message, control, sent, refused, Transition, State, step, Reads, Refusal, refusal_of, Reading, Fits, built, state_of, NameShelf, AreSmall, Machine, Trail, Keeps, Sends, IsRefusedMessage, refused_as}
+use Rattle.kl1_user_account.proofs.Machines.{Aside, account_of, state_aside, state_is, Began, began_state, rules_after, rested_after, noted, noted_counts, Holds, Leaves, left_holds}
 
-module _ (e : Began) (n : ℕ) (message : Message) (u : Machine) (y : Aside) (s : Sends e.program e.aside.entries n message e.machine u) (keeps : Keeps e.machine u) (beside : y ≡ noted e.aside) where
+module _ (e : Began) (n : ℕ) (message : Message) (u : Machine) (s : Sends e.program e.aside.entries n message e.machine u) (keeps : Keeps e.machine u) where
   abbrev m : Machine
   m = e.machine
 
@@ -18,29 +17,23 @@ module _ (e : Began) (n : ℕ) (message : Message) (u : Machine) (y : Aside) (s 
       ∙ s.steps f reads (state_aside e.aside m) refl
       ∙ ap T (sym (state_is f z u (s.named.name ∙ e.begun.name)))
 
-  -- what always holds of the account after it
-  left : Leaves z u
+  -- what it has left of the account
+  left : Leaves e (λ t. (step t (control n message)).state) z u
   left =
       let names : u.names ≡ m.names = ap (λ (t : Trail). t.names) keeps.trail in
-      let S : NameShelf → Type 0 = λ k. AreSmall k.names in
-      let F : Reading → NameShelf → Type 0 = λ f k. Fits k.names f in
-      let T : Transition → State = λ t. t.state in
-      let j = s.journal in
+      let journal = s.journal in
       record {
         rested = rested_after e u s.rested;
-        most = subst (λ r. suc e.aside.entries ≤ (limits_of r).entries) (sym (rules_after e u s.rested)) (omega (arith, j));
-        small = subst S (sym names) e.holds.0.small;
-        named = λ f g one two.
-            ap T (sym (steps f one.reads))
-            ∙ ap (λ (a : Account). (step (state_of f a) (control n message)).state) (sym e.is)
-            ∙ ap (λ (t : State). (step t (control n message)).state) (e.holds.0.named f g (subst (F f) names one) (subst (F g) names two))
-            ∙ ap (λ (a : Account). (step (state_of g a) (control n message)).state) e.is
-            ∙ ap T (steps g two.reads);
-        counts = subst (λ (ws : List ℕ). CountsWork (length ws) (suc e.aside.entries) 0) (sym s.work) (counts_entry (length m.shoens.work) e.aside.entries e.aside.run e.holds.1);
+        rules = rules_after e u s.rested;
+        most = omega (arith, journal);
+        small = rw names e.holds.0.small;
+        fits = λ f fits. rw names at fits;
+        states = λ f fits. ap (λ (t : Transition). t.state) (steps f fits.reads);
+        counts = noted_counts e u s.work;
       }
 
-  pub sent_ends : Holds y u × ((f : Reading) → Reads built f → step (state_of f e.account) (control n message) ≡ record { state = state_of f (account_of y u); reply = sent })
-  sent_ends = (left_holds y z u beside left, λ f reads. steps f reads ∙ ap (λ (k : Aside). let t : Transition = record { state = state_of f (account_of k u); reply = sent } in t) (sym beside))
+  pub sent_ends : (y : Aside) → y ≡ z → Holds y u × ((f : Reading) → Reads built f → step (state_of f e.account) (control n message) ≡ record { state = state_of f (account_of y u); reply = sent })
+  sent_ends y beside = rw beside (left_holds e _ z u left, steps)
 
 -- the step is refused
 pub refused_message : (e : Began) (u : Machine) (n : ℕ) (message : Message) (r : Refusal) → IsRefusedMessage e.aside.entries n message e.machine u r → (f : Reading) →

@@ -1,6 +1,6 @@
 -- What the console keeps of a shoen.
 use Rattle.kl1_user_account.proofs.Words.{◌≡◌, ℕ, refl, sym, ap, ◌∙◌, Option, Some, None, option_map, option_and_then, find, State, origin_at, CellName, Origin, Shoen, Reading, Account, meaning, origin_with, shoen_with, state_of, kept_at, found_in}
-use Rattle.kl1_model.specs.State as model
+use Rattle.std.proofs.lemmas.Option.{same_Some}
 use Rattle.kl1_shoen.specs.Shoens.{has_number}
 
 -- what is kept of a shoen in the state that an account is
@@ -14,8 +14,5 @@ origin_is f a n o e = ap (λ h. option_and_then (λ k. k.origin) h) (found_in (m
 -- readings that agree on an account agree on what is kept
 pub origin_named : (f g : Reading) (a : Account) (n : ℕ) (o : Origin CellName) → kept_at n a.shoens ≡ Some o → state_of f a ≡ state_of g a → origin_with (meaning f a.held) o ≡ origin_with (meaning g a.held) o
 origin_named f g a n o e same =
-    some_same (origin_with (meaning f a.held) o) (origin_with (meaning g a.held) o)
+    same_Some (origin_with (meaning f a.held) o) (origin_with (meaning g a.held) o)
     (sym (origin_is f a n (Some o) e) ∙ ap (λ (s : State). origin_at n s.shoens) same ∙ origin_is g a n (Some o) e)
-  where
-    some_same : (x y : model.Origin) → Some x ≡ Some y → x ≡ y
-    some_same x y e = cc

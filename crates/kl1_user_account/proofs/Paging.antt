@@ -1,11 +1,15 @@
 -- What is shown of shoens and goals, one after another from a number on.
-use Rattle.kl1_user_account.proofs.Words.{◌≡◌, ◌⊎◌, inl, inr, ℕ, zero, suc, ◌+◌, ◌-◌, ◌<◌, ◌≤◌, nat_lt, Bool, true, false, if◌then◌else◌, List, [], ◌∷◌, ◌++◌, map, take, drop, refl, sym, ap, ap₂, subst, ◌∙◌, arith, append_assoc, append-nil, Some, None, filter, find, slice_get, is_some, AllByRecursion, cases_lt, lt-ltb, le-ltb, le-leb, lt-leb, take-map, drop_more, drop_all, slice_get_within, get_or_from_slice_get, nat_tests, State, CellName, Hook, Task, Monitor, Reduces, Substitutes, Goal, is_after, Ascend, Shoen, found_at, AreNumbered, ShoenView, TaskKind, GoalView, shoen_view, shoen_page, kind_of, goal_view, goal_page, Reading, Fits, Account, Means, meaning, task_with, goal_with, shoen_with, state_of, IsKept, shoen_shown, kind_shown, goal_shown, same_goal}
+use Rattle.kl1_user_account.proofs.Words.{◌≡◌, ◌⊎◌, inl, inr, ℕ, zero, suc, ◌+◌, ◌-◌, ◌<◌, ◌≤◌, nat_lt, Bool, true, false, if◌then◌else◌, List, [], ◌∷◌, ◌++◌, map, take, drop, refl, sym, ap, ap₂, subst, ◌∙◌, arith, append_assoc, append-nil, Some, None, filter, find, slice_get, is_some, AllByRecursion, cases_lt, lt-ltb, le-ltb, le-leb, lt-leb, take-map, drop_more, drop_all, slice_get_within, get_or_from_slice_get, nat_tests, State, CellName, Hook, Task, Monitor, Reduces, Substitutes, Goal, is_after, Ascend, Shoen, found_at, AreNumbered, ShoenView, TaskKind, GoalView, shoen_view, shoen_page, kind_of, goal_view, goal_page, Reading, Fits, Account, Means, meaning, task_with, goal_with, shoen_with, state_of, IsKept, shoen_shown, kind_shown, goal_shown, same_goal, none-some, slice_get_cases, cases_Bool}
 use Rattle.std.proofs.Common.{nat_le}
+use Rattle.std.proofs.Math.Seq.{take-nil}
+use Rattle.std.proofs.lemmas.Simd.{map-map}
 use Rattle.kl1_model.specs.State as model
 use Rattle.kl1_goals.specs.Lists.{number_of}
+use Rattle.kl1_goals.proofs.Ranking.{stands_is}
 use Rattle.kl1_shoen.specs.Shoens.{has_number}
+use Rattle.kl1_user_effects.proofs.Lists.{filter_by, filter_each, all_of, all_then, all_filter}
 use Rattle.kl1_user_account.proofs.Statuses.{shoen_read}
-use Rattle.kl1_user_account.proofs.Choosing.{AreStanding, IsStanding, stands_is, all_stand}
+use Rattle.kl1_user_account.proofs.Choosing.{IsStanding, all_stand}
 
 -- ---- one more of a list
 
@@ -20,13 +24,9 @@ one_more f shown after all (suc left) x xs ys some e is more =
     ∙ ap (λ (zs : List _). shown ++ map f (take (suc left) zs)) (sym e)
     ∙ is
 
-take_nil : {A : Type 0} (n : ℕ) → ◌≡◌ {A = List A} (take n []) []
-take_nil zero = refl
-take_nil (suc n) = refl
-
 -- nothing is left
 pub no_more : {A B : Type 0} (f : A → B) (shown all : List B) (left : ℕ) (ys : List A) → ys ≡ [] → shown ++ map f (take left ys) ≡ all → shown ≡ all
-no_more f shown all left ys none is = sym (append-nil shown) ∙ ap (λ (zs : List _). shown ++ map f zs) (sym (ap (take left) none ∙ take_nil left)) ∙ is
+no_more f shown all left ys none is = sym (append-nil shown) ∙ ap (λ (zs : List _). shown ++ map f zs) (sym (ap (take left) none ∙ take-nil left)) ∙ is
 
 -- ---- goals after a number
 
@@ -67,11 +67,7 @@ first_after n low (h ∷ gs) g up less e = by_case (cases_lt n h.number) e (firs
 -- if none is found, none passes
 pub none_pass : {A : Type 0} (p : A → Bool) (xs : List A) → None ≡ find p xs → filter p xs ≡ []
 none_pass p [] e = refl
-none_pass p (x ∷ xs) e = by_case (p x) e (none_pass p xs)
-  where
-    by_case : (b : Bool) → None ≡ (if b then Some x else find p xs) → (None ≡ find p xs → filter p xs ≡ []) → (if b then x ∷ filter p xs else filter p xs) ≡ []
-    by_case true k later = absurd (cc)
-    by_case false k later = later k
+none_pass p (x ∷ xs) e = elim (cases_Bool (p x)) [ inl y ↦ absurd (none-some x (rw y at e)) | inr y ↦ rw y (none_pass p xs (rw y at e)) ]
 
 -- ---- shoens from a number on
 
@@ -86,92 +82,79 @@ first_shoen ss n h up e =
 pub no_shoen : (ss : List (Shoen CellName)) (n : ℕ) → AreNumbered 0 ss → None ≡ find (has_number (n + 1)) ss → drop n ss ≡ []
 no_shoen ss n up e =
     let P : ℕ → Type 0 = λ k. slice_get ss k ≡ None in
-    after ss n (subst P (omega arith) (sym (found_at (n + 1) ss up (omega arith)) ∙ sym e))
-  where
-    after : (hs : List (Shoen CellName)) (k : ℕ) → slice_get hs k ≡ None → drop k hs ≡ []
-    after [] zero e = refl
-    after [] (suc k) e = refl
-    after (h ∷ hs) zero e = absurd (cc)
-    after (h ∷ hs) (suc k) e = after hs k e
+    let at = subst P (omega arith) (sym (found_at (n + 1) ss up (omega arith)) ∙ sym e) in
+    elim (slice_get_cases ss n).1 [ inl there ↦ absurd (none-some there.0 (sym at ∙ there.2)) | inr past ↦ drop_all n ss past.0 ]
 
 -- ---- what is shown
 
-shoens_read : (f : Reading) (a : Account) (from last : ℕ) (ss : List (Shoen CellName)) → AreNumbered last ss →
-    map (shoen_view (state_of f a)) (filter (λ (h : model.Shoen). nat_le from h.number) (map (shoen_with (meaning f a.held)) ss)) ≡ map (shoen_shown a.shoens a.work a.goals) (drop (from - 1 - last) ss)
-shoens_read f a from last [] up = sym (ap (map (shoen_shown a.shoens a.work a.goals)) (drop_all (from - 1 - last) [] (omega arith)))
-shoens_read f a from last (h ∷ ss) up = by_case (cases_lt (suc last) from) (shoens_read f a from (suc last) ss up.1)
+-- what is the same for each element is the same for the list
+shown_each : {A V : Type 0} (f g : A → V) (xs : List A) → AllByRecursion (λ x. f x ≡ g x) xs → map f xs ≡ map g xs
+shown_each f g [] e = refl
+shown_each f g (x ∷ xs) e = ap₂ (λ v vs. v ∷ vs) e.0 (shown_each f g xs e.1)
+
+-- a page of elements as they are read is shown as the page of those that are kept
+page_shown : {A B V : Type 0} (k : A → B) (view : B → V) (shown : A → V) (p : B → Bool) (xs ys : List A) (count : ℕ) → filter p (map k xs) ≡ map k ys → AllByRecursion (λ x. view (k x) ≡ shown x) ys →
+    map view (take count (filter p (map k xs))) ≡ map shown (take count ys)
+page_shown k view shown p xs ys count is each =
+    ap (λ (zs : List _). map view (take count zs)) is
+    ∙ sym (take-map view count (map k ys))
+    ∙ ap (take count) (map-map view k ys ∙ shown_each (λ x. view (k x)) shown ys each)
+    ∙ take-map shown count ys
+
+-- shoens from a number on are those after the others
+numbered_from : (from last : ℕ) (ss : List (Shoen CellName)) → AreNumbered last ss → filter (λ (h : Shoen CellName). nat_le from h.number) ss ≡ drop (from - 1 - last) ss
+numbered_from from last [] up = sym (drop_all (from - 1 - last) [] (omega arith))
+numbered_from from last (h ∷ ss) up = by_case (cases_lt (suc last) from) (numbered_from from (suc last) ss up.1)
   where
-    view : List model.Shoen → List ShoenView
-    view hs = map (shoen_view (state_of f a)) hs
-
-    kept : ℕ → List (Shoen CellName) → List ShoenView
-    kept n hs = map (shoen_shown a.shoens a.work a.goals) (drop n hs)
-
-    rest : List model.Shoen
-    rest = filter (λ (k : model.Shoen). nat_le from k.number) (map (shoen_with (meaning f a.held)) ss)
-
-    here : model.Shoen
-    here = shoen_with (meaning f a.held) h
+    rest : List (Shoen CellName)
+    rest = filter (λ (k : Shoen CellName). nat_le from k.number) ss
 
     number : h.number ≡ suc last
     number = up.0
 
-    by_case : (suc last < from) ⊎ (from ≤ suc last) → view rest ≡ kept (from - 1 - suc last) ss → view (if nat_le from h.number then here ∷ rest else rest) ≡ kept (from - 1 - last) (h ∷ ss)
+    by_case : (suc last < from) ⊎ (from ≤ suc last) → rest ≡ drop (from - 1 - suc last) ss → (if nat_le from h.number then h ∷ rest else rest) ≡ drop (from - 1 - last) (h ∷ ss)
     by_case (inl lt) later =
         let one : from - 1 - last ≡ suc (from - 1 - suc last) = omega arith in
-        ap (λ b. view (if b then here ∷ rest else rest)) (lt-leb from h.number (omega (arith, number))) ∙ later ∙ ap (λ n. kept n (h ∷ ss)) (sym one)
+        ap (λ b. if b then h ∷ rest else rest) (lt-leb from h.number (omega (arith, number))) ∙ later ∙ ap (λ n. drop n (h ∷ ss)) (sym one)
     by_case (inr le) later =
         let none : from - 1 - last ≡ 0 = omega arith in
         let beyond : from - 1 - suc last ≡ 0 = omega arith in
-        ap (λ b. view (if b then here ∷ rest else rest)) (le-leb from h.number (omega (arith, number)))
-        ∙ ap₂ (λ (v : ShoenView) (vs : List ShoenView). v ∷ vs) (shoen_read f a h) (later ∙ ap (λ n. kept n ss) beyond)
-        ∙ ap (λ n. kept n (h ∷ ss)) (sym none)
+        ap (λ b. if b then h ∷ rest else rest) (le-leb from h.number (omega (arith, number)))
+        ∙ ap (λ (ks : List (Shoen CellName)). h ∷ ks) (later ∙ ap (λ n. drop n ss) beyond)
+        ∙ ap (λ n. drop n (h ∷ ss)) (sym none)
 
 -- a page of shoens is shown as they are kept
 pub shoens_shown : (f : Reading) (a : Account) (from count : ℕ) (views : List ShoenView) → AreNumbered 0 a.shoens → views ≡ map (shoen_shown a.shoens a.work a.goals) (take count (drop (from - 1) a.shoens)) → views ≡ shoen_page (state_of f a) from count
 shoens_shown f a from count views up e =
+    let k = shoen_with (meaning f a.held) in
+    let shown = shoen_shown a.shoens a.work a.goals in
+    let page = drop (from - 1) a.shoens in
+    let view = shoen_view (state_of f a) in
+    let test = λ (h : model.Shoen). nat_le from h.number in
     let all : from - 1 - 0 ≡ from - 1 = omega arith in
-    e
-    ∙ sym (take-map (shoen_shown a.shoens a.work a.goals) count (drop (from - 1) a.shoens))
-    ∙ ap (λ n. take count (map (shoen_shown a.shoens a.work a.goals) (drop n a.shoens))) (sym all)
-    ∙ ap (take count) (sym (shoens_read f a from 0 a.shoens up))
-    ∙ take-map (shoen_view (state_of f a)) count (filter (λ (h : model.Shoen). nat_le from h.number) (state_of f a).shoens)
+    let is = filter_each k test (λ (h : Shoen CellName). nat_le from h.number) (λ h. refl) a.shoens ∙ ap (map k) (numbered_from from 0 a.shoens up ∙ ap (λ n. drop n a.shoens) all) in
+    e ∙ sym (page_shown k view shown test a.shoens page count is (all_of (λ (h : Shoen CellName). view (k h) ≡ shown h) (shoen_read f a) page))
 
 -- a goal that stands as the definitions have it is shown as it is kept
 goal_read : (s : State) (t : Means) (g : Goal CellName) → IsStanding s t g → goal_view s (goal_with t g) ≡ goal_shown g
 goal_read s t g standing =
-    ap₂ (λ (k : TaskKind) (b : Bool). let v : GoalView = record { number = record { 0 = g.number }; shoen = record { 0 = g.shoen }; priority = g.priority; task = k; can_step = b } in v) (kind_read g.task) (ap is_some standing ∙ stands_is g)
+    ap₂ (λ (k : TaskKind) (b : Bool). let v : GoalView = record { number = record { 0 = g.number }; shoen = record { 0 = g.shoen }; priority = g.priority; task = k; can_step = b } in v) (kind_read g.task) (ap is_some standing ∙ sym (stands_is g))
   where
     kind_read : (k : Task CellName) → kind_of (task_with t k) ≡ kind_shown k
     kind_read Monitor = refl
-    kind_read (Reduces q) = refl
-    kind_read (Substitutes x) = refl
+    kind_read _ = refl
 
 from_after : (from n : ℕ) → 0 < n → nat_le from n ≡ nat_lt (from - 1) n
 from_after from n some = grind (arith, nat_tests)
 
-goals_read : (s : State) (t : Means) (from : ℕ) (gs : List (Goal CellName)) → AreStanding s t gs → AllByRecursion (λ g. 0 < g.number) gs →
-    map (goal_view s) (filter (λ (g : model.Goal). nat_le from g.number) (map (goal_with t) gs)) ≡ map goal_shown (filter (is_after (from - 1)) gs)
-goals_read s t from [] standing some = refl
-goals_read s t from (g ∷ gs) standing some = ap (λ b. view (if b then goal_with t g ∷ rest else rest)) (from_after from g.number some.0) ∙ by_case (nat_lt (from - 1) g.number) (goals_read s t from gs standing.1 some.1)
-  where
-    view : List model.Goal → List GoalView
-    view ks = map (goal_view s) ks
-
-    rest : List model.Goal
-    rest = filter (λ (k : model.Goal). nat_le from k.number) (map (goal_with t) gs)
-
-    kept : List (Goal CellName)
-    kept = filter (is_after (from - 1)) gs
-
-    by_case : (b : Bool) → view rest ≡ map goal_shown kept → view (if b then goal_with t g ∷ rest else rest) ≡ map goal_shown (if b then g ∷ kept else kept)
-    by_case true later = ap₂ (λ (v : GoalView) (vs : List GoalView). v ∷ vs) (goal_read s t g standing.0) later
-    by_case false later = later
-
 -- a page of goals is shown as they are kept
 pub goals_shown : {hooks : List Hook} {known put : ℕ} (f : Reading) (a : Account) (from count : ℕ) (views : List GoalView) → IsKept a hooks known put → Fits a.names f → views ≡ map goal_shown (take count (filter (is_after (from - 1)) a.goals)) → views ≡ goal_page (state_of f a) from count
 goals_shown f a from count views i fits e =
-    e
-    ∙ sym (take-map goal_shown count (filter (is_after (from - 1)) a.goals))
-    ∙ ap (take count) (sym (goals_read (state_of f a) (meaning f a.held) from a.goals (all_stand f a i fits) i.first))
-    ∙ take-map (goal_view (state_of f a)) count (filter (λ (g : model.Goal). nat_le from g.number) (state_of f a).goals)
+    let s = state_of f a in
+    let t = meaning f a.held in
+    let test = λ (g : model.Goal). nat_le from g.number in
+    let page = filter (is_after (from - 1)) a.goals in
+    let tested = all_then (λ (g : Goal CellName). 0 < g.number) (λ g. nat_le from g.number ≡ nat_lt (from - 1) g.number) (λ g. from_after from g.number) a.goals i.first in
+    let standing = all_filter (IsStanding s t) (is_after (from - 1)) a.goals (all_stand f a i fits) in
+    let each = all_then (IsStanding s t) (λ g. goal_view s (goal_with t g) ≡ goal_shown g) (goal_read s t) page standing in
+    e ∙ sym (page_shown (goal_with t) (goal_view s) goal_shown test a.goals page count (filter_by (goal_with t) test (is_after (from - 1)) a.goals tested) each)

@@ -1,68 +1,46 @@
 -- Whether a variable is in the terms of cells on a stack.
-use Rattle.kl1_user_account.proofs.Words.{◌≡◌, ℕ, zero, suc, ◌+◌, ◌-◌, ◌<◌, ◌≤◌, ◌==◌, ◌||◌, Bool, true, false, if◌then◌else◌, List, [], ◌∷◌, ◌++◌, length, take, reverse, refl, sym, ap, subst, ◌∙◌, arith, inl, inr, append_assoc, append-nil, Option, Some, None, codes, list_any, true≢false, length-reverse, list_any-append, list_any_kept, Term, variable, integer, atom, structure, Terms, none, more, occurs, occurs_in, count_of, NodeCode, nodes_of, nodes_of_all, front_of, behind, code_of, with_node, CellName, Cell, Atom, Qualified, Held, AreIn, term_list, term_of-Atom, Presence, Present, Absent, Unknown, is_variable_part, IsLookedAt, IsPresence, Reading, meaning, aim, told_in, Top, node_with, count_at, stacked_terms, Takes, is_variable_top, IsPresenceIn}
-use Rattle.kl1_model.specs.State as model
+use Rattle.kl1_user_account.proofs.Words.{◌≡◌, ℕ, zero, suc, ◌+◌, ◌-◌, ◌<◌, ◌≤◌, ◌==◌, ◌||◌, Bool, true, false, List, [], ◌∷◌, ◌++◌, length, take, reverse, refl, sym, ap, subst, ◌∙◌, arith, inl, inr, append_assoc, append-nil, Option, Some, None, codes, list_any, true≢false, length-reverse, list_any-append, list_any_kept, Term, variable, integer, atom, structure, Terms, none, more, occurs, occurs_in, NodeCode, nodes_of, nodes_of_all, front_of, behind, code_of, with_node, CellName, Cell, Atom, Qualified, Held, AreIn, term_list, term_of-Atom, Presence, Present, Absent, Unknown, is_variable_part, IsLookedAt, IsPresence, Reading, meaning, aim, told_in, Top, node_with, count_at, stacked_terms, Takes, is_variable_top, IsPresenceIn, ap₂, false_from_ne_true}
+use Rattle.std.proofs.Math.Bool.{or-false}
+use Rattle.kl1_match.proofs.TestForms.{front_of_count}
 use Rattle.kl1_user_account.specs.declared.top.Top.TheVariants as top
 
--- what is known of a variable after at most `most` of these parts were looked at
-abbrev pub look : ℕ → List NodeCode → ℕ → Presence
-look v [] most = Absent
-look v (c ∷ cs) zero = Unknown
-look v (c ∷ cs) (suc most) = if is_variable_part v c then Present else look v cs most
+-- whether variable `v` is one of these parts
+abbrev any_part : ℕ → List NodeCode → Bool
+any_part v cs = list_any (is_variable_part v) cs
 
--- the first part is looked at
-look_on : (v : ℕ) (c : NodeCode) (cs : List NodeCode) (left : ℕ) → 0 < left → look v (c ∷ cs) left ≡ (if is_variable_part v c then Present else look v cs (left - 1))
-look_on v c cs zero some = absurd (omega arith)
-look_on v c cs (suc n) some = ap (λ k. if is_variable_part v c then Present else look v cs k) (let less : n ≡ suc n - 1 = omega arith in less)
-
--- no part more may be looked at
-look_ends : (v : ℕ) (cs : List NodeCode) (left : ℕ) → left ≤ 0 → 0 < length cs → look v cs left ≡ Unknown
-look_ends v [] left done some = absurd (omega arith)
-look_ends v (c ∷ cs) zero done some = refl
-look_ends v (c ∷ cs) (suc n) done some = absurd (omega arith)
-
--- what an answer says of these parts
+-- what an answer says of these parts, of which at most `most` are looked at
 abbrev IsKnown : ℕ → ℕ → List NodeCode → Presence → Type 0
-IsKnown v most cs Present = list_any (is_variable_part v) cs ≡ true
-IsKnown v most cs Absent = list_any (is_variable_part v) cs ≡ false
-IsKnown v most cs Unknown = (most < length cs) × (list_any (is_variable_part v) (take most cs) ≡ false)
+IsKnown v most cs Present = any_part v cs ≡ true
+IsKnown v most cs Absent = any_part v cs ≡ false
+IsKnown v most cs Unknown = (most < length cs) × (any_part v (take most cs) ≡ false)
 
-known : (v : ℕ) (cs : List NodeCode) (most : ℕ) → IsKnown v most cs (look v cs most)
-known v [] most = refl
-known v (c ∷ cs) zero = (omega arith, refl)
-known v (c ∷ cs) (suc n) = by_part (is_variable_part v c) (look v cs n) refl (known v cs n)
-  where
-    by_part : (b : Bool) (p : Presence) → is_variable_part v c ≡ b → IsKnown v n cs p → IsKnown v (suc n) (c ∷ cs) (if b then Present else p)
-    by_part true p e k = ap (λ b. b || list_any (is_variable_part v) cs) e
-    by_part false Present e k = ap (λ b. b || list_any (is_variable_part v) cs) e ∙ k
-    by_part false Absent e k = ap (λ b. b || list_any (is_variable_part v) cs) e ∙ k
-    by_part false Unknown e k = let less = k.0 in (omega (arith, less), ap (λ b. b || list_any (is_variable_part v) (take n cs)) e ∙ k.1)
-
-or_false : (b : Bool) → (b || false) ≡ b
-or_false true = refl
-or_false false = refl
+-- it says the same of them and one before them, which isn't the variable
+known_on : (v left : ℕ) (c : NodeCode) (cs : List NodeCode) (p : Presence) → 0 < left → is_variable_part v c ≡ false → IsKnown v (left - 1) cs p → IsKnown v left (c ∷ cs) p
+known_on v left c cs Present some other k = ap (λ b. b || any_part v cs) other ∙ k
+known_on v left c cs Absent some other k = ap (λ b. b || any_part v cs) other ∙ k
+known_on v zero c cs Unknown some other k = absurd (omega arith)
+known_on v (suc n) c cs Unknown some other k =
+    let less = k.0 in
+    let again : n ≡ suc n - 1 = omega arith in
+    (omega (arith, less), ap (λ b. b || any_part v (take n cs)) other ∙ ap (λ i. any_part v (take i cs)) again ∙ k.1)
 
 -- a variable is in a term if it is one of its parts
 mutual
-  occurs_part : (v : ℕ) (t : Term) → occurs v t ≡ list_any (is_variable_part v) (nodes_of t)
-  occurs_part v (variable n) = sym (or_false (v == n))
-  occurs_part v (integer i) = refl
-  occurs_part v (atom a) = refl
+  occurs_part : (v : ℕ) (t : Term) → occurs v t ≡ any_part v (nodes_of t)
+  occurs_part v (variable n) = sym (or-false (v == n))
   occurs_part v (structure f ts) = occurs_parts v ts
+  occurs_part v _ = refl
 
-  occurs_parts : (v : ℕ) (ts : Terms) → occurs_in v ts ≡ list_any (is_variable_part v) (nodes_of_all ts)
+  occurs_parts : (v : ℕ) (ts : Terms) → occurs_in v ts ≡ any_part v (nodes_of_all ts)
   occurs_parts v none = refl
   occurs_parts v (more t ts) =
       ap (λ b. b || occurs_in v ts) (occurs_part v t)
-      ∙ (ap (λ b. list_any (is_variable_part v) (nodes_of t) || b) (occurs_parts v ts) ∙ sym (list_any-append (is_variable_part v) (nodes_of t) (nodes_of_all ts)))
+      ∙ (ap (λ b. any_part v (nodes_of t) || b) (occurs_parts v ts) ∙ sym (list_any-append (is_variable_part v) (nodes_of t) (nodes_of_all ts)))
 
 -- what is known of a term by its parts
-settled : (v most : ℕ) (t : Term) (p : Presence) → look v (nodes_of t) most ≡ p → IsPresence v most (Some t) p
-settled v most t p e = let P : Presence → Type 0 = λ q. IsKnown v most (nodes_of t) q in by_kind p (subst P e (known v (nodes_of t) most))
-  where
-    by_kind : (p : Presence) → IsKnown v most (nodes_of t) p → IsPresence v most (Some t) p
-    by_kind Present k = occurs_part v t ∙ k
-    by_kind Absent k = occurs_part v t ∙ k
-    by_kind Unknown k = record { larger = k.0; without = k.1 }
+settled : (v most : ℕ) (t : Term) (p : Presence) → IsKnown v most (nodes_of t) p → IsPresence v most (Some t) p
+settled v most t Unknown k = record { larger = k.0; without = k.1 }
+settled v most t _ k = occurs_part v t ∙ k
 
 -- the parts of terms, one after another
 abbrev nodes_each : List Term → List NodeCode
@@ -76,32 +54,21 @@ arguments_nodes (suc n) [] le = absurd (omega arith)
 arguments_nodes (suc n) (t ∷ ts) le =
     append_assoc (nodes_of t) (nodes_of_all (front_of n ts)) (nodes_each (behind n ts)) ∙ ap (λ cs. nodes_of t ++ cs) (arguments_nodes n ts (omega arith))
 
-count_front : (n : ℕ) (ts : List Term) → n ≤ length ts → count_of (front_of n ts) ≡ n
-count_front zero ts le = refl
-count_front (suc n) [] le = absurd (omega arith)
-count_front (suc n) (t ∷ ts) le = ap suc (count_front n ts (omega arith))
-
 -- what is at the top is the first part, and the others come after it
 top_nodes : (f : Reading) (t : Top) (ts : List Term) → count_at t ≤ length ts → nodes_each (with_node (node_with f t) ts) ≡ code_of (node_with f t) ∷ nodes_each ts
-top_nodes f (top.Variable n) ts le = refl
-top_nodes f (top.Integer i) ts le = refl
-top_nodes f (top.Atom a) ts le = refl
 top_nodes f (top.Structure a n) ts le =
     let head : ℕ → List NodeCode → List NodeCode = λ k cs. inr (inr (f a, k)) ∷ cs in
-    ap (λ k. head k (nodes_of_all (front_of n ts) ++ nodes_each (behind n ts))) (count_front n ts le) ∙ ap (head n) (arguments_nodes n ts le)
+    ap (λ k. head k (nodes_of_all (front_of n ts) ++ nodes_each (behind n ts))) (front_of_count n ts) ∙ ap (head n) (arguments_nodes n ts le)
+top_nodes f _ ts le = refl
 
 same_variable : (f : Reading) (v : ℕ) (t : Top) → is_variable_part v (code_of (node_with f t)) ≡ is_variable_top v t
 same_variable f v (top.Variable n) = refl
-same_variable f v (top.Integer i) = refl
-same_variable f v (top.Atom a) = refl
-same_variable f v (top.Structure a n) = refl
+same_variable f v _ = refl
 
 some_nodes : (ts : List Term) → 0 < length ts → 0 < length (nodes_each ts)
 some_nodes [] nothing = absurd (omega arith)
-some_nodes (variable n ∷ ts) some = omega arith
-some_nodes (integer i ∷ ts) some = omega arith
-some_nodes (atom a ∷ ts) some = omega arith
 some_nodes (structure f us ∷ ts) some = omega arith
+some_nodes (_ ∷ ts) some = omega arith
 
 length_stacked : (f : Reading) (h : Held CellName) (stack : List (Cell CellName)) → length (stacked_terms f h stack) ≡ length stack
 length_stacked f h stack = length_terms (reverse stack) ∙ length-reverse stack
@@ -118,61 +85,62 @@ taken_nodes f h t before after takes =
     let some = takes.some in
     ap nodes_each (sym (takes.reads f).terms) ∙ top_nodes f t (stacked_terms f h after) (omega (arith, long, count, some))
 
--- what is known of a cell's term is what is known of what is on the stack, of which at most `left` parts are looked at
+-- what is known of what is on the stack, of which at most `left` parts are looked at, is known of a cell's term
 pub record IsLooking (h : Held CellName) (x : Cell CellName) (v most left : ℕ) (stack : List (Cell CellName)) : Type 0 where
   pub inside : AreIn h stack
-  pub looks : (f : Reading) → look v (nodes_of (meaning f h x)) most ≡ look v (nodes_each (stacked_terms f h stack)) left
+  pub looks : (f : Reading) (p : Presence) → IsKnown v left (nodes_each (stacked_terms f h stack)) p → IsKnown v most (nodes_of (meaning f h x)) p
 
 -- the cell alone is on the stack
 pub looking_begins : (h : Held CellName) (x : Cell CellName) (v most : ℕ) (stack : List (Cell CellName)) → AreIn h (x ∷ []) → stack ≡ x ∷ [] → IsLooking h x v most most stack
 looking_begins h x v most stack inside e =
-    let P : List (Cell CellName) → Type 0 = λ xs. IsLooking h x v most most xs in
-    subst P (sym e) (record { inside = inside; looks = λ f. ap (λ cs. look v cs most) (sym (append-nil (nodes_of (meaning f h x)))) })
+    rw e (record {
+      inside = inside;
+      looks = λ f p k. let K : List NodeCode → Type 0 = λ cs. IsKnown v most cs p in subst K (append-nil (nodes_of (meaning f h x))) k;
+    })
 
 -- what is at the top is the first part that is looked at
-first_part : {h : Held CellName} {x : Cell CellName} {v most left : ℕ} {before after : List (Cell CellName)} (f : Reading) (t : Top) (b : Bool) → 0 < left → IsLooking h x v most left before → Takes h t before after → is_variable_top v t ≡ b →
-    look v (nodes_of (meaning f h x)) most ≡ (if b then Present else look v (nodes_each (stacked_terms f h after)) (left - 1))
-first_part {h = h} {v = v} {left = left} {before = before} {after = after} f t b some l takes is =
-    l.looks f
-    ∙ ap (λ cs. look v cs left) (taken_nodes f h t before after takes)
-    ∙ look_on v (code_of (node_with f t)) (nodes_each (stacked_terms f h after)) left some
-    ∙ ap (λ c. if c then Present else look v (nodes_each (stacked_terms f h after)) (left - 1)) (same_variable f v t ∙ is)
+first_part : {h : Held CellName} {x : Cell CellName} {v most left : ℕ} {before after : List (Cell CellName)} (f : Reading) (t : Top) (p : Presence) → IsLooking h x v most left before → Takes h t before after →
+    IsKnown v left (code_of (node_with f t) ∷ nodes_each (stacked_terms f h after)) p → IsKnown v most (nodes_of (meaning f h x)) p
+first_part {h = h} {v = v} {left = left} {before = before} {after = after} f t p l takes k =
+    let K : List NodeCode → Type 0 = λ cs. IsKnown v left cs p in
+    l.looks f p (subst K (sym (taken_nodes f h t before after takes)) k)
 
 -- one part more is looked at
 pub looking_on : {h : Held CellName} {x : Cell CellName} {v most left : ℕ} {before after : List (Cell CellName)} (t : Top) → 0 < left → IsLooking h x v most left before → Takes h t before after → is_variable_top v t ≡ false → IsLooking h x v most (left - 1) after
-looking_on t some l takes other = record { inside = takes.inside; looks = λ f. first_part f t false some l takes other }
+looking_on {h = h} {v = v} {left = left} {after = after} t some l takes other = record {
+  inside = takes.inside;
+  looks = λ f p k. first_part f t p l takes (known_on v left (code_of (node_with f t)) (nodes_each (stacked_terms f h after)) p some (same_variable f v t ∙ other) k);
+}
 
 -- the part that is looked at is the variable
-pub is_present : {h : Held CellName} {x : Cell CellName} {v most left : ℕ} {before after : List (Cell CellName)} (t : Top) → 0 < left → IsLooking h x v most left before → Takes h t before after → is_variable_top v t ≡ true → IsPresenceIn h x v most Present
-is_present {h = h} {x = x} {v = v} {most = most} t some l takes same = λ f. settled v most (meaning f h x) Present (first_part f t true some l takes same)
+pub is_present : {h : Held CellName} {x : Cell CellName} {v most left : ℕ} {before after : List (Cell CellName)} (t : Top) → IsLooking h x v most left before → Takes h t before after → is_variable_top v t ≡ true → IsPresenceIn h x v most Present
+is_present {h = h} {x = x} {v = v} {most = most} {after = after} t l takes same = λ f.
+    settled v most (meaning f h x) Present (first_part f t Present l takes (ap (λ b. b || any_part v (nodes_each (stacked_terms f h after))) (same_variable f v t ∙ same)))
 
 -- nothing is left to look at
 pub is_absent : {h : Held CellName} {x : Cell CellName} {v most left : ℕ} {stack : List (Cell CellName)} → IsLooking h x v most left stack → stack ≡ [] → IsPresenceIn h x v most Absent
-is_absent {h = h} {x = x} {v = v} {most = most} {left = left} l e = λ f. settled v most (meaning f h x) Absent (l.looks f ∙ ap (λ (xs : List (Cell CellName)). look v (nodes_each (stacked_terms f h xs)) left) e)
+is_absent {h = h} {x = x} {v = v} {most = most} l e = λ f.
+    settled v most (meaning f h x) Absent (l.looks f Absent (ap (λ (xs : List (Cell CellName)). any_part v (nodes_each (stacked_terms f h xs))) e))
 
 -- something is left to look at
 pub is_unknown : {h : Held CellName} {x : Cell CellName} {v most left : ℕ} {stack : List (Cell CellName)} → IsLooking h x v most left stack → left ≤ 0 → 0 < length stack → IsPresenceIn h x v most Unknown
 is_unknown {h = h} {x = x} {v = v} {most = most} {left = left} {stack = stack} l done some = λ f.
+    let ts = stacked_terms f h stack in
     let n = length_stacked f h stack in
-    settled v most (meaning f h x) Unknown
-    (l.looks f ∙ look_ends v (nodes_each (stacked_terms f h stack)) left done (some_nodes (stacked_terms f h stack) (omega (arith, n, some))))
+    let parts = some_nodes ts (omega (arith, n, some)) in
+    let none : left ≡ 0 = omega (arith, done) in
+    settled v most (meaning f h x) Unknown (l.looks f Unknown (omega (arith, parts, none), ap (λ i. any_part v (take i (nodes_each ts))) none))
 
 -- a variable isn't among fewer parts either
-fewer : (v : ℕ) (cs : List NodeCode) (n : ℕ) → list_any (is_variable_part v) (take (n + 1) cs) ≡ false → list_any (is_variable_part v) (take n cs) ≡ false
-fewer v cs n e = by_case (list_any (is_variable_part v) (take n cs)) refl
-  where
-    by_case : (b : Bool) → list_any (is_variable_part v) (take n cs) ≡ b → list_any (is_variable_part v) (take n cs) ≡ false
-    by_case false is = is
-    by_case true is = absurd (true≢false (sym (list_any_kept (is_variable_part v) cs n is) ∙ e))
+fewer : (v : ℕ) (cs : List NodeCode) (n : ℕ) → any_part v (take (n + 1) cs) ≡ false → any_part v (take n cs) ≡ false
+fewer v cs n e = false_from_ne_true (any_part v (take n cs)) (λ is. true≢false (sym (list_any_kept (is_variable_part v) cs n is) ∙ e))
 
 -- two parts more stand before those that were looked at, and are no variables
-two_before : (v : ℕ) (c d : NodeCode) (cs : List NodeCode) (most : ℕ) → is_variable_part v c ≡ false → is_variable_part v d ≡ false → list_any (is_variable_part v) (take most cs) ≡ false → list_any (is_variable_part v) (take most (c ∷ d ∷ cs)) ≡ false
-two_before v c d cs zero ec ed e = refl
-two_before v c d cs (suc zero) ec ed e = or_false (is_variable_part v c) ∙ ec
-two_before v c d cs (suc (suc n)) ec ed e =
-    let again : n + 1 + 1 ≡ suc (suc n) = omega arith in
-    let one = fewer v cs (n + 1) (ap (λ k. list_any (is_variable_part v) (take k cs)) again ∙ e) in
-    ap (λ b. b || (is_variable_part v d || list_any (is_variable_part v) (take n cs))) ec ∙ (ap (λ b. b || list_any (is_variable_part v) (take n cs)) ed ∙ fewer v cs n one)
+two_before : (v : ℕ) (c d : NodeCode) (cs : List NodeCode) (most : ℕ) → is_variable_part v c ≡ false → is_variable_part v d ≡ false → any_part v (take most cs) ≡ false → any_part v (take most (c ∷ d ∷ cs)) ≡ false
+two_before v c d cs most ec ed e =
+    let all : most + 1 + 1 ≡ suc (suc most) = omega arith in
+    let two = ap (λ k. any_part v (take k (c ∷ d ∷ cs))) all ∙ ap₂ (λ x y. x || (y || any_part v (take most cs))) ec ed ∙ e in
+    fewer v (c ∷ d ∷ cs) most (fewer v (c ∷ d ∷ cs) (most + 1) two)
 
 -- a goal in a module is larger than the goal, and begins with two parts that are no variables
 looked_in : (v most : ℕ) (t u : Term) (c d : NodeCode) → nodes_of u ≡ c ∷ d ∷ nodes_of t → is_variable_part v c ≡ false → is_variable_part v d ≡ false → IsLookedAt v most t → IsLookedAt v most u
@@ -181,7 +149,7 @@ looked_in v most t u c d is ec ed k =
     let larger = k.larger in
     record {
       larger = omega (arith, long, larger);
-      without = ap (λ cs. list_any (is_variable_part v) (take most cs)) is ∙ two_before v c d (nodes_of t) most ec ed k.without;
+      without = ap (λ cs. any_part v (take most cs)) is ∙ two_before v c d (nodes_of t) most ec ed k.without;
     }
 
 -- a goal in the module of a name has the variables of its cell
@@ -198,10 +166,9 @@ called_presence h q v most p is f = by_case q.module_name (is f)
         ∙ ap (λ (cs : List NodeCode). colon ∷ inr (inl (f m)) ∷ cs) (append-nil (nodes_of (meaning f h q.cell)))
 
     by_kind : (m : CellName) (p : Presence) → IsPresence v most (Some (meaning f h q.cell)) p → IsPresence v most (Some (told_in (meaning f h) (Some m) (meaning f h q.cell))) p
-    by_kind m Present e = ap (λ b. b || (occurs v (meaning f h q.cell) || false)) (atom_free m) ∙ or_false (occurs v (meaning f h q.cell)) ∙ e
-    by_kind m Absent e = ap (λ b. b || (occurs v (meaning f h q.cell) || false)) (atom_free m) ∙ or_false (occurs v (meaning f h q.cell)) ∙ e
     by_kind m Unknown k =
         looked_in v most (meaning f h q.cell) (told_in (meaning f h) (Some m) (meaning f h q.cell)) (inr (inr (codes ":", 2))) (inr (inl (f m))) (parts_in m) refl refl k
+    by_kind m _ e = ap (λ b. b || (occurs v (meaning f h q.cell) || false)) (atom_free m) ∙ or-false (occurs v (meaning f h q.cell)) ∙ e
 
     by_case : (o : Option CellName) → IsPresence v most (Some (meaning f h q.cell)) p → IsPresence v most (Some (told_in (meaning f h) o (meaning f h q.cell))) p
     by_case None e = e

@@ -64,10 +64,6 @@ mutual
   print_fits (variable n) narrow few = plain_fits (codes "_" ++ decimal n) 1 (let e = length-decimal-le 20 n (omega arith) (omega (arith, few)) few in omega (arith, e))
   print_fits (integer i) narrow few = plain_fits (signed_decimal i) 1 (let e = integer_fits i narrow in omega (arith, e))
   print_fits (atom a) narrow few = atom_fits a narrow
-  print_fits (structure f none) narrow few = call_fits f [] 0 (name_of f none narrow).0 (omega arith)
-  print_fits (structure f (more a none)) narrow few =
-      let parts = name_of f (more a none) narrow in
-      call_fits f (printed_each (more a none)) (length (nodes_of_all (more a none))) parts.0 (each_fits (more a none) parts.1 few)
   print_fits (structure f (more a (more b none))) narrow few =
       let parts = name_of f (more a (more b none)) narrow in
       let both = and_parts (is_narrow a) (are_narrow (more b none)) parts.1 in
@@ -75,9 +71,9 @@ mutual
       let fits_b = print_fits b (and_parts (is_narrow b) true both.1).0 (omega (arith, few)) in
       subst (λ n. Fits (printed (structure f (more a (more b none)))) (suc n)) (omega (arith, length-append (nodes_of a) (nodes_of b ++ []), length-append (nodes_of b) []))
       (pair_fits (form_of f a b) f (printed a) (printed b) (length (nodes_of a)) (length (nodes_of b)) parts.0 fits_a fits_b)
-  print_fits (structure f (more a (more b (more c ts)))) narrow few =
-      let parts = name_of f (more a (more b (more c ts))) narrow in
-      call_fits f (printed_each (more a (more b (more c ts)))) (length (nodes_of_all (more a (more b (more c ts))))) parts.0 (each_fits (more a (more b (more c ts))) parts.1 few)
+  print_fits (structure f ts) narrow few =
+      let parts = name_of f ts narrow in
+      call_fits f (printed_each ts) (length (nodes_of_all ts)) parts.0 (each_fits ts parts.1 few)
 
   each_fits : (ts : Terms) → are_narrow ts ≡ true → highest_in ts < 2 ^ 64 → length (commas (printed_each ts)) ≤ 264 * length (nodes_of_all ts)
   each_fits none narrow few = omega arith

@@ -10,10 +10,6 @@ pub record IsPrinting (ks : List Known) (h : Held CellName) (before : Printer) (
   pub inside : AreIn h stack
   pub named : (f g : Reading) → Fits ks f → Fits ks g → stacked_terms f h stack ≡ stacked_terms g h stack
 
--- a printer that was given a list cell was given the node that is one
-pub cell_printed : (node : Node) (p q : Printer) (ts : List Term) → node ≡ list_cell → text_of q ts ≡ text_of p (with_node list_cell ts) → text_of q ts ≡ text_of p (with_node node ts)
-cell_printed node p q ts is printed = printed ∙ sym (ap (λ (n : Node). text_of p (with_node n ts)) is)
-
 -- two arguments of the list cell's name are a list cell, for each reading that fits
 pub named_cell : (name : CellName) (count : ℕ) (ks : List Known) (f : Reading) → name ≡ built ListCell → count ≡ 2 → Fits ks f → Structure (f name) count ≡ list_cell
 named_cell name count ks f is two fits = ap (λ n. Structure (f n) count) is ∙ (ap (λ k. Structure (f (built ListCell)) k) two ∙ ap (λ t. Structure t 2) (fits.reads.texts ListCell))

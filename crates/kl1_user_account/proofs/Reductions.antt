@@ -1,9 +1,9 @@
 -- A reduction of an account, which its machine does.
-use Rattle.kl1_user_account.proofs.Words.{◌≡◌, ℕ, suc, ◌+◌, ◌≤◌, ◌==◌, not, ◌&&◌, ◌||◌, Bool, true, false, if◌then◌else◌, nat_lt, [], length, refl, sym, ap, ◌∙◌, subst, arith, ltb-true, is_in_run, reduce, reduced, is_full, needs_entry, run_after, with_reduction, Transition, limits_of, State, step, contents, Program, Refusal, reduced_or, Reading, Fits, Account, state_of, NameShelf, Machine, Trail, Keeps, IsRested, CanPublish, Publishes, Refuses, state_in, IsReduced, published_reduced}
+use Rattle.kl1_user_account.proofs.Words.{◌≡◌, ℕ, suc, ◌+◌, ◌≤◌, ◌==◌, not, ◌&&◌, ◌||◌, Bool, true, false, if◌then◌else◌, nat_lt, [], length, sym, ap, ◌∙◌, subst, arith, is_in_run, reduce, reduced, is_full, needs_entry, run_after, with_reduction, Transition, limits_of, State, step, contents, Program, Refusal, reduced_or, Reading, Fits, Account, state_of, NameShelf, Machine, Trail, Keeps, IsRested, CanPublish, Publishes, Refuses, state_in, IsReduced, published_reduced}
 use Rattle.std.proofs.Common.{Option, Some, None}
 use Rattle.kl1_machine.specs.Reducing.{Reduces}
-use Rattle.kl1_user_account.proofs.Counting.{counts_reduction}
-use Rattle.kl1_user_account.proofs.Machines.{Aside, account_of, state_aside, state_is, kept_alike, Leaves, left_holds, Began, began_rested, began_state, rules_after, rested_after, Ends}
+use Rattle.kl1_user_account.proofs.Counting.{counts_reduction, more_entry}
+use Rattle.kl1_user_account.proofs.Machines.{Aside, account_of, state_aside, state_is, kept_alike, Began, began_rested, began_state, rules_after, rested_after, Leaves, left_holds, Ends, ends_as}
 
 -- a reduction that has begun, with what was found of it: whether it is noted in a run, and whether it needs an entry for which the journal
 -- has no room
@@ -39,8 +39,7 @@ pub refused_step : (r : Reduction) (u : Machine) (x : Refusal) → u ≡ r.event
     step (state_of f r.event.account) (reduce r.number r.clause) ≡ record { state = state_of f (account_of r.event.aside u); reply = reduced_or (Some x) }
 refused_step r u x same refuses f fits =
     let e = r.event in
-    let F : Machine → Type 0 = λ m. Fits m.names.names f in
-    let own : Fits e.machine.names.names f = subst F same fits in
+    let own = rw same at fits in
     let T : State → Transition = λ z. record { state = z; reply = reduced_or (Some x) } in
     ap (λ (z : State). step z (reduce r.number r.clause)) (began_state e f)
     ∙ refuses f own (state_aside e.aside e.machine) (modules_as r) (full_as r f own)
@@ -70,11 +69,7 @@ pub record Done (r : Reduction) (u v : Machine) (y : Aside) : Type 0 where
 -- there is room for the entry that it needs
 room_for : (needs : Bool) (entries most : ℕ) → (needs && not (nat_lt entries most)) ≡ false → entries ≤ most → (if needs then suc entries else entries) ≤ most
 room_for false entries most e le = le
-room_for true entries most e le = by (nat_lt entries most) refl e
-  where
-    by : (b : Bool) → nat_lt entries most ≡ b → not b ≡ false → suc entries ≤ most
-    by true lt k = ltb-true entries most lt
-    by false lt k = absurd (cc)
+room_for true entries most e le = more_entry entries most e
 
 module _ (r : Reduction) (u v : Machine) (y : Aside) (d : Done r u v y) where
   abbrev m : Machine
@@ -88,12 +83,10 @@ module _ (r : Reduction) (u v : Machine) (y : Aside) (d : Done r u v y) where
 
   -- a reading of the names after it is one of those before it
   still_fits : (f : Reading) → Fits v.names.names f → Fits m.names.names f
-  still_fits f fits =
-      let F : NameShelf → Type 0 = λ s. Fits s.names f in
-      subst F (ap (λ (t : Trail). t.names) d.keeps.trail) (d.published.named.fits f fits)
+  still_fits f fits = rw (ap (λ (t : Trail). t.names) d.keeps.trail) at (d.published.named.fits f fits)
 
   -- the step is the reduction
-  steps : (f : Reading) → Fits v.names.names f → step (state_of f r.event.account) (reduce r.number r.clause) ≡ record { state = state_of f (account_of y v); reply = reduced }
+  steps : (f : Reading) → Fits v.names.names f → step (state_of f r.event.account) (reduce r.number r.clause) ≡ record { state = state_of f (account_of (with_one r.in_run x) v); reply = reduced }
   steps f fit =
       let old = still_fits f fit in
       let T : State → Transition = λ z. record { state = z; reply = reduced } in
@@ -101,12 +94,10 @@ module _ (r : Reduction) (u v : Machine) (y : Aside) (d : Done r u v y) where
       ∙ is_reduced.steps f fit (state_aside x m) (modules_as r) (full_as r f old ∙ d.room)
       ∙ ap (λ b. T (state_in f (with_reduction b (state_aside x m)) v)) (sym (runs_as r f old))
       ∙ ap T (sym (state_is f (with_one r.in_run x) v is_reduced.name))
-      ∙ ap (λ (z : Aside). T (state_of f (account_of z v))) (sym d.beside)
 
-  -- what always holds of the account after it
-  left : Leaves (with_one r.in_run x) v
+  -- what it has left of the account
+  left : Leaves r.event (λ s. (step s (reduce r.number r.clause)).state) (with_one r.in_run x) v
   left =
-      let z = with_one r.in_run x in
       let none : Reading = λ c. [] in
       let most = (limits_of m.rules).entries in
       let full : (needs_one r.in_run x.run && not (nat_lt x.entries most)) ≡ false = ap (λ (a : Account). needs_entry r.in_run (state_of none a) && is_full (state_of none a)) r.event.is ∙ sym (r.fulls none) ∙ d.room in
@@ -114,11 +105,13 @@ module _ (r : Reduction) (u v : Machine) (y : Aside) (d : Done r u v y) where
       let few = d.charged in
       record {
         rested = rested_after r.event v is_reduced.rested;
-        most = subst (λ k. z.entries ≤ (limits_of k).entries) (sym (rules_after r.event v is_reduced.rested)) (room_for (needs_one r.in_run x.run) x.entries most full r.event.holds.0.most);
+        rules = rules_after r.event v is_reduced.rested;
+        most = room_for (needs_one r.in_run x.run) x.entries most full r.event.holds.0.most;
         small = is_reduced.small;
-        named = λ f g one two. state_is f z v is_reduced.name ∙ is_reduced.alike f g one two (state_aside z v) ∙ sym (state_is g z v is_reduced.name);
+        fits = still_fits;
+        states = λ f fits. ap (λ (t : Transition). t.state) (steps f fits);
         counts = counts_reduction r.in_run (length m.shoens.work) (length v.shoens.work) x.entries x.run (omega (arith, charged, few)) r.event.holds.1;
       }
 
   pub reduced_ends : Ends r.event.account (λ s t. step s (reduce r.number r.clause) ≡ record { state = t; reply = reduced }) y v
-  reduced_ends = record { holds = left_holds y (with_one r.in_run x) v d.beside left; states = steps }
+  reduced_ends = ends_as d.beside (record { holds = left_holds r.event _ (with_one r.in_run x) v left; states = steps })

@@ -1,8 +1,9 @@
 -- Cells on a stack as nodes, one after another.
-use Rattle.kl1_user_account.proofs.Words.{◌≡◌, ℕ, suc, ◌+◌, ◌-◌, ◌<◌, ◌≤◌, List, [], ◌∷◌, ◌++◌, length, reverse, drop, refl, ap, ap₂, sym, ◌∙◌, subst, arith, Some, slice_get, get_or_from_slice_get, reverse-append, length-reverse, drop_more, Term, Terms, variable, atom, structure, none, more, size, sizes, list_of, count_of, structure-reads, with_node, CellName, Head, Cell, Held, IsWithin, IsIn, AreIn, AreWithin, arguments_of, term_of, terms_of, term_list, IsFormed, term_of-Structure, arguments_in, AreWithin-append, AreWithin-left, AreWithin-reverse, AreWithin-back, Top, Reading, meaning, node_with, count_at, stacked_terms, weight, ReadsTop, IsNext, Takes}
+use Rattle.kl1_user_account.proofs.Words.{◌≡◌, ℕ, ◌+◌, ◌-◌, ◌<◌, ◌≤◌, List, [], ◌∷◌, ◌++◌, length, reverse, drop, refl, ap, ap₂, sym, ◌∙◌, subst, arith, Some, slice_get, get_or_from_slice_get, reverse-append, length-reverse, drop_more, Term, Terms, variable, structure, none, more, size, sizes, list_of, structure-reads, with_node, CellName, Head, Cell, Held, IsWithin, IsIn, AreIn, AreWithin, arguments_of, term_of, terms_of, term_list, IsFormed, term_of-Structure, arguments_in, AreWithin-append, AreWithin-left, AreWithin-reverse, AreWithin-back, Top, Reading, meaning, node_with, count_at, stacked_terms, weight, ReadsTop, IsNext, Takes}
 use Rattle.std.proofs.Common.{length-append}
 use Rattle.kl1_term.specs.declared.node.Node.TheVariants as node
 use Rattle.kl1_store.specs.declared.cell.Cell.TheVariants.{Structure}
+use Rattle.kl1_store.proofs.Meetings.{count_of-terms_of}
 use Rattle.kl1_user_account.specs.declared.top.Top.TheVariants as top
 
 -- an argument more on a stack
@@ -28,18 +29,10 @@ plain_next h x n t stack inside e no_more reads some same = record {
   same = λ f g a b. record { node = same f g (sym (e f) ∙ a ∙ e g); terms = b };
 }
 
-pub same_atom : (a b : List ℕ) → atom a ≡ atom b → a ≡ b
-same_atom a b e = cc
-
 list_terms : (f : Reading) (h : Held CellName) (xs : List (Cell CellName)) → list_of (terms_of f h xs) ≡ term_list f h xs
 unfolding terms_of
 list_terms f h [] = refl
 list_terms f h (x ∷ xs) = ap (λ ts. term_of f h x ∷ ts) (list_terms f h xs)
-
-count_terms : (f : Reading) (h : Held CellName) (xs : List (Cell CellName)) → count_of (terms_of f h xs) ≡ length xs
-unfolding terms_of
-count_terms f h [] = refl
-count_terms f h (x ∷ xs) = ap suc (count_terms f h xs)
 
 term_list-append : (f : Reading) (h : Held CellName) (xs ys : List (Cell CellName)) → term_list f h (xs ++ ys) ≡ term_list f h xs ++ term_list f h ys
 term_list-append f h [] ys = refl
@@ -64,7 +57,7 @@ next_structure h x s head before after formed inside is found count put =
           let us = stacked_terms f h before in
           record {
             terms =
-                ap (λ n. with_node (node.Structure (f name) n) (stacked_terms f h after)) (count ∙ sym (count_terms f h xs))
+                ap (λ n. with_node (node.Structure (f name) n) (stacked_terms f h after)) (count ∙ sym (count_of-terms_of f h xs))
                 ∙ (structure-reads (f name) ts us (stacked_terms f h after) (all f) ∙ ap (λ t. t ∷ us) (sym (e f)));
             less = let w = ap weight (all f) in let z = ap size (e f) in omega (arith, w, z, weight-append ts us);
           };
@@ -79,13 +72,6 @@ next_structure h x s head before after formed inside is found count put =
     same_structure : (a b : List ℕ) (ts us : Terms) → structure a ts ≡ structure b us → (a ≡ b) × (ts ≡ us)
     same_structure a b ts us e = (cc, cc)
 
--- names of nodes that are the same
-pub same_atom_node : (a b : List ℕ) → node.Atom a ≡ node.Atom b → a ≡ b
-same_atom_node a b e = cc
-
-pub same_structure_node : (a b : List ℕ) (n : ℕ) → node.Structure a n ≡ node.Structure b n → a ≡ b
-same_structure_node a b n e = cc
-
 last_within : (vs ss : ℕ) (xs : List (Cell CellName)) (x : Cell CellName) → AreWithin vs ss (xs ++ x ∷ []) → IsWithin vs ss x
 last_within vs ss [] x p = p.0
 last_within vs ss (y ∷ xs) x p = last_within vs ss xs x p.1
@@ -97,14 +83,11 @@ top_in h stack rest x p e = last_within h.variables (length h.structures) rest x
 pub rest_in : (h : Held CellName) (stack rest : List (Cell CellName)) (x : Cell CellName) → AreIn h stack → stack ≡ rest ++ x ∷ [] → AreIn h rest
 rest_in h stack rest x p e = AreWithin-left h.variables (length h.structures) rest (x ∷ []) (subst (λ (xs : List (Cell CellName)). AreIn h xs) e p)
 
--- the terms on a stack, with the top of it taken off
-top_terms : (f : Reading) (h : Held CellName) (stack rest : List (Cell CellName)) (x : Cell CellName) → stack ≡ rest ++ x ∷ [] → stacked_terms f h stack ≡ meaning f h x ∷ stacked_terms f h rest
-top_terms f h stack rest x e = ap (stacked_terms f h) e ∙ ap (term_list f h) (reverse-append rest (x ∷ []))
-
 -- the cell on top of a stack is taken
 pub takes : (h : Held CellName) (x : Cell CellName) (t : Top) (stack rest after : List (Cell CellName)) → stack ≡ rest ++ x ∷ [] → IsNext h x t rest after → Takes h t stack after
 takes h x t stack rest after e n =
-    let terms = λ (f : Reading). top_terms f h stack rest x e in
+    let terms : (f : Reading) → stacked_terms f h stack ≡ meaning f h x ∷ stacked_terms f h rest =
+    λ f. ap (stacked_terms f h) e ∙ ap (term_list f h) (reverse-append rest (x ∷ [])) in
     let long : length stack ≡ length rest + 1 = ap length e ∙ length-append rest (x ∷ []) in
     let count = n.count in
     record {
@@ -113,9 +96,6 @@ takes h x t stack rest after e n =
       some = omega arith;
       inside = n.inside;
       same = λ f g a.
-          let b = same_both (meaning f h x) (meaning g h x) (stacked_terms f h rest) (stacked_terms g h rest) (sym (terms f) ∙ a ∙ terms g) in
-          n.same f g b.0 b.1;
+          let both = sym (terms f) ∙ a ∙ terms g in
+          n.same f g (cc) (cc);
     }
-  where
-    same_both : (t u : Term) (ts us : List Term) → t ∷ ts ≡ u ∷ us → (t ≡ u) × (ts ≡ us)
-    same_both t u ts us e = (cc, cc)

@@ -11,28 +11,18 @@ all_hold a b c d e m =
     let s = and_parts a b r.0 in
     (s.0, (s.1, q.1))
 
--- a goal that may be started
-pub start_goal_is : (allowance low high : ℕ) (goal : Term) → may_start allowance low high goal ≡ true → (is_goal goal ≡ true) × (is_numbered goal ≡ true)
-start_goal_is allowance low high goal m =
-    (all_hold (is_number allowance && is_range low high) (is_goal goal) (is_writable goal) (is_numbered goal) (nat_le (length (start_line allowance low high goal)) MOST_LINE_BYTES) m).1
-
--- its priorities are below a monitor's
-pub start_range : (allowance low high : ℕ) (goal : Term) → may_start allowance low high goal ≡ true → (low ≤ MONITOR_PRIORITY) × (high ≤ MONITOR_PRIORITY)
-start_range allowance low high goal m =
+-- a goal that may be started is a goal, its variables are numbered, and its priorities are below a monitor's
+pub may_start_is : (allowance low high : ℕ) (goal : Term) → may_start allowance low high goal ≡ true → (is_goal goal ≡ true) × (is_numbered goal ≡ true) × (low ≤ MONITOR_PRIORITY) × (high ≤ MONITOR_PRIORITY)
+may_start_is allowance low high goal m =
     let t = all_hold (is_number allowance && is_range low high) (is_goal goal) (is_writable goal) (is_numbered goal) (nat_le (length (start_line allowance low high goal)) MOST_LINE_BYTES) m in
     let u = and_parts (nat_le low high) (nat_le high MOST_PRIORITY) (and_parts (is_number allowance) (is_range low high) t.0).1 in
     let le : low ≤ high = leb-true low high u.0 in
     let most : high ≤ MOST_PRIORITY = leb-true high MOST_PRIORITY u.1 in
-    (omega arith, omega arith)
+    (t.1.0, t.1.1, omega arith, omega arith)
 
--- a goal that may be an answer
-pub answer_goal_is : (n report : ℕ) (goal : Term) → may_answer n report goal ≡ true → (is_goal goal ≡ true) × (is_numbered goal ≡ true)
-answer_goal_is n report goal m =
-    (all_hold (is_number n && is_number report && nat_le 1 report) (is_goal goal) (is_writable goal) (is_numbered goal) (nat_le (length (answer_line n report goal)) MOST_LINE_BYTES) m).1
-
--- the first report is 1
-pub right_report : (n report : ℕ) (goal : Term) → may_answer n report goal ≡ true → 0 < report
-right_report n report goal m =
+-- so is one that may be an answer, and the first report is 1
+pub may_answer_is : (n report : ℕ) (goal : Term) → may_answer n report goal ≡ true → (is_goal goal ≡ true) × (is_numbered goal ≡ true) × (0 < report)
+may_answer_is n report goal m =
     let t = all_hold (is_number n && is_number report && nat_le 1 report) (is_goal goal) (is_writable goal) (is_numbered goal) (nat_le (length (answer_line n report goal)) MOST_LINE_BYTES) m in
     let le = leb-true 1 report (and_parts (is_number n && is_number report) (nat_le 1 report) t.0).1 in
-    omega (arith, le)
+    (t.1.0, t.1.1, omega (arith, le))

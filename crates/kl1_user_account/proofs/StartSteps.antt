@@ -1,6 +1,7 @@
 -- What refuses a goal of the console, and the step of a start that nothing refuses.
-use Rattle.kl1_user_account.proofs.Words.{◌≡◌, ℕ, suc, ◌+◌, not, ◌&&◌, Bool, true, false, if◌then◌else◌, List, [], ◌∷◌, length, refl, sym, ap, ap₂, ◌∙◌, subst, nat_le, Option, Some, None, Limits, MOST_NAMES, Term, highest, goal_nodes, State, names_of, with_names, Transition, start, opened, refuse, unless, are_too_many, is_full, syntax, too_many_names, limit_passed, journal_full, with_entry, may_start, has_room_to_start, start_goal, goals_alive, step, start_by, Known, with_texts, Refusal, texts_of, Counted, HasNames, has_room_beside, refusals_of, refused_or, IsFree, IsStartable, names_used}
+use Rattle.kl1_user_account.proofs.Words.{◌≡◌, ℕ, suc, ◌+◌, not, ◌&&◌, Bool, true, if◌then◌else◌, List, [], ◌∷◌, length, sym, ap, ap₂, ◌∙◌, nat_le, Option, Some, None, Limits, MOST_NAMES, Term, highest, goal_nodes, State, names_of, with_names, Transition, start, opened, refuse, unless, are_too_many, is_full, syntax, too_many_names, limit_passed, journal_full, with_entry, may_start, has_room_to_start, start_goal, goals_alive, step, start_by, Known, with_texts, Refusal, texts_of, Counted, HasNames, has_room_beside, refusals_of, refused_or, IsFree, IsStartable, names_used}
 use Rattle.std.specs.Prelude.{nat_lt}
+use Rattle.std.proofs.Math.Bool.{not-not}
 use Rattle.kl1_model.specs.State.{limits_of}
 use Rattle.kl1_model.specs.Event.{Refusal as Reason}
 use Rattle.kl1_user_account.proofs.Counting.{not_less}
@@ -9,11 +10,7 @@ use Rattle.kl1_user_account.proofs.Counting.{not_less}
 
 -- whether names are too many, by their number
 pub many_is : (n : ℕ) → not (nat_le n MOST_NAMES) ≡ nat_lt MOST_NAMES n
-many_is n = ap not (not_less n MOST_NAMES) ∙ twice (nat_lt MOST_NAMES n)
-  where
-    twice : (b : Bool) → not (not b) ≡ b
-    twice true = refl
-    twice false = refl
+many_is n = ap not (not_less n MOST_NAMES) ∙ not-not (nat_lt MOST_NAMES n)
 
 -- what a state refuses a goal of the console for, if there is room for it or not
 abbrev pub refusals_at : State → Term → Bool → List (Bool × Reason)
@@ -35,10 +32,7 @@ room_in : (s : State) (names : List Known) (c : Counted) (goal : Term) → HasNa
 room_in s names c goal at =
     let more = suc (suc (highest goal)) in
     ap (λ (m : Limits). nat_lt (goals_alive s) m.goals && nat_le (s.variables + more) m.variables && nat_le (s.nodes + goal_nodes goal) m.nodes && nat_lt s.last_shoen m.shoens) at.most_are
-    ∙ ap (λ n. nat_lt n c.most.goals && nat_le (s.variables + more) c.most.variables && nat_le (s.nodes + goal_nodes goal) c.most.nodes && nat_lt s.last_shoen c.most.shoens) at.goals_are
-    ∙ ap (λ n. nat_lt c.goals c.most.goals && nat_le (n + more) c.most.variables && nat_le (s.nodes + goal_nodes goal) c.most.nodes && nat_lt s.last_shoen c.most.shoens) at.variables_are
-    ∙ ap (λ n. nat_lt c.goals c.most.goals && nat_le (c.variables + more) c.most.variables && nat_le (n + goal_nodes goal) c.most.nodes && nat_lt s.last_shoen c.most.shoens) at.nodes_are
-    ∙ ap (λ n. nat_lt c.goals c.most.goals && nat_le (c.variables + more) c.most.variables && nat_le (c.nodes + goal_nodes goal) c.most.nodes && nat_lt n c.most.shoens) at.shoens_are
+    ∙ rw (at.goals_are, at.variables_are, at.nodes_are, at.shoens_are)
 
 -- a goal that may be started, with its names, the room that there is for it and what was found to refuse it, if anything does
 pub record IsJudged (names : List Known) (c : Counted) (allowance low high : ℕ) (goal : Term) (texts : List (List ℕ)) (has_room : Bool) (o : Option Refusal) : Type 0 where
@@ -59,11 +53,9 @@ start_steps names c allowance low high goal texts has_room o j s at =
 
 -- it may be started, if nothing refuses it
 pub startable : (names : List Known) (c : Counted) (allowance low high : ℕ) (goal code : Term) (texts : List (List ℕ)) (has_room : Bool) → IsJudged names c allowance low high goal texts has_room None → IsFree c names texts has_room → code ≡ goal → IsStartable names c allowance low high goal code
-startable names c allowance low high goal code texts has_room j free code_is =
-    let F : List (List ℕ) → Bool → Type 0 = λ ts b. IsFree c names ts b in
-    record {
-      code_is = code_is;
-      may = j.may;
-      free = subst (F (with_names [] (names_of goal))) j.has (subst (λ ts. F ts has_room) j.texts_are free);
-      steps = start_steps names c allowance low high goal texts has_room None j;
-    }
+startable names c allowance low high goal code texts has_room j free code_is = record {
+  code_is = code_is;
+  may = j.may;
+  free = rw (j.texts_are, j.has) at free;
+  steps = start_steps names c allowance low high goal texts has_room None j;
+}

@@ -1,21 +1,9 @@
 -- A goal that the console brings to an account, if nothing refuses it.
-use Rattle.kl1_user_account.proofs.Words.{◌≡◌, ℕ, suc, ◌+◌, ◌≤◌, ◌&&◌, true, List, [], length, sym, ap, ◌∙◌, subst, arith, nat_le, and_parts, leb-true, Limits, MOST_NAMES, Term, is_goal, highest, goal_nodes, structures_of, names_of, with_names, with_texts, IsNameList, Reading, Account, state_of, texts_of, Answer, Starts, Answers, Start, Counted, Starting, Answering, HasNames, has_room_beside, IsFree, IsStartable, StartsAs, has_room_to_answer_beside, IsAnswerable, AnswersAs, MayBring}
+use Rattle.kl1_user_account.proofs.Words.{◌≡◌, ℕ, suc, ◌+◌, ◌≤◌, ◌&&◌, true, List, [], length, sym, ap, ◌∙◌, arith, nat_le, and_parts, leb-true, Limits, MOST_NAMES, Term, is_goal, highest, goal_nodes, structures_of, names_of, with_names, with_texts, IsNameList, Reading, Account, state_of, texts_of, Answer, Starts, Answers, Start, Counted, HasNames, has_room_beside, IsFree, IsStartable, has_room_to_answer_beside, IsAnswerable, MayBring}
 use Rattle.std.specs.Prelude.{nat_lt}
 use Rattle.kl1_model.specs.Meaning.{is_numbered}
 use Rattle.kl1_user_account.proofs.Counting.{low_limits}
-use Rattle.kl1_user_account.proofs.StartChecks.{start_goal_is, start_range, answer_goal_is}
-
--- ---- what was found of an account's parts
-
-pub starts_by : (a b : Account) (c : Counted) (allowance low high : ℕ) (goal : Term) (o k : Starting) → a ≡ b → StartsAs a.names c allowance low high goal o → o ≡ k → StartsAs b.names c allowance low high goal k
-starts_by a b c allowance low high goal o k view s e =
-    let S : Account → Starting → Type 0 = λ z y. StartsAs z.names c allowance low high goal y in
-    subst (S b) e (subst (λ z. S z o) view s)
-
-pub answers_by : (a b : Account) (c : Counted) (n report : ℕ) (goal : Term) (o k : Answering) → a ≡ b → AnswersAs a.rules a.held a.shoens a.names c n report goal o → o ≡ k → AnswersAs b.rules b.held b.shoens b.names c n report goal k
-answers_by a b c n report goal o k view s e =
-    let S : Account → Answering → Type 0 = λ z y. AnswersAs z.rules z.held z.shoens z.names c n report goal y in
-    subst (S b) e (subst (λ z. S z o) view s)
+use Rattle.kl1_user_account.proofs.StartChecks.{may_start_is, may_answer_is}
 
 -- ---- room
 
@@ -34,9 +22,7 @@ room_to_answer c variables nodes e =
 
 -- names of a goal by its code, which may be published
 few_names : (a : Account) (goal code : Term) (texts : List (List ℕ)) → code ≡ goal → texts ≡ with_names [] (names_of code) → length (with_texts (texts_of a.names) (with_names [] (names_of goal))) ≤ MOST_NAMES → length (with_texts (texts_of a.names) texts) ≤ MOST_NAMES
-few_names a goal code texts same are few =
-    let F : List (List ℕ) → Type 0 = λ ts. length (with_texts (texts_of a.names) ts) ≤ MOST_NAMES in
-    subst F (sym (are ∙ ap (λ (t : Term). with_names [] (names_of t)) same)) few
+few_names a goal code texts same are few = rw (are, same) few
 
 -- ---- the goal may be brought
 
@@ -44,8 +30,7 @@ pub may_start_it : (a : Account) (c : Counted) (goal : Term) (texts : List (List
     texts ≡ with_names [] (names_of s.code.now) → IsNameList texts → s.variables ≡ highest goal → MayBring a texts (Starts s)
 may_start_it a c goal texts s may counts are list variables =
     let at = counts (λ x. []) in
-    let is = start_goal_is s.allowance s.low s.high goal may.may in
-    let range = start_range s.allowance s.low s.high goal may.may in
+    let is = may_start_is s.allowance s.low s.high goal may.may in
     let room = room_to_start c (highest goal) (goal_nodes goal) may.free.has in
     let most = low_limits a.rules c.most (sym at.most_are) in
     let nodes : goal_nodes s.code.now ≡ goal_nodes goal = ap goal_nodes may.code_is in
@@ -60,8 +45,8 @@ may_start_it a c goal texts s may counts are list variables =
             numbered = ap is_numbered may.code_is ∙ is.1;
             variables_are = variables ∙ sym (ap highest may.code_is);
             numbers_are = count ∙ ap length are;
-            low = range.0;
-            high = range.1;
+            low = is.2;
+            high = is.3;
             few = omega (arith, room.0, most.variables, at.variables_are, variables);
             small = omega (arith, room.1, most.nodes, at.nodes_are, nodes);
           };
@@ -72,7 +57,7 @@ pub may_answer_it : (a : Account) (c : Counted) (n report : ℕ) (goal : Term) (
     texts ≡ with_names [] (names_of s.code.now) → IsNameList texts → (s.variables ≡ highest goal) × (s.nodes ≡ structures_of goal) → MayBring a texts (Answers s)
 may_answer_it a c n report goal texts s may counts are list sizes =
     let at = counts (λ x. []) in
-    let is = answer_goal_is n report goal may.may in
+    let is = may_answer_is n report goal may.may in
     let room = room_to_answer c (highest goal) (structures_of goal) may.free.has in
     let most = low_limits a.rules c.most (sym at.most_are) in
     let entries = ap (λ (l : Limits). l.entries) at.most_are in

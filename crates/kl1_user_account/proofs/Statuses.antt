@@ -1,9 +1,19 @@
 -- What is shown of a shoen, and of the modules.
-use Rattle.kl1_user_account.proofs.Words.{◌≡◌, ◌≢◌, ℕ, zero, suc, ◌+◌, ◌≤◌, ◌==◌, ◌&&◌, ◌||◌, not, Bool, true, false, if◌then◌else◌, List, [], ◌∷◌, ◌++◌, map, take, length, count_by, refl, sym, ap, ap₂, ◌∙◌, arith, Option, Some, find, option_map, slice_get, cond, AllPairs, eqb-true, sum_by-cons, Life, Living, Terminated, Aborted, Condition, Stopped, Exhausted, Running, is_among, shoen_at, path_within, charged_of, goals_below, Transition, syntax, status_is, refuse, read, status, is_number, condition_by, status_of, condition_of, module_line, step, CellName, Goal, is_monitor, is_goal_of, Shoen, contains_among, parents_in, charged_in, AreBelow, Numbered, contents, ShoenView, parent_shown, is_goal_in, shoen_view, Reading, Account, meaning, goal_with, shoen_with, state_of, AreOwned, is_of_any, found_in, below_is, parents_read, condition_at, is_alive_in, shoen_shown}
+use Rattle.kl1_user_account.proofs.Words.{◌≡◌, ◌≢◌, ℕ, zero, suc, ◌+◌, ◌≤◌, ◌==◌, ◌&&◌, ◌||◌, not, Bool, true, false, if◌then◌else◌, List, [], ◌∷◌, ◌++◌, map, take, length, count_by, refl, sym, ap, ap₂, ◌∙◌, arith, Option, Some, find, option_map, slice_get, cond, AllPairs, eqb-true, sum_by-cons, Life, Living, Terminated, Aborted, Condition, Stopped, Exhausted, Running, is_among, shoen_at, path_within, charged_of, goals_below, Transition, syntax, status_is, refuse, read, status, is_number, condition_by, status_of, condition_of, module_line, step, CellName, Goal, is_monitor, is_goal_of, Shoen, contains_among, parents_in, charged_in, AreBelow, Numbered, contents, ShoenView, parent_shown, is_goal_in, shoen_view, Reading, Account, meaning, goal_with, shoen_with, state_of, AreOwned, is_of_any, found_in, parents_read, condition_at, is_alive_in, shoen_shown, AllByRecursion, Means, false_from_ne_true, nat_tests}
 use Rattle.std.proofs.Common.{nat_le}
+use Rattle.std.proofs.Math.Bool.{and-false}
 use Rattle.kl1_model.specs.State as model
 use Rattle.kl1_shoen.specs.Shoens.{has_number}
-use Rattle.kl1_user_account.proofs.Counting.{monitor_read, count_alike}
+use Rattle.kl1_shoen_paths.specs.Paths.{is_on_path_in}
+use Rattle.std.proofs.lemmas.List.Sums.{sum_by-le-sum_by}
+use Rattle.kl1_user_effects.proofs.Goals.{below_tells, monitor_read}
+use Rattle.kl1_user_effects.proofs.Lists.{all_of, all_then}
+
+-- goals of which a test of the definitions says what another says of them as they are kept
+count_read : (p : model.Goal → Bool) (q : Goal CellName → Bool) (t : Means) (gs : List (Goal CellName)) → AllByRecursion (λ g. p (goal_with t g) ≡ q g) gs → count_by p (map (goal_with t) gs) ≡ count_by q gs
+count_read p q t [] e = refl
+count_read p q t (g ∷ gs) e =
+    sum_by-cons (λ k. cond (p k) 1 0) (goal_with t g) (map (goal_with t) gs) ∙ ap₂ (λ b (m : ℕ). cond b 1 0 + m) e.0 (count_read p q t gs e.1) ∙ sym (sum_by-cons (λ k. cond (q k) 1 0) g gs)
 
 -- ---- a shoen
 
@@ -13,16 +23,17 @@ charged_read f a n = ap (λ ps. count_by (λ w. is_among n (path_within w ps w))
 
 -- the state of a shoen
 condition_read : (f : Reading) (a : Account) (h : Shoen CellName) (life : Life) → condition_by (state_of f a) (shoen_with (meaning f a.held) h) life ≡ condition_at h (charged_in a.shoens a.work h.number) life
-condition_read f a h Terminated = refl
-condition_read f a h Aborted = refl
 condition_read f a h Living = ap (λ m. if h.is_stopped then Stopped else if nat_le h.allowance m then Exhausted else Running) (charged_read f a h.number)
+condition_read f a h _ = refl
 
 -- a shoen is shown as it is kept
 pub shoen_read : (f : Reading) (a : Account) (h : Shoen CellName) → shoen_view (state_of f a) (shoen_with (meaning f a.held) h) ≡ shoen_shown a.shoens a.work a.goals h
 shoen_read f a h =
     let t = meaning f a.held in
     let V : Condition → ℕ → ℕ → ShoenView = λ x c n. record { number = record { 0 = h.number }; parent = parent_shown h.parent; condition = x; charged = c; allowance = h.allowance; alive = n } in
-    ap₂ (V (condition_of (state_of f a) (shoen_with t h))) (charged_read f a h.number) (count_alike (is_goal_in h.number) (is_goal_of h.number) t (λ g. ap (λ b. g.shoen == h.number && not b) (monitor_read t g.task)) a.goals)
+    let one = λ (g : Goal CellName). ap (λ b. g.shoen == h.number && not b) (monitor_read t g.task) in
+    let goals = all_of (λ (g : Goal CellName). is_goal_in h.number (goal_with t g) ≡ is_goal_of h.number g) one a.goals in
+    ap₂ (V (condition_of (state_of f a) (shoen_with t h))) (charged_read f a h.number) (count_read (is_goal_in h.number) (is_goal_of h.number) t a.goals goals)
     ∙ ap (λ x. V x (charged_in a.shoens a.work h.number) (count_by (is_goal_of h.number) a.goals)) (condition_read f a h h.life)
 
 -- ---- goals below
@@ -30,28 +41,17 @@ shoen_read f a h =
 -- the goals in a shoen and below it are those of the shoens that are found there
 pub below_read : (f : Reading) (a : Account) (n : ℕ) (below : List ℕ) → AreBelow a.shoens n below → AreOwned (length a.shoens) a.goals → goals_below (state_of f a) n ≡ count_by (is_alive_in below) a.goals
 below_read f a n below b owned =
-    ap (λ ps. count_by (λ (g : model.Goal). not (model.is_monitor g.task) && is_among n (path_within g.shoen ps g.shoen)) (map (goal_with (meaning f a.held)) a.goals)) (parents_read (meaning f a.held) a.shoens) ∙ each a.goals owned
-  where
-    each : (gs : List (Goal CellName)) → AreOwned (length a.shoens) gs → count_by (λ (g : model.Goal). not (model.is_monitor g.task) && is_among n (path_within g.shoen (parents_in a.shoens) g.shoen)) (map (goal_with (meaning f a.held)) gs) ≡ count_by (is_alive_in below) gs
-    each [] o = refl
-    each (g ∷ gs) o =
-        let high = o.0.high in
-        sum_by-cons (λ (k : model.Goal). cond (not (model.is_monitor k.task) && is_among n (path_within k.shoen (parents_in a.shoens) k.shoen)) 1 0) (goal_with (meaning f a.held) g) (map (goal_with (meaning f a.held)) gs)
-        ∙ ap₂ (λ (x : Bool) (m : ℕ). cond x 1 0 + m) (ap₂ (λ x y. not x && y) (monitor_read (meaning f a.held) g.task) (below_is n g.shoen a.shoens below b o.0.low (omega (arith, high)))) (each gs o.1)
-        ∙ sym (sum_by-cons (λ (k : Goal CellName). cond (is_alive_in below k) 1 0) g gs)
+    let t = meaning f a.held in
+    let alive : List ℕ → model.Goal → Bool = λ ps g. not (model.is_monitor g.task) && is_among n (path_within g.shoen ps g.shoen) in
+    ap (λ ps. count_by (alive ps) (map (goal_with t) a.goals)) (parents_read t a.shoens)
+    ∙ count_read (alive (parents_in a.shoens)) (is_alive_in below) t a.goals
+    (all_then (λ (g : Goal CellName). is_on_path_in a.shoens n g.shoen ≡ is_of_any below g) (λ g. alive (parents_in a.shoens) (goal_with t g) ≡ is_alive_in below g)
+    (λ g e. ap₂ (λ x y. not x && y) (monitor_read t g.task) e) a.goals (below_tells n a.shoens below a.goals b owned))
 
 -- how many goals shoens have, one shoen after another
 abbrev pub alive_each : List (Goal CellName) → List ℕ → ℕ
 alive_each gs [] = 0
 alive_each gs (n ∷ ns) = count_by (is_goal_of n) gs + alive_each gs ns
-
--- a shoen that stands before others isn't one of them
-once_first : (n : ℕ) (ns : List ℕ) → AllPairs (λ a b. a ≢ b) (n ∷ ns) → is_among n ns ≡ false
-once_first n ns once = by_case (is_among n ns) refl
-  where
-    by_case : (b : Bool) → is_among n ns ≡ b → is_among n ns ≡ false
-    by_case true e = absurd (let c = contains_among n ns e in let lt = c.1 in once 0 (suc c.0) n (omega arith) (omega (arith, lt)) (sym c.2))
-    by_case false e = e
 
 -- goals of a shoen, and of others
 count_both : (n : ℕ) (ns : List ℕ) (gs : List (Goal CellName)) → is_among n ns ≡ false → count_by (is_goal_of n) gs + count_by (is_alive_in ns) gs ≡ count_by (is_alive_in (n ∷ ns)) gs
@@ -75,30 +75,16 @@ count_both n ns (g ∷ gs) e =
 pub alive_all : (gs : List (Goal CellName)) (ns : List ℕ) → AllPairs (λ a b. a ≢ b) ns → alive_each gs ns ≡ count_by (is_alive_in ns) gs
 alive_all gs [] once = sym (none gs)
   where
-    one : (b : Bool) → ◌≡◌ {A = ℕ} (cond (not b && false) 1 0) 0
-    one true = refl
-    one false = refl
-
     none : (ks : List (Goal CellName)) → count_by (is_alive_in []) ks ≡ 0
     none [] = refl
-    none (k ∷ ks) = sum_by-cons (λ (j : Goal CellName). cond (is_alive_in [] j) 1 0) k ks ∙ ap₂ (λ (m n : ℕ). m + n) (one (is_monitor k)) (none ks)
+    none (k ∷ ks) = sum_by-cons (λ (j : Goal CellName). cond (is_alive_in [] j) 1 0) k ks ∙ ap₂ (λ (m n : ℕ). m + n) (ap (λ b. cond b 1 0) (and-false (not (is_monitor k)))) (none ks)
 alive_all gs (n ∷ ns) once =
-    ap (λ m. count_by (is_goal_of n) gs + m) (alive_all gs ns (λ i j d lt less. once (suc i) (suc j) d (omega (arith, lt)) (omega (arith, less)))) ∙ count_both n ns gs (once_first n ns once)
+    let alone = false_from_ne_true (is_among n ns) (λ e. let c = contains_among n ns e in let lt = c.1 in once 0 (suc c.0) n (omega arith) (omega (arith, lt)) (sym c.2)) in
+    ap (λ m. count_by (is_goal_of n) gs + m) (alive_all gs ns (λ i j d lt less. once (suc i) (suc j) d (omega (arith, lt)) (omega (arith, less)))) ∙ count_both n ns gs alone
 
 -- they are no more than all goals but monitors
 pub alive_few : (ns : List ℕ) (gs : List (Goal CellName)) → count_by (is_alive_in ns) gs ≤ count_by (λ (g : Goal CellName). not (is_monitor g)) gs
-alive_few ns [] = omega arith
-alive_few ns (g ∷ gs) =
-    let a = sum_by-cons (λ (k : Goal CellName). cond (is_alive_in ns k) 1 0) g gs in
-    let b = sum_by-cons (λ (k : Goal CellName). cond (not (is_monitor k)) 1 0) g gs in
-    let rest = alive_few ns gs in
-    let one = by_case (not (is_monitor g)) (is_of_any ns g) in
-    omega (arith, a, b, rest, one)
-  where
-    by_case : (x y : Bool) → cond (x && y) 1 0 ≤ cond x 1 0
-    by_case true true = omega arith
-    by_case true false = omega arith
-    by_case false y = omega arith
+alive_few ns gs = sum_by-le-sum_by (λ (g : Goal CellName). cond (is_alive_in ns g) 1 0) (λ g. cond (not (is_monitor g)) 1 0) gs (λ g. grind (arith, nat_tests))
 
 -- ---- the answers
 

@@ -1,12 +1,12 @@
 -- The words that this crate's proofs use, and where they come from.
 pub use Rattle.std.proofs.Common.{IsTrue, count_by, nat_lt, negsuc, pos, reverse, w64, ◌≢◌}
-pub use Rattle.std.proofs.lemmas.Bool.{and_from, true≢false}
+pub use Rattle.std.proofs.lemmas.Bool.{and_from, false_from_ne_true, true≢false}
 pub use Rattle.std.proofs.lemmas.Bool.Decides.{nat_tests}
 pub use Rattle.std.proofs.lemmas.Fmt.{length-decimal-le}
 pub use Rattle.std.proofs.lemmas.List.{at_drop_all, at_drop_more, length-append, length-reverse, reverse-append, take-map}
 pub use Rattle.std.proofs.lemmas.List.Folds.{list_any_kept}
 pub use Rattle.std.proofs.lemmas.List.Sorted.{IsPermutation-sym}
-pub use Rattle.std.proofs.lemmas.Option.{get_or_from_slice_get, slice_get_within}
+pub use Rattle.std.proofs.lemmas.Option.{get_or_from_slice_get, none-some, slice_get_cases, slice_get_within}
 pub use Rattle.std.specs.Fmt.{signed_decimal}
 pub use Rattle.std.specs.List.{AllPairs, list_all}
 pub use Rattle.std.specs.Prelude.{decimal, ⊤, ◌↔◌}
@@ -43,8 +43,6 @@ pub use Rattle.kl1_model.specs.declared.limits.TheConstants.{MOST_ACCOUNT_NAME_B
 pub use Rattle.kl1_model.specs.declared.pair_form.PairForm.{PairForm}
 pub use Rattle.kl1_model.specs.declared.pair_form.PairForm.TheVariants.{Call}
 pub use Rattle.kl1_model.specs.laws.LimitLaws.{AreLow}
-pub use Rattle.kl1_atoms.specs.Knowing.{is_reading}
-pub use Rattle.kl1_atoms.specs.Names.{reading, text_or_mark}
 pub use Rattle.kl1_term.specs.Nodes.{code_of, with_node}
 pub use Rattle.kl1_term.specs.Page.{limited}
 pub use Rattle.kl1_term.specs.Printing.{text_in, text_of, waits_of}
@@ -77,28 +75,26 @@ pub use Rattle.kl1_user_events.specs.declared.goal_view.Presence.TheVariants.{Ab
 pub use Rattle.kl1_user_events.specs.declared.goal_view.TaskKind.{TaskKind}
 pub use Rattle.kl1_user_events.specs.declared.refusal.Refusal.TheVariants.{Syntax}
 pub use Rattle.kl1_user_events.specs.declared.shoen_view.ShoenView.{ShoenView}
-pub use Rattle.kl1_user_effects.proofs.Below.{below_is}
-pub use Rattle.kl1_user_effects.proofs.CellReadings.{is_known, is_small, read_as}
-pub use Rattle.kl1_user_effects.proofs.Exchanges.{spared_count}
-pub use Rattle.kl1_user_effects.proofs.KnownTexts.{next_take, next_text, not_before}
+pub use Rattle.kl1_user_effects.proofs.KnownTexts.{next_take, next_text, not_before, not_there, of_module}
 pub use Rattle.kl1_user_effects.proofs.Messages.{kept_at}
-pub use Rattle.kl1_user_effects.proofs.ModuleNames.{not_there, of_module}
 pub use Rattle.kl1_user_effects.proofs.Publishing.{keeps_then}
 pub use Rattle.kl1_user_effects.proofs.Spares.{spared_draft}
 pub use Rattle.kl1_user_effects.proofs.Words.{AreNumbersOf, AreRead, AreSpared, Colon, Contains-permutation, Control, Ended, IsNameList, IsRead, Limits, NoShoen, ReadsDraft, Terminated, add-one, cases_Bool, charged_of, filter, get_or_default, limit_passed, names_of_module, no_shoen, option_and_then, reduces, shoen_ended, slice_get, substitutes, term_of-Structure, with_none, ◌*◌, ◌⊎◌}
+pub use Rattle.kl1_user_effects.proofs.Exchanged.{is_known, is_small, read_as}
+pub use Rattle.kl1_user_effects.proofs.Swapping.{spared_count}
 unfoldable pub use Rattle.kl1_user_effects.proofs.Words.{with_text}
 pub use Rattle.kl1_user_effects.specs.Account.{Account, program_of, state_of, with_kept}
 pub use Rattle.kl1_ready.proofs.Ready.{no_control}
 pub use Rattle.kl1_ready.proofs.SettledStays.{control_in}
-pub use Rattle.kl1_ready.proofs.Words.{Contains-dedup_nat, Contains-from_dedup, HangsOnEach, HasPredicate, IfOk-weaker, IsKind, IsStrictlyIncreasing-dedup, Kind, Module, Rules, StandsAs, arguments_of, awaited_by_monitor, awaited_by_task, awaits_message, contains_among, control_clause, control_of, control_with, dedup_is, ends, front_with, goal_look, kind_at, look_clause, monitor_action, monitor_clause, move_by, nil_from_length, qualified_term, read_action, shoen_in, substitute_move, task_clause, vec_len}
+pub use Rattle.kl1_ready.proofs.Words.{Contains-dedup_nat, Contains-from_dedup, HasPredicate, IfOk-weaker, IsKind, IsStrictlyIncreasing-dedup, Kind, Module, Rules, StandsAs, arguments_of, awaited_by_monitor, awaited_by_task, awaits_message, contains_among, control_clause, control_of, control_with, dedup_is, ends, front_with, goal_look, kind_at, look_clause, monitor_action, monitor_clause, move_by, nil_from_length, qualified_term, read_action, shoen_in, substitute_move, task_clause, vec_len}
 unfoldable pub use Rattle.kl1_ready.proofs.Words.{term_of}
-pub use Rattle.kl1_machine.proofs.Bringing.{names_used, published_alike, published_rested, published_states}
+pub use Rattle.kl1_machine.proofs.Bringing.{names_used, published_rested, published_states}
 pub use Rattle.kl1_machine.proofs.Looking.{looked_hold, same_goal, unready_hold}
 pub use Rattle.kl1_machine.proofs.Planned.{enabled_read, found_holds, goal_read, state_in}
 pub use Rattle.kl1_machine.proofs.Published.{IsReduced, published_reduced}
 pub use Rattle.kl1_machine.proofs.Resting.{looked_read}
 pub use Rattle.kl1_machine.proofs.Sending.{refused_as}
-pub use Rattle.kl1_machine.proofs.Words.{Aborted, AllByRecursion, AllSettled, AreBelow, AreEnabled, AreGoalsIn, AreNames, AreNumbered, AreOwned, AreSettled, AreSmall, Ascend, Atom, AtomNo, Bool, Brings, CanPublish, Cell, CellName, Contains, Fits, Goal, Held, Hook, IsBegun, IsEnabled, IsFormed, IsIn, IsMachine, IsPublished, IsRested, IsSettled, IsTaskIn, Keeps, Known, Knows, List, Living, MONITOR_PRIORITY, MOST_NAMES, Means, Message, Monitor, NameShelf, None, Numbered, Option, Origin, Predicate, Program, Publishes, Qualified, Reading, Reads, ReadsAlike, Reduces, Refusal, Refuses, Reschedules, Shoen, Some, State, Substitutes, Task, Term, Terms, Trail, Transition, [], aim, aim_with, and_parts, answered, ap, append-nil, append_assoc, ap₂, arith, atom, breaks_off, built, bytes_eq, cases_lt, change_of, charged_in, codes, cond, contents, control, control_at, drop, drop_all, drop_more, eq-eqb, eqb-true, false, false≢true, find, found_in, get_or, goal_nodes, goal_of, goal_with, has_substitutes, highest, if◌then◌else◌, inl, inr, integer, is_after, is_among, is_full, is_goal, is_goal_of, is_in_run, is_living, is_monitor, is_monitor_task, is_number, is_of_any, is_some, is_text, journal_full, le-leb, le-ltb, leb-true, length, length-map, list_any, list_any-append, lives_in, lt-leb, lt-ltb, ltb-false, ltb-true, made, map, map-append, meaning, more, moves, names_of, names_with, nat_le, ne_eqb, needs_entry, nodes_of, none, not, occurs, occurs_in, on_ok_weaker, option_copied, option_map, or_cases, origin_in, origin_with, parents_in, parents_read, point_of, reduce, reduced, refl, refusal_of, refuse, rules, sent, settled_alike, shoen_at, shoen_with, sizes, start_goal, state_with, step, structure, structures_of, subst, suc, sum_by-cons, sym, syntax, take, take_all, task_action, task_with, tells, tells_other, term_of-Atom, term_of-Integer, term_of-unbound, texts_of, told_in, true, unready, unwrap_or, variable, with_entry, with_last, with_names, with_reduction, worked, zero, ℕ, ℤ, ◌&&◌, ◌++◌, ◌+◌, ◌-◌, ◌<◌, ◌==◌, ◌^◌, ◌||◌, ◌∙◌, ◌∷◌, ◌≡◌, ◌≤◌}
+pub use Rattle.kl1_machine.proofs.Words.{Aborted, AllByRecursion, AllSettled, AreBelow, AreEnabled, AreGoalsIn, AreNames, AreNumbered, AreOwned, AreSettled, AreSmall, Ascend, Atom, Bool, Brings, CanPublish, Cell, CellName, Contains, Fits, Goal, Held, Hook, IsBegun, IsEnabled, IsFormed, IsIn, IsMachine, IsPublished, IsRested, IsSettled, IsTaskIn, Keeps, Known, Knows, List, Living, MONITOR_PRIORITY, MOST_NAMES, Means, Message, Monitor, NameShelf, None, Numbered, Option, Origin, Predicate, Program, Publishes, Qualified, Reading, Reads, ReadsAlike, Reduces, Refusal, Refuses, Reschedules, Shoen, Some, State, Substitutes, Task, Term, Terms, Trail, Transition, [], aim, aim_with, and_parts, answered, ap, append-nil, append_assoc, ap₂, arith, atom, breaks_off, built, bytes_eq, cases_lt, change_of, charged_in, codes, cond, contents, control, control_at, drop, drop_all, drop_more, eq-eqb, eqb-true, false, false≢true, find, found_in, get_or, goal_nodes, goal_of, goal_with, has_substitutes, highest, if◌then◌else◌, inl, inr, integer, is_after, is_among, is_full, is_goal, is_goal_of, is_in_run, is_living, is_monitor, is_number, is_of_any, is_some, is_text, journal_full, le-leb, le-ltb, leb-true, length, length-map, list_any, list_any-append, lives_in, lt-leb, lt-ltb, ltb-false, ltb-true, made, map, map-append, meaning, more, moves, names_of, names_with, nat_le, ne_eqb, needs_entry, nodes_of, none, not, occurs, occurs_in, on_ok_weaker, option_copied, option_map, origin_in, origin_with, parents_in, parents_read, point_of, reduce, reduced, refl, refusal_of, refuse, rules, sent, settled_alike, shoen_at, shoen_with, sizes, start_goal, state_with, step, structure, structures_of, subst, suc, sum_by-cons, sym, syntax, take, take_all, task_action, task_with, tells, tells_other, term_of-Atom, term_of-Integer, term_of-unbound, texts_of, told_in, true, unready, unwrap_or, variable, with_entry, with_last, with_names, with_reduction, worked, zero, ℕ, ℤ, ◌&&◌, ◌++◌, ◌+◌, ◌-◌, ◌<◌, ◌==◌, ◌^◌, ◌||◌, ◌∙◌, ◌∷◌, ◌≡◌, ◌≤◌}
 unfoldable pub use Rattle.kl1_machine.proofs.Words.{path_within, with_texts}
 pub use Rattle.kl1_machine.specs.Bringing.{CanBring, PublishesNames}
 pub use Rattle.kl1_machine.specs.Sending.{IsRefusedMessage, Sends}
@@ -106,22 +102,19 @@ pub use Rattle.kl1_machine.specs.declared.machine.bringing.Brought.{Brought}
 pub use Rattle.kl1_machine.specs.declared.machine.bringing.Brought.TheVariants.{Answers, Starts}
 pub use Rattle.kl1_machine.specs.declared.machine.starting.Start.{Start}
 pub use Rattle.kl1_user_account.specs.Accounts.{kept_in}
-pub use Rattle.kl1_user_account.specs.Answering.{AnswersAs, IsAnswerable, RefusesAnswer, has_room_to_answer_beside}
+pub use Rattle.kl1_user_account.specs.Answering.{IsAnswerable, RefusesAnswer, has_room_to_answer_beside}
 pub use Rattle.kl1_user_account.specs.Asked.{cells_of, condition_at, is_alive_in}
 pub use Rattle.kl1_user_account.specs.Beginning.{begun}
 pub use Rattle.kl1_user_account.specs.Bringing.{MayBring}
 pub use Rattle.kl1_user_account.specs.Keeping.{CountsWork, IsKept}
 pub use Rattle.kl1_user_account.specs.Loadings.{HasModules, IsDraft, IsDraftOf, LoadsAs, StandsIn}
-pub use Rattle.kl1_user_account.specs.Starting.{HasNames, IsFree, IsStartable, StartsAs, has_room_beside, refusals_of, refused_or}
+pub use Rattle.kl1_user_account.specs.Starting.{HasNames, IsFree, IsStartable, has_room_beside, refusals_of, refused_or}
 pub use Rattle.kl1_user_account.specs.Tops.{IsNext, ReadsTop, Takes, count_at, list_cell, node_with, stacked_terms, weight}
 pub use Rattle.kl1_user_account.specs.Viewed.{Awaits, AwaitsMessage, IsPresenceIn, ListsAwaited, goal_shown, is_variable_top, kind_shown, shoen_shown}
 pub use Rattle.kl1_user_account.specs.declared.account.Account.TheInside.{Inside}
-pub use Rattle.kl1_user_account.specs.declared.answerable.Answering.{Answering}
-pub use Rattle.kl1_user_account.specs.declared.answerable.Answering.TheVariants.{Coded}
 pub use Rattle.kl1_user_account.specs.declared.counted.Counted.{Counted}
 pub use Rattle.kl1_user_account.specs.declared.loading.Loading.{Loading}
 pub use Rattle.kl1_user_account.specs.declared.loading.Loading.TheVariants.{Drafted, Refused}
-pub use Rattle.kl1_user_account.specs.declared.startable.Starting.{Starting}
 pub use Rattle.kl1_user_account.specs.declared.top.Top.{Top}
 pub use Rattle.kl1_user_account.specs.declared.top.Top.TheVariants.{Structure}
 pub use Rattle.kl1_machine.specs.declared.machine.Machine.{Machine}

@@ -1,5 +1,5 @@
 -- Terminations come apart: lives end first, and reports and closings come after.
-use Rattle.kl1_user_effects.proofs.Words.{◌≡◌, ℕ, suc, ◌==◌, true, if◌then◌else◌, List, [], ◌∷◌, refl, sym, ap, ◌∙◌, inl, inr, Option, Some, None, option_map, Terminated, Term, variable, integer, atom, structure, nil, cell, State, shoen_at, replace_in_shoen, replace_in_state, change_shoen, path, broken_at, has_made_last, report_tail, reported_on, reported_at, report, report_each, closed_at, close, exhausted_report, terminated_report, report_of, close_of, without_monitor, ended_at, terminate, terminate_each, ending_of, newly_exhausted, after_reduction, ended_each, finished, finished_each, cases_Bool}
+use Rattle.kl1_user_effects.proofs.Words.{◌≡◌, ℕ, suc, ◌==◌, true, if◌then◌else◌, List, [], ◌∷◌, refl, sym, ap, ◌∙◌, inl, inr, Option, Some, None, option_map, Terminated, Term, variable, nil, cell, State, shoen_at, replace_in_shoen, replace_in_state, change_shoen, path, has_made_last, report_tail, reported_on, reported_at, report, report_each, closed_at, close, exhausted_report, terminated_report, report_of, close_of, without_monitor, ended_at, terminate, terminate_each, ending_of, newly_exhausted, after_reduction, ended_each, finished_late, finished_each_late, cases_Bool}
 use Rattle.std.specs.Prelude.{map}
 use Rattle.kl1_model.specs.State.{Shoen}
 use Rattle.kl1_user_effects.proofs.Lists.{maps_both, find_by}
@@ -27,15 +27,14 @@ changed_ended n m f s e same = ap (λ (hs : List Shoen). let z : State = record 
       | inr p ↦ elim (cases_Bool (h.number == m)) [ inl q ↦ simp (p, q, ap (λ k. k == n) (same h) ∙ p) | inr q ↦ simp (p, q) ]
     ]
 
-broken_ended : (n m : ℕ) (s : State) → broken_at m (ended_at n s) ≡ ended_at n (broken_at m s)
-broken_ended n m s = changed_ended n m (λ h. record h { is_broken = true }) s (λ h. refl) (λ h. refl)
+-- a shoen changes before a variable is replaced, or after that
+pub change_replaced : (n v : ℕ) (t : Term) (f g : Shoen → Shoen) (s : State) → ((h : Shoen) → replace_in_shoen v t (f h) ≡ g (replace_in_shoen v t h)) → replace_in_state v t (change_shoen n f s) ≡ change_shoen n g (replace_in_state v t s)
+change_replaced n v t f g s e =
+    ap (λ (hs : List Shoen). let z : State = record (replace_in_state v t s) { shoens = hs } in z)
+    (maps_both (replace_in_shoen v t) (λ h. if h.number == n then f h else h) (λ h. if h.number == n then g h else h) (replace_in_shoen v t) (λ h. elim (cases_Bool (h.number == n)) [ inl p ↦ simp p (e h) | inr p ↦ simp p ]) s.shoens)
 
--- a variable replaced
-replace_ended : (n v : ℕ) (t : Term) (s : State) → replace_in_state v t (ended_at n s) ≡ ended_at n (replace_in_state v t s)
-replace_ended n v t s = ap (λ (hs : List Shoen). let z : State = record (replace_in_state v t s) { shoens = hs } in z) (maps_both (replace_in_shoen v t) (ended_if n) (ended_if n) (replace_in_shoen v t) one s.shoens)
-  where
-    one : (h : Shoen) → replace_in_shoen v t (ended_if n h) ≡ ended_if n (replace_in_shoen v t h)
-    one h = elim (cases_Bool (h.number == n)) [ inl p ↦ simp p | inr p ↦ simp p ]
+pub replace_ended : (n v : ℕ) (t : Term) (s : State) → replace_in_state v t (ended_at n s) ≡ ended_at n (replace_in_state v t s)
+replace_ended n v t s = change_replaced n v t over over s (λ h. refl)
 
 found_ended : (n m : ℕ) (hs : List Shoen) → shoen_at m (map (ended_if n) hs) ≡ option_map (ended_if n) (shoen_at m hs)
 found_ended n m hs = find_by (ended_if n) (λ h. h.number == m) (λ h. h.number == m) (λ h. elim (cases_Bool (h.number == n)) [ inl p ↦ simp p | inr p ↦ simp p ]) hs
@@ -43,7 +42,7 @@ found_ended n m hs = find_by (ended_if n) (λ h. h.number == m) (λ h. h.number 
 -- ---- reports and closings, after a shoen has ended
 
 told_ended : (n m : ℕ) (message : Term) (o : Option ℕ) (s : State) → reported_on m message o (ended_at n s) ≡ ended_at n (reported_on m message o s)
-told_ended n m message None s = broken_ended n m s
+told_ended n m message None s = changed_ended n m (λ h. record h { is_broken = true }) s (λ h. refl) (λ h. refl)
 told_ended n m message (Some v) s =
     let next = suc s.last_variable in
     let sent : State → State = λ z. record z { last_variable = next; reports = suc s.reports } in
@@ -71,9 +70,7 @@ close_ended n m s = ap (λ o. close_of o (ended_at n s)) (found_ended n m s.shoe
   where
     by_tail : (t : Term) → closed_at t (ended_at n s) ≡ ended_at n (closed_at t s)
     by_tail (variable v) = replace_ended n v nil s
-    by_tail (integer i) = refl
-    by_tail (atom a) = refl
-    by_tail (structure f ts) = refl
+    by_tail _ = refl
 
     by_case : (o : Option Shoen) → close_of (option_map (ended_if n) o) (ended_at n s) ≡ ended_at n (close_of o s)
     by_case None = refl
@@ -81,11 +78,11 @@ close_ended n m s = ap (λ o. close_of o (ended_at n s)) (found_ended n m s.shoe
 
 -- ---- all of it
 
-finished_ended : (n m : ℕ) (s : State) → finished m (ended_at n s) ≡ ended_at n (finished m s)
+finished_ended : (n m : ℕ) (s : State) → finished_late None m (ended_at n s) ≡ ended_at n (finished_late None m s)
 finished_ended n m s =
     ap (close m) (report_ended n m terminated_report (without_monitor m s)) ∙ close_ended n m (report m terminated_report (without_monitor m s))
 
-finished_all : (ns : List ℕ) (m : ℕ) (s : State) → finished m (ended_each ns s) ≡ ended_each ns (finished m s)
+finished_all : (ns : List ℕ) (m : ℕ) (s : State) → finished_late None m (ended_each ns s) ≡ ended_each ns (finished_late None m s)
 finished_all [] m s = refl
 finished_all (n ∷ ns) m s = finished_all ns m (ended_at n s) ∙ ap (ended_each ns) (finished_ended n m s)
 
@@ -98,15 +95,15 @@ reported_all (n ∷ ns) ms message s = reported_all ns ms message (ended_at n s)
     each_ended (k ∷ ks) z = ap (report_each ks message) (report_ended n k message z) ∙ each_ended ks (report k message z)
 
 -- terminations are the ends of lives, and then the rest of each
-pub terminates_apart : (ns : List ℕ) (s : State) → terminate_each ns s ≡ finished_each ns (ended_each ns s)
+pub terminates_apart : (ns : List ℕ) (s : State) → terminate_each ns s ≡ finished_each_late None ns (ended_each ns s)
 terminates_apart [] s = refl
-terminates_apart (n ∷ ns) s = terminates_apart ns (terminate n s) ∙ ap (finished_each ns) (sym (finished_all ns n (ended_at n s)))
+terminates_apart (n ∷ ns) s = terminates_apart ns (terminate n s) ∙ ap (finished_each_late None ns) (sym (finished_all ns n (ended_at n s)))
 
 -- what comes after a reduction comes apart: lives end, reports of exhaustion are made, and then the rest of each termination
 pub settles_apart : (n : ℕ) (s : State) →
-    after_reduction n s ≡ finished_each (ending_of (path s.shoens n) s) (report_each (newly_exhausted s (ending_of (path s.shoens n) s) (path s.shoens n)) exhausted_report (ended_each (ending_of (path s.shoens n) s) s))
+    after_reduction n s ≡ finished_each_late None (ending_of (path s.shoens n) s) (report_each (newly_exhausted s (ending_of (path s.shoens n) s) (path s.shoens n)) exhausted_report (ended_each (ending_of (path s.shoens n) s) s))
 settles_apart n s =
     let ns = path s.shoens n in
     let ending = ending_of ns s in
     let told = newly_exhausted s ending ns in
-    terminates_apart ending (report_each told exhausted_report s) ∙ ap (finished_each ending) (sym (reported_all ending told exhausted_report s))
+    terminates_apart ending (report_each told exhausted_report s) ∙ ap (finished_each_late None ending) (sym (reported_all ending told exhausted_report s))

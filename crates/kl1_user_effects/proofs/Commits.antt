@@ -1,12 +1,11 @@
 -- Goals that commit, and goals that go.
-use Rattle.kl1_user_effects.proofs.Words.{◌≡◌, ℕ, suc, ◌+◌, ◌-◌, not, ◌&&◌, Bool, false, List, [], ◌∷◌, ◌++◌, length, map, refl, sym, ap, ap₂, ◌∙◌, arith, unwrap_or, nat_le, find, count_by, Option, Some, None, option_map, map-append, sum_by-cons, Term, Clause, goals_of, Candidate, body_instance, body_priorities, fresh_variables, goals_nodes, State, limits_of, shoen_at, clipped, priority_of, goals_from, has_room_for, committed, CellName, Qualified, Held, qualified_list, AreQualifiedIn, Grown, Monitor, Goal, is_monitor, Shoen, has_number, Needs, IsBody, AreNeeds, Numbered, Reading, Means, meaning, goal_with, shoen_with, AreGoalsIn, IsOwned, AreOwned, goals_for, priorities_by, Made, worked, IsMadeIn, Knows, Turns}
+use Rattle.kl1_user_effects.proofs.Words.{◌≡◌, ℕ, suc, ◌+◌, ◌-◌, not, ◌&&◌, Bool, List, [], ◌∷◌, ◌++◌, length, map, refl, sym, ap, ap₂, ◌∙◌, arith, unwrap_or, nat_le, find, count_by, Option, Some, None, option_map, map-append, sum_by-cons, Term, Clause, goals_of, Candidate, body_instance, body_priorities, fresh_variables, goals_nodes, State, limits_of, shoen_at, clipped, priority_of, goals_from, has_room_for, committed, CellName, Qualified, Held, qualified_list, AreQualifiedIn, Grown, Goal, is_monitor, Shoen, has_number, Needs, IsBody, AreNeeds, Numbered, Reading, Means, meaning, goal_with, shoen_with, AreGoalsIn, IsOwned, AreOwned, goals_for, priorities_by, Made, worked, IsMadeIn, Knows, Turns, IsTaskIn, MONITOR_PRIORITY, le_trans, max-le, min-le_right, ◌≤◌}
 use Rattle.std.specs.Prelude.{cond}
 use Rattle.kl1_model.specs.State as model
-use Rattle.kl1_user_effects.proofs.Aims.{aim_is}
-use Rattle.kl1_user_effects.proofs.States.{Agree, same_goals, same_shoens}
+use Rattle.kl1_user_effects.proofs.States.{aim_is, Agree, same_goals, same_shoens}
 use Rattle.kl1_user_effects.proofs.Works.{finds, grown_made}
-use Rattle.kl1_user_effects.proofs.Goals.{goals_in_append, owned_append, count_read, monitor_read}
-use Rattle.kl1_user_effects.proofs.Lists.{maps_as}
+use Rattle.kl1_user_effects.proofs.Goals.{count_read, monitor_read}
+use Rattle.kl1_user_effects.proofs.Lists.{maps_as, all_append}
 
 -- ---- the goals of a body
 
@@ -16,23 +15,24 @@ goals_read f h last shoen [] (x ∷ xs) = refl
 goals_read f h last shoen (p ∷ ps) (x ∷ xs) =
     ap₂ (λ t (gs : List model.Goal). let g : model.Goal = record { number = suc last; task = model.reduces t; shoen = shoen; priority = p } in g ∷ gs) (sym (aim_is f h x)) (goals_read f h (suc last) shoen ps xs)
 
-pub goals_for_in : (h : Held CellName) (last shoen : ℕ) (ps : List ℕ) (xs : List (Qualified CellName)) → AreQualifiedIn h xs → AreGoalsIn h (goals_for last shoen ps xs)
-goals_for_in h last shoen ps [] i = tt
-goals_for_in h last shoen [] (x ∷ xs) i = tt
-goals_for_in h last shoen (p ∷ ps) (x ∷ xs) i = (i.0, goals_for_in h (suc last) shoen ps xs i.1)
+goals_made : (h : Held CellName) (count last : ℕ) (goal : Goal CellName) (ps : List ℕ) (xs : List (Qualified CellName)) → AreQualifiedIn h xs → IsOwned count goal → AreGoalsIn h (goals_for last goal.shoen ps xs) × AreOwned count (goals_for last goal.shoen ps xs)
+goals_made h count last goal ps [] i o = (tt, tt)
+goals_made h count last goal [] (x ∷ xs) i o = (tt, tt)
+goals_made h count last goal (p ∷ ps) (x ∷ xs) i o =
+    let rest = goals_made h count (suc last) goal ps xs i.1 o in
+    ((i.0, rest.0), (record { low = o.low; high = o.high }, rest.1))
 
-pub goals_for_owned : (count last shoen : ℕ) (ps : List ℕ) (xs : List (Qualified CellName)) → IsOwned count (record { number = 0; task = Monitor; shoen = shoen; priority = 0; standing = None; is_enabled = false }) → AreOwned count (goals_for last shoen ps xs)
-goals_for_owned count last shoen ps [] o = tt
-goals_for_owned count last shoen [] (x ∷ xs) o = tt
-goals_for_owned count last shoen (p ∷ ps) (x ∷ xs) o = (record { low = o.low; high = o.high }, goals_for_owned count (suc last) shoen ps xs o)
-
-pub priorities_read : (t : Means) (o : Option (Shoen CellName)) (own : ℕ) (ps : List (Option ℕ)) → map (priority_of (option_map (shoen_with t) o) own) ps ≡ priorities_by o own ps
+priorities_read : (t : Means) (o : Option (Shoen CellName)) (own : ℕ) (ps : List (Option ℕ)) → map (priority_of (option_map (shoen_with t) o) own) ps ≡ priorities_by o own ps
 priorities_read t None own ps = refl
 priorities_read t (Some h) own ps = maps_as (priority_of (Some (shoen_with t h)) own) (λ (p : Option ℕ). unwrap_or (option_map (clipped h.low h.high) p) own) one ps
   where
     one : (p : Option ℕ) → priority_of (Some (shoen_with t h)) own p ≡ unwrap_or (option_map (clipped h.low h.high) p) own
     one None = refl
     one (Some n) = refl
+
+-- a priority that is clipped to a range is at most a monitor's
+pub clipped_low : (low high n : ℕ) → low ≤ MONITOR_PRIORITY → high ≤ MONITOR_PRIORITY → clipped low high n ≤ MONITOR_PRIORITY
+clipped_low low high n a b = max-le a (le_trans (min-le_right n high) b)
 
 -- ---- a goal that commits
 
@@ -57,12 +57,13 @@ commit_turns ms h k w goal o ps n cells candidate i a =
     let j = grown_made h k w a.grown i in
     let own_ps = priorities_by o goal.priority ps in
     let added = goals_for w.last_goal goal.shoen own_ps cells in
+    let made = goals_made k (length w.shoens) w.last_goal goal own_ps cells a.inside a.owned in
     record {
       inside = record {
         some = j.some;
-        goals = goals_in_append k w.goals added j.goals (goals_for_in k w.last_goal goal.shoen own_ps cells a.inside);
+        goals = all_append (λ (g : Goal CellName). IsTaskIn k g.task) w.goals added j.goals made.0;
         shoens = j.shoens;
-        owned = owned_append (length w.shoens) w.goals added j.owned (goals_for_owned (length w.shoens) w.last_goal goal.shoen own_ps cells (record { low = a.owned.low; high = a.owned.high }));
+        owned = all_append (IsOwned (length w.shoens)) w.goals added j.owned made.1;
       };
       states = λ f knows s.
           let c = candidate f in

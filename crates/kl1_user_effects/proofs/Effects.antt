@@ -1,5 +1,5 @@
--- What messages to a shoen make of drafts.
-use Rattle.kl1_user_effects.proofs.Words.{◌≡◌, ℕ, not, ◌&&◌, true, false, if◌then◌else◌, Bool, List, [], ◌∷◌, map, refl, inl, inr, sym, ap, Some, State, change_shoen, is_living, report, stopped_report, resumed_report, grown, stopped_of, resumed_of, CellName, Cell, Held, Shoen, is_on_path_in, aborted_below_in, Means, shoen_with, AreShoensIn, cases_Bool}
+-- What messages to a shoen make of drafts, and the child that opens.
+use Rattle.kl1_user_effects.proofs.Words.{◌≡◌, ℕ, ◌&&◌, true, false, if◌then◌else◌, Bool, List, [], ◌∷◌, map, inl, inr, ap, Some, State, change_shoen, is_living, report, stopped_report, resumed_report, grown, stopped_of, resumed_of, CellName, Cell, Held, Shoen, is_on_path_in, aborted_below_in, Means, shoen_with, AreShoensIn, cases_Bool, ExecuteArguments, Goal, IsOrder, Living, None, length, suc}
 
 pub aborted_in : (h : Held CellName) (all : List (Shoen CellName)) (n : ℕ) (ss : List (Shoen CellName)) → AreShoensIn h ss → AreShoensIn h (map (aborted_below_in all n) ss)
 aborted_in h all n [] i = tt
@@ -29,12 +29,27 @@ allowing extra h = record h { allowance = grown h.allowance extra }
 abbrev pub controlled : Cell CellName → Shoen CellName → Shoen CellName
 controlled x h = record h { control = x }
 
--- ---- tests turned round
+-- ---- a shoen that opens
 
-pub not_so : (b : Bool) → not b ≡ true → b ≡ false
-not_so true e = sym e
-not_so false e = refl
+-- the child of a shoen, as it is kept
+abbrev pub child_of : List (Shoen CellName) → Goal CellName → ExecuteArguments CellName → ℕ → ℕ → ℕ → Shoen CellName
+child_of ss goal o allowance low high = record {
+  number = suc (length ss);
+  parent = goal.shoen;
+  allowance = allowance;
+  low = low;
+  high = high;
+  control = o.control;
+  tail = o.reports;
+  life = Living;
+  is_stopped = false;
+  is_broken = false;
+  origin = None;
+}
 
-pub so_after_all : (b : Bool) → not b ≡ false → b ≡ true
-so_after_all true e = refl
-so_after_all false e = sym e
+-- the arguments of a structure are one order
+pub one_order : (h : Held CellName) (s : ℕ) (p o : ExecuteArguments CellName) → IsOrder h s o → IsOrder h s p → p ≡ o
+one_order h s p o a b =
+    let whole : ExecuteArguments CellName → ExecuteArguments CellName = λ x. record { goal = x.goal; low = x.low; high = x.high; allowance = x.allowance; control = x.control; reports = x.reports } in
+    let is : whole p ≡ whole o = cc in
+    is

@@ -1,8 +1,8 @@
 -- Readings by which a spare number stands for a name that another number has, and goals that are read as the same.
-use Rattle.kl1_user_effects.proofs.Words.{◌≡◌, ℕ, ◌<◌, ◌==◌, ◌^◌, ◌⊎◌, List, [], ◌∷◌, ◌++◌, map, sym, ap, ap₂, ◌∙◌, subst, inl, inr, arith, bytes_eq, Option, Some, None, option_map, cases_Bool, bytes_eq-Decides, map-append, Control, control_of, shoen_at, place_of, built_in_of, place-below, CellName, Known, number_in, number_by, Adds, option_cases, adds_one, still_known, Hook, Held, Goal, Shoen, shoen_in, contents, Program, HangsOnEach, Reading, Fits, Means, meaning, task_with, goal_with, shoen_with, texts_of, AreSmall, spare, control_with, task_clause, awaited_by_task, IsSettled, AreSettled, exchanged}
+use Rattle.kl1_user_effects.proofs.Words.{◌≡◌, ℕ, ◌<◌, ◌==◌, ◌^◌, ◌⊎◌, List, [], ◌∷◌, ◌++◌, map, sym, ap, ap₂, ◌∙◌, subst, inl, inr, arith, bytes_eq, Option, Some, None, option_map, cases_Bool, bytes_eq-Decides, map-append, Control, control_of, shoen_at, place_of, built_in_of, place-below, CellName, Known, number_in, number_by, Adds, option_cases, adds_one, still_known, Hook, Held, Goal, Shoen, shoen_in, contents, Program, HangsOnEach, Reading, Fits, Means, meaning, task_with, goal_with, shoen_with, texts_of, AreSmall, spare, control_with, task_clause, awaited_by_task, AreSettled, exchanged, AreNames, IsSome, built_in_at, eqb-true, marked_fits, marked_reading, place_found, refl, text_by, text_in}
 use Rattle.kl1_model.specs.State as model
-use Rattle.kl1_user_effects.proofs.Swaps.{same_name, number_test, swap_first, exchange_fits}
-use Rattle.kl1_user_effects.proofs.KnownNames.{not_known}
+use Rattle.kl1_user_effects.proofs.Swapping.{same_name, number_test, swap_first, exchange_fits}
+use Rattle.kl1_user_effects.proofs.KnownTexts.{not_known}
 use Rattle.kl1_user_effects.proofs.States.{found_in}
 
 -- ---- a name that is new, by the spare number
@@ -82,21 +82,6 @@ front_of o = option_map (λ (h : model.Shoen). control_of h.control) o
 control_read : (t : Means) (ss : List (Shoen CellName)) (n : ℕ) → control_with t ss n ≡ front_of (shoen_at n (map (shoen_with t) ss))
 control_read t ss n = rw (found_in t n ss) (elim (option_cases (shoen_in n ss)) [ inl none ↦ rw none | inr some ↦ rw some.1 ])
 
--- two ways to read shoens read the same control streams if they read the same shoens
-control_alike : (t u : Means) (ss : List (Shoen CellName)) (n : ℕ) → map (shoen_with t) ss ≡ map (shoen_with u) ss → control_with t ss n ≡ control_with u ss n
-control_alike t u ss n e = control_read t ss n ∙ ap (λ (hs : List model.Shoen). front_of (shoen_at n hs)) e ∙ sym (control_read u ss n)
-
-settled_one : (f g : Reading) (hooks : List Hook) (h k : Held CellName) (program : Program) (ss : List (Shoen CellName)) (x : Goal CellName) → map (shoen_with (meaning f h)) ss ≡ map (shoen_with (meaning g k)) ss → goal_with (meaning f h) x ≡ goal_with (meaning g k) x →
-    IsSettled f hooks h program ss x → IsSettled g hooks k program ss x
-settled_one f g hooks h k program ss x shoens goal s =
-    let front : control_with (meaning f h) ss x.shoen ≡ control_with (meaning g k) ss x.shoen = control_alike (meaning f h) (meaning g k) ss x.shoen shoens in
-    let task : task_with (meaning f h) x.task ≡ task_with (meaning g k) x.task = ap (λ (y : model.Goal). y.task) goal in
-    let H : List ℕ → Type 0 = λ vs. HangsOnEach hooks x.number vs in
-    record {
-      standing = s.standing ∙ ap₂ (λ (c : Option Control) (y : model.Task). task_clause program.rules (contents program.loaded) c y) front task;
-      hung = subst H (ap₂ (λ (c : Option Control) (y : model.Task). awaited_by_task program.rules (contents program.loaded) c y) front task) s.hung;
-    }
-
 -- goals that are settled for one reading are for another by which they and the shoens are the same
 pub settled_alike : (f g : Reading) (hooks : List Hook) (h k : Held CellName) (program : Program) (ss : List (Shoen CellName)) (gs : List (Goal CellName)) → map (shoen_with (meaning f h)) ss ≡ map (shoen_with (meaning g k)) ss → map (goal_with (meaning f h)) gs ≡ map (goal_with (meaning g k)) gs →
     AreSettled f hooks h program ss gs → AreSettled g hooks k program ss gs
@@ -104,4 +89,41 @@ settled_alike f g hooks h k program ss [] shoens goals s = tt
 settled_alike f g hooks h k program ss (x ∷ gs) shoens goals s =
     let first : goal_with (meaning f h) x ≡ goal_with (meaning g k) x = cc in
     let rest : map (goal_with (meaning f h)) gs ≡ map (goal_with (meaning g k)) gs = cc in
-    (settled_one f g hooks h k program ss x shoens first s.0, settled_alike f g hooks h k program ss gs shoens rest s.1)
+    let front : control_with (meaning f h) ss x.shoen ≡ control_with (meaning g k) ss x.shoen =
+    control_read (meaning f h) ss x.shoen ∙ ap (λ (hs : List model.Shoen). front_of (shoen_at x.shoen hs)) shoens ∙ sym (control_read (meaning g k) ss x.shoen) in
+    let task : task_with (meaning f h) x.task ≡ task_with (meaning g k) x.task = ap (λ (y : model.Goal). y.task) first in (
+      record { standing = s.0.standing ∙ ap₂ (task_clause program.rules (contents program.loaded)) front task; hung = subst (HangsOnEach hooks x.number) (ap₂ (awaited_by_task program.rules (contents program.loaded)) front task) s.0.hung },
+      settled_alike f g hooks h k program ss gs shoens rest s.1,
+    )
+
+-- ---- numbers that a seat knows
+
+-- a number that is the same for all readings is known
+pub is_known : (ks : List Known) (c : CellName) → AreNames ks → ((f g : Reading) → Fits ks f → Fits ks g → f c ≡ g c) → IsSome (text_by ks c.number)
+is_known ks c names same =
+    let e = same (marked_reading 1 ks) (marked_reading 2 ks) (marked_fits 1 ks (omega arith) names) (marked_fits 2 ks (omega arith) names) in
+    elim (option_cases (text_by ks c.number)) [
+      | inl none ↦ let marks : 1 ∷ c.number ∷ [] ≡ 2 ∷ c.number ∷ [] = rw none at e in absurd (cc)
+      | inr some ↦ rw some.1 refl
+    ]
+
+in_names : (ks : List Known) (n : ℕ) (t : List ℕ) → AreSmall ks → text_in ks n ≡ Some t → n < 2 ^ 32
+in_names [] n t small e = cc
+in_names (k ∷ ks) n t small e = elim (cases_Bool (k.number.number == n)) [
+  | inl same ↦ subst (λ m. m < 2 ^ 32) (eqb-true k.number.number n same) small.0
+  | inr other ↦ in_names ks n t small.1 (rw other at e)
+]
+
+-- a number that is known has 32 bits
+pub is_small : (ks : List Known) (n : ℕ) → AreSmall ks → IsSome (text_by ks n) → n < 2 ^ 32
+is_small ks n small some = elim (option_cases (built_in_at n)) [
+  | inl none ↦ elim (option_cases (text_in ks n)) [
+    | inl nothing ↦ cc (rw (none, nothing) at some)
+    | inr found ↦ in_names ks n found.0 small found.1
+  ]
+  | inr found ↦ let is = place_found n found.0 found.1 in let low = place-below found.0 in omega (arith, is, low)
+]
+
+-- a number is read as its text
+pub read_as : (ks : List Known) (c : CellName) (t : List ℕ) (f : Reading) → AreNames ks → text_by ks c.number ≡ Some t → Fits ks f → f c ≡ t
+read_as ks c t f names e fits = fits.texts t c.number (names.forth t c.number e)

@@ -1,13 +1,12 @@
 -- Lists of goals, as they are kept and as they are read.
-use Rattle.kl1_user_effects.proofs.Words.{◌≡◌, ℕ, suc, ◌≤◌, ◌==◌, not, ◌&&◌, Bool, List, [], ◌∷◌, ◌++◌, length, map, refl, ap, le_trans, filter, list_any, AllByRecursion, CellName, Qualified, Held, qualified_list, Task, Monitor, Reduces, Substitutes, Goal, is_monitor_task, is_monitor_of, is_goal_of, is_other, Reading, Means, task_with, goal_with, AreGoalsIn, AreOwned, AreUpTo, IsTaskIn, IsOwned, is_of_any, filter-append}
+use Rattle.kl1_user_effects.proofs.Words.{◌≡◌, ℕ, suc, ◌==◌, not, ◌&&◌, Bool, List, [], ◌∷◌, length, map, refl, ap, filter, list_any, AllByRecursion, CellName, Qualified, Held, qualified_list, Task, Monitor, Goal, is_monitor_task, is_monitor_of, is_goal_of, is_other, Reading, Means, task_with, goal_with, is_of_any, AreBelow, AreOwned, IsOwned, Shoen, among_contains, arith, contains_among, is_among, is_on_path_in, same_from_decides, true, ◌≤◌, ◌<◌}
 use Rattle.kl1_model.specs.State as model
-use Rattle.kl1_user_effects.proofs.Lists.{filter_by, filter_each, any_by, all_append, all_filter, all_then}
+use Rattle.kl1_user_effects.proofs.Lists.{filter_by, filter_each, any_by, all_then}
 
 -- whether a task is a monitor's, as it is kept and as it is read
 pub monitor_read : (t : Means) (k : Task CellName) → model.is_monitor (task_with t k) ≡ is_monitor_task k
 monitor_read t Monitor = refl
-monitor_read t (Reduces x) = refl
-monitor_read t (Substitutes x) = refl
+monitor_read t _ = refl
 
 pub others_read : (t : Means) (n : ℕ) (gs : List (Goal CellName)) → filter (λ g. not (g.number == n)) (map (goal_with t) gs) ≡ map (goal_with t) (filter (is_other n) gs)
 others_read t n gs = filter_each (goal_with t) (λ g. not (g.number == n)) (is_other n) (λ g. refl) gs
@@ -30,31 +29,6 @@ pub count_read : (f : Reading) (h : Held CellName) (xs : List (Qualified CellNam
 count_read f h [] = refl
 count_read f h (x ∷ xs) = ap suc (count_read f h xs)
 
-pub goals_in_append : (h : Held CellName) (gs ks : List (Goal CellName)) → AreGoalsIn h gs → AreGoalsIn h ks → AreGoalsIn h (gs ++ ks)
-goals_in_append h = all_append (λ (g : Goal CellName). IsTaskIn h g.task)
-
-pub owned_append : (count : ℕ) (gs ks : List (Goal CellName)) → AreOwned count gs → AreOwned count ks → AreOwned count (gs ++ ks)
-owned_append count = all_append (IsOwned count)
-
-pub up_to_append : (last : ℕ) (gs ks : List (Goal CellName)) → AreUpTo last gs → AreUpTo last ks → AreUpTo last (gs ++ ks)
-up_to_append last = all_append (λ (g : Goal CellName). g.number ≤ last)
-
-pub up_to_more : (last more : ℕ) (gs : List (Goal CellName)) → last ≤ more → AreUpTo last gs → AreUpTo more gs
-up_to_more last more gs le i = all_then (λ (g : Goal CellName). g.number ≤ last) (λ g. g.number ≤ more) (λ g j. le_trans j le) gs i
-
-pub filter_in : (h : Held CellName) (p : Goal CellName → Bool) (gs : List (Goal CellName)) → AreGoalsIn h gs → AreGoalsIn h (filter p gs)
-filter_in h = all_filter (λ (g : Goal CellName). IsTaskIn h g.task)
-
-pub filter_owned : (count : ℕ) (p : Goal CellName → Bool) (gs : List (Goal CellName)) → AreOwned count gs → AreOwned count (filter p gs)
-filter_owned count = all_filter (IsOwned count)
-
-pub filter_up_to : (last : ℕ) (p : Goal CellName → Bool) (gs : List (Goal CellName)) → AreUpTo last gs → AreUpTo last (filter p gs)
-filter_up_to last = all_filter (λ (g : Goal CellName). g.number ≤ last)
-
--- a filter of two lists
-pub filter_append : (p : Goal CellName → Bool) (gs ks : List (Goal CellName)) → filter p (gs ++ ks) ≡ filter p gs ++ filter p ks
-filter_append p gs ks = filter-append p gs ks
-
 -- if no shoen was aborted each goal stays
 pub all_stay : (gs : List (Goal CellName)) → filter (λ g. not (is_of_any [] g)) gs ≡ gs
 all_stay [] = refl
@@ -65,3 +39,16 @@ pub below_read : (t : Means) (p : ℕ → Bool) (aborted : List ℕ) (gs : List 
 below_read t p aborted gs a =
     filter_by (goal_with t) (λ g. not (p g.shoen)) (λ g. not (is_of_any aborted g)) gs
     (all_then (λ (g : Goal CellName). p g.shoen ≡ is_of_any aborted g) (λ g. not (p g.shoen) ≡ not (is_of_any aborted g)) (λ g e. ap not e) gs a)
+
+-- ---- goals of shoens that are below one
+
+-- of the shoens that are there those are found that are below one
+pub below_is : (n m : ℕ) (ss : List (Shoen CellName)) (below : List ℕ) → AreBelow ss n below → 0 < m → m ≤ length ss → is_on_path_in ss n m ≡ is_among m below
+below_is n m ss below b low high =
+    same_from_decides {P = is_among m below ≡ true} (is_on_path_in ss n m) (is_among m below)
+    (λ e. among_contains m below ((b.among m).1 (low, high, e)), λ e. ((b.among m).0 (contains_among m below e)).2) (λ e. e, λ e. e)
+
+-- of goals those are of shoens that are below one that are of these
+pub below_tells : (n : ℕ) (ss : List (Shoen CellName)) (below : List ℕ) (gs : List (Goal CellName)) → AreBelow ss n below → AreOwned (length ss) gs → AllByRecursion (λ g. is_on_path_in ss n g.shoen ≡ is_of_any below g) gs
+below_tells n ss below gs b o =
+    all_then (IsOwned (length ss)) (λ g. is_on_path_in ss n g.shoen ≡ is_of_any below g) (λ g own. let high = own.high in below_is n g.shoen ss below b own.low (omega (arith, high))) gs o

@@ -1,6 +1,5 @@
 -- A variable that becomes a name stays unbound through what comes after a goal's effects.
-use Rattle.kl1_user_effects.proofs.Words.{inl, inr, zero, suc, ◌≡◌, ℕ, ◌<◌, ◌≤◌, ◌==◌, not, ◌&&◌, Bool, true, false, List, [], ◌∷◌, refl, sym, ap, ◌∙◌, subst, arith, find, Option, Some, option_map, ne_eqb, eqb-false, cases_Bool, false≢true, Term, variable, integer, atom, structure, replace, nil, CellName, Cell, Variable, Integer, Atom, Structure, Held, IsIn, IsLower, is_bound, found, IsFormed, Grown, IsBoundTo, found_itself, bound_at, term_of-unbound, HasSent, ClosedAs, EndsAt, BreaksOff, off_is, Shoen, has_number, changed, Reading, built, meaning, shoen_with, is_variable, is_tail_of, IsNoTail, StaysFree, KeepsFree}
-use Rattle.kl1_user_effects.proofs.Works.{torn}
+use Rattle.kl1_user_effects.proofs.Words.{inl, inr, zero, suc, ◌≡◌, ℕ, ◌<◌, ◌≤◌, ◌==◌, not, ◌&&◌, Bool, true, false, List, refl, sym, ap, ◌∙◌, subst, arith, find, Option, Some, None, option_map, ne_eqb, eqb-false, cases_Bool, false≢true, Term, variable, replace, nil, CellName, Cell, Variable, Held, IsIn, IsLower, is_bound, found, IsFormed, Grown, IsBoundTo, found_itself, bound_at, term_of-unbound, HasSent, ClosedAs, EndsAt, BreaksOff, off_is, Shoen, has_number, Reading, built, meaning, shoen_with, is_variable, is_tail_of, IsNoTail, KeepsFree, is_late_tail, HasLate, KeepsLate, IsWalked}
 
 -- an unbound variable after another is replaced
 other_stays : (v w : ℕ) (t : Term) → (w == v) ≡ false → replace w t (variable v) ≡ variable v
@@ -24,9 +23,7 @@ same_free h k ss n e v lt other f reads is = let P : Held CellName → Type 0 = 
 
 ends_free : (f : Reading) (h k : Held CellName) (v : ℕ) (t : Term) → EndsAt f h k t → is_variable v t ≡ false → meaning f h (Variable v) ≡ variable v → meaning f k (Variable v) ≡ variable v
 ends_free f h k v (variable w) ends other is = ends (Variable v) ∙ ap (replace w nil) is ∙ other_stays v w nil other
-ends_free f h k v (integer i) ends other is = let same : k ≡ h = ends in rw same is
-ends_free f h k v (atom a) ends other is = let same : k ≡ h = ends in rw same is
-ends_free f h k v (structure g ts) ends other is = let same : k ≡ h = ends in rw same is
+ends_free f h k v _ ends other is = let same : k ≡ h = ends in rw same is
 
 -- the end of a stream leaves each other variable
 pub closed_free : (h k : Held CellName) (ss : List (Shoen CellName)) (n : ℕ) (sh : Shoen CellName) → find (has_number n) ss ≡ Some sh → ClosedAs built h k sh.tail sh.is_broken → KeepsFree n ss h k
@@ -35,24 +32,45 @@ closed_free h k ss n sh found c = λ v lt other f reads is. elim (cases_Bool sh.
   | inr b ↦ ends_free f h k v (meaning f h sh.tail) (c.whole b f reads) (tail_free h f ss n v sh found b other) is
 ]
 
--- ---- streams that break, as their tail becomes a name
+-- ---- tails that become a name
 
--- a stream that has just broken has no tail
-pub torn_free : (v n : ℕ) (h : Held CellName) (ss : List (Shoen CellName)) → IsNoTail v n h (changed n torn ss)
-torn_free v n h [] f = refl
-torn_free v n h (sh ∷ ss) f = elim (cases_Bool (has_number n sh)) [ inl p ↦ simp p | inr p ↦ simp p (torn_free v n h ss f) ]
+-- whether there is such a tail, by its cell
+pub tail_is : (h : Held CellName) (f : Reading) (n v : ℕ) (ss : List (Shoen CellName)) (sh : Shoen CellName) (x : Cell CellName) (b : Bool) → find (has_number n) ss ≡ Some sh → sh.is_broken ≡ false → meaning f h x ≡ meaning f h sh.tail → is_variable v (meaning f h x) ≡ b →
+    is_tail_of v (option_map (shoen_with (meaning f h)) (find (has_number n) ss)) ≡ b
+tail_is h f n v ss sh x b found whole same is = rw (found, whole) (ap (is_variable v) (sym same) ∙ is)
 
--- ---- one change after another
+-- whether an unbound variable is variable `v`
+pub tail_variable : (h : Held CellName) (f : Reading) (v w : ℕ) (x : Cell CellName) → x ≡ Variable w → IsWalked h x → is_variable v (meaning f h x) ≡ (w == v)
+tail_variable h f v w x e walked = rw e (ap (is_variable v) (term_of-unbound f h w (rw e at walked)))
 
-pub free_same : (v : ℕ) (h : Held CellName) → StaysFree v h h
-free_same v h f reads e = e
+-- what is no variable is none
+pub tail_other : (h : Held CellName) (f : Reading) (v : ℕ) (x y : Cell CellName) → IsFormed h → IsIn h x → x ≡ y → BreaksOff y → is_variable v (meaning f h x) ≡ false
+tail_other h f v x y formed inside e off = off_is f (λ t. is_variable v t ≡ false) h x x formed inside (rw e off) refl (λ i. refl) (λ a. refl) (λ a ts. refl)
 
-pub free_then : (v : ℕ) (h k l : Held CellName) → StaysFree v h k → StaysFree v k l → StaysFree v h l
-free_then v h k l p q f reads e = q f reads (p f reads e)
+-- ---- a variable that becomes a name at the end, if one does
 
--- a variable of a store is one of what it has grown to
-pub still_within : (v : ℕ) (h k : Held CellName) → v < h.variables → Grown h k → v < k.variables
-still_within v h k lt g = let m = g.variables in omega (arith, lt, m)
+pub free_same : (v : Option ℕ) (h : Held CellName) → KeepsLate v h h
+free_same None h = tt
+free_same (Some v) h = λ f reads e. e
+
+-- by one change after another
+pub free_then : (v : Option ℕ) (h k l : Held CellName) → KeepsLate v h k → KeepsLate v k l → KeepsLate v h l
+free_then None h k l p q = tt
+free_then (Some v) h k l p q = λ f reads e. q f reads (p f reads e)
+
+-- by what leaves each variable that is no tail
+pub free_by : (v : Option ℕ) (n : ℕ) (ss : List (Shoen CellName)) (h k : Held CellName) → HasLate v h → ((f : Reading) → is_late_tail v (option_map (shoen_with (meaning f h)) (find (has_number n) ss)) ≡ false) → KeepsFree n ss h k → KeepsLate v h k
+free_by None n ss h k within other keeps = tt
+free_by (Some v) n ss h k within other keeps = keeps v within other
+
+-- a store has it still when it has grown
+pub still_within : (v : Option ℕ) (h k : Held CellName) → HasLate v h → Grown h k → HasLate v k
+still_within None h k within g = tt
+still_within (Some v) h k within g =
+    let lt : v < h.variables = within in
+    let m = g.variables in
+    let is : v < k.variables = omega (arith, lt, m) in
+    is
 
 -- ---- what a bound variable is bound to
 
@@ -65,16 +83,12 @@ bound_to h v formed inside bound = bound_at h v (found v h.bindings) formed (ome
 
 pub lower_still : (v n : ℕ) (x : Cell CellName) → v ≤ n → IsLower v x → IsLower n x
 lower_still v n (Variable w) le l = omega arith
-lower_still v n (Integer i) le l = tt
-lower_still v n (Atom a) le l = tt
-lower_still v n (Structure s) le l = tt
+lower_still v n _ le l = tt
 
 -- a cell of a store is lower than the next variable
 pub in_lower : (h : Held CellName) (x : Cell CellName) → IsIn h x → IsLower h.variables x
 in_lower h (Variable w) i = omega (arith, i)
-in_lower h (Integer n) i = tt
-in_lower h (Atom a) i = tt
-in_lower h (Structure s) i = tt
+in_lower h _ i = tt
 
 -- a cell that is lower than a variable doesn't mean it
 pub not_lower : (n : ℕ) (h : Held CellName) (f : Reading) (v : ℕ) (x : Cell CellName) → IsFormed h → IsIn h x → IsLower n x → n ≤ v → meaning f h x ≡ variable v → ⊥
@@ -88,9 +102,7 @@ not_lower (suc n) h f v (Variable w) formed inside low le e = elim (cases_Bool (
       let is : w ≡ v = cc in
       omega (arith, low, le, is)
 ]
-not_lower n h f v (Integer i) formed inside low le e = off_none h f v (Integer i) tt formed inside e
-not_lower n h f v (Atom a) formed inside low le e = off_none h f v (Atom a) tt formed inside e
-not_lower n h f v (Structure s) formed inside low le e = off_none h f v (Structure s) tt formed inside e
+not_lower n h f v x formed inside low le e = off_none h f v x tt formed inside e
 
 -- nothing is bound to a variable that means itself
 pub unbound_by : (h : Held CellName) (f : Reading) (v : ℕ) → IsFormed h → v < h.variables → meaning f h (Variable v) ≡ variable v → is_bound v h.bindings ≡ false

@@ -1,26 +1,22 @@
 -- A variable becomes a name before what comes after a goal's effects, or after that: it makes no difference.
-use Rattle.kl1_user_effects.proofs.Words.{◌≡◌, ℕ, suc, ◌≤◌, ◌==◌, ◌||◌, not, ◌&&◌, Bool, true, false, if◌then◌else◌, List, [], ◌∷◌, refl, sym, ap, ap₂, ◌∙◌, arith, inl, inr, codes, count_by, Option, Some, None, option_map, unwrap_or, cases_Bool, ne_eqb, map-map, Terminated, is_among, Term, variable, integer, atom, structure, Terms, none, more, occurs, replace, replace_each, nil, cell, monitor, reduces, substitutes, State, shoen_at, replace_in_task, replace_in_goal, replace_in_origin, replace_in_shoen, replace_in_state, change_shoen, is_living, parents_of, path_within, path, is_living_child, broken_at, has_made_last, report_tail, reported_on, reported_at, report, report_each, closed_at, close, exhausted_report, terminated_report, report_of, close_of, has_goal, has_living_child, lives, ends_now, without_monitor, ended_at, ending_of, has_reached, newly_exhausted, after_reduction, ended_each, finished, finished_each, is_variable, break_of, break_at, report_late, report_each_late, close_late_of, close_late, finished_late, finished_each_late, settle_charged_late}
+use Rattle.kl1_user_effects.proofs.Words.{◌≡◌, ℕ, suc, ◌≤◌, ◌==◌, ◌||◌, not, ◌&&◌, Bool, true, false, if◌then◌else◌, List, [], ◌∷◌, refl, sym, ap, ap₂, ◌∙◌, arith, inl, inr, codes, count_by, Option, Some, None, option_map, unwrap_or, cases_Bool, ne_eqb, map-map, is_among, Term, variable, atom, structure, Terms, none, more, occurs, replace, replace_each, nil, cell, monitor, reduces, substitutes, State, shoen_at, replace_in_task, replace_in_goal, replace_in_origin, replace_in_shoen, replace_in_state, change_shoen, is_living, parents_of, path_within, path, is_living_child, broken_at, has_made_last, report_tail, reported_on, reported_at, report, report_each, closed_at, close, exhausted_report, terminated_report, report_of, close_of, has_goal, has_living_child, lives, ends_now, without_monitor, ended_at, ending_of, has_reached, newly_exhausted, after_reduction, ended_each, is_variable, is_tail_of, report_late, report_each_late, close_late, finished_late, finished_each_late, settle_charged_late}
 use Rattle.std.proofs.Common.{eqb-true}
 use Rattle.std.specs.Prelude.{map}
 use Rattle.kl1_model.specs.State.{Task, Goal, Origin, Shoen, is_monitor}
-use Rattle.kl1_user_effects.proofs.Apart.{settles_apart}
-use Rattle.kl1_user_effects.proofs.Lists.{maps_both, find_by, any_by, filter_each, held_by}
+use Rattle.kl1_user_effects.proofs.Apart.{change_replaced, replace_ended, settles_apart}
+use Rattle.kl1_user_effects.proofs.Lists.{maps_both, find_by, any_by, filter_each, found_by}
 
 -- ---- two variables replaced, one of them by an atom
-
-swapped_variable : (v w n : ℕ) (a : List ℕ) (u : Term) → (w == v) ≡ false → replace v (atom a) (if n == w then u else variable n) ≡ replace w (replace v (atom a) u) (if n == v then atom a else variable n)
-swapped_variable v w n a u e = elim (cases_Bool (n == w)) [
-  | inl p ↦ let other : (n == v) ≡ false = ap (λ x. x == v) (eqb-true n w p) ∙ e in simp (p, other)
-  | inr p ↦ elim (cases_Bool (n == v)) [ inl q ↦ simp (p, q) | inr q ↦ simp (p, q) ]
-]
 
 mutual
   -- a variable can become an atom before another is replaced, or after that
   pub swapped : (v w : ℕ) (a : List ℕ) (u : Term) → (w == v) ≡ false → (t : Term) → replace v (atom a) (replace w u t) ≡ replace w (replace v (atom a) u) (replace v (atom a) t)
-  swapped v w a u e (variable n) = swapped_variable v w n a u e
-  swapped v w a u e (integer i) = refl
-  swapped v w a u e (atom b) = refl
+  swapped v w a u e (variable n) = elim (cases_Bool (n == w)) [
+    | inl p ↦ let other : (n == v) ≡ false = ap (λ x. x == v) (eqb-true n w p) ∙ e in simp (p, other)
+    | inr p ↦ elim (cases_Bool (n == v)) [ inl q ↦ simp (p, q) | inr q ↦ simp (p, q) ]
+  ]
   swapped v w a u e (structure f ts) = ap (structure f) (swapped_each v w a u e ts)
+  swapped v w a u e _ = refl
 
   swapped_each : (v w : ℕ) (a : List ℕ) (u : Term) → (w == v) ≡ false → (ts : Terms) → replace_each v (atom a) (replace_each w u ts) ≡ replace_each w (replace v (atom a) u) (replace_each v (atom a) ts)
   swapped_each v w a u e none = refl
@@ -47,12 +43,6 @@ swapped_state v w a u e s =
 
 -- ---- shoens that are changed and found
 
--- a shoen changes before a variable is replaced, or after that
-pub change_replaced : (n v : ℕ) (t : Term) (f g : Shoen → Shoen) (s : State) → ((h : Shoen) → replace_in_shoen v t (f h) ≡ g (replace_in_shoen v t h)) → replace_in_state v t (change_shoen n f s) ≡ change_shoen n g (replace_in_state v t s)
-change_replaced n v t f g s e =
-    ap (λ (hs : List Shoen). let z : State = record (replace_in_state v t s) { shoens = hs } in z)
-    (maps_both (replace_in_shoen v t) (λ h. if h.number == n then f h else h) (λ h. if h.number == n then g h else h) (replace_in_shoen v t) (λ h. elim (cases_Bool (h.number == n)) [ inl p ↦ simp p (e h) | inr p ↦ simp p ]) s.shoens)
-
 -- a shoen by its number, after a variable is replaced
 pub found_replaced : (n v : ℕ) (t : Term) (hs : List Shoen) → shoen_at n (map (replace_in_shoen v t) hs) ≡ option_map (replace_in_shoen v t) (shoen_at n hs)
 found_replaced n v t hs = find_by (replace_in_shoen v t) (λ h. h.number == n) (λ h. h.number == n) (λ h. refl) hs
@@ -60,14 +50,6 @@ found_replaced n v t hs = find_by (replace_in_shoen v t) (λ h. h.number == n) (
 -- a shoen with its report stream broken
 abbrev no_more : Shoen → Shoen
 no_more h = record h { is_broken = true }
-
-found_broken : (n : ℕ) (hs : List Shoen) → shoen_at n (map (λ (h : Shoen). if h.number == n then no_more h else h) hs) ≡ option_map no_more (shoen_at n hs)
-found_broken n [] = refl
-found_broken n (h ∷ hs) = elim (cases_Bool (h.number == n)) [ inl p ↦ simp p | inr p ↦ simp p (found_broken n hs) ]
-
--- a report on a stream that was just broken is dropped
-dropped : (n : ℕ) (message : Term) (s : State) (h : Shoen) → shoen_at n s.shoens ≡ Some h → report n message (broken_at n s) ≡ broken_at n s
-dropped n message s h p = ap (λ o. report_of o n message (broken_at n s)) (found_broken n s.shoens ∙ ap (option_map no_more) p)
 
 broken_replaced : (n v : ℕ) (t : Term) (s : State) → replace_in_state v t (broken_at n s) ≡ broken_at n (replace_in_state v t s)
 broken_replaced n v t s = change_replaced n v t no_more no_more s (λ h. refl)
@@ -96,31 +78,27 @@ told_on false n v w a b s le e =
 told_replaced : (n v : ℕ) (a b : List ℕ) (tail : Term) (s : State) → v ≤ s.last_variable → is_variable v tail ≡ false → reported_at n (atom b) (replace v (atom a) tail) (replace_in_state v (atom a) s) ≡ replace_in_state v (atom a) (reported_at n (atom b) tail s)
 told_replaced n v a b (variable w) s le e =
     ap (λ c. reported_at n (atom b) (if c then atom a else variable w) (replace_in_state v (atom a) s)) e ∙ told_on (occurs w (atom b) || has_made_last s) n v w a b s le e
-told_replaced n v a b (integer i) s le e = sym (broken_replaced n v (atom a) s)
-told_replaced n v a b (atom c) s le e = sym (broken_replaced n v (atom a) s)
-told_replaced n v a b (structure f ts) s le e = sym (broken_replaced n v (atom a) s)
+told_replaced n v a b _ s le e = sym (broken_replaced n v (atom a) s)
 
 -- a report on a stream whose tail has become a name breaks it
 told_bound : (n v : ℕ) (a b : List ℕ) (tail : Term) (s : State) → is_variable v tail ≡ true → reported_at n (atom b) (replace v (atom a) tail) s ≡ broken_at n s
 told_bound n v a b (variable w) s e = ap (λ c. reported_at n (atom b) (if c then atom a else variable w) s) e
-told_bound n v a b (integer i) s e = absurd (cc)
-told_bound n v a b (atom c) s e = absurd (cc)
-told_bound n v a b (structure f ts) s e = absurd (cc)
+told_bound n v a b _ s e = absurd (cc)
 
-report_found : (o : Option Shoen) (n v : ℕ) (a b : List ℕ) (s : State) → shoen_at n s.shoens ≡ o → v ≤ s.last_variable → report_of (option_map (replace_in_shoen v (atom a)) o) n (atom b) (replace_in_state v (atom a) s) ≡ replace_in_state v (atom a) (report n (atom b) (break_of o v n s))
+report_found : (o : Option Shoen) (n v : ℕ) (a b : List ℕ) (s : State) → shoen_at n s.shoens ≡ o → v ≤ s.last_variable → report_of (option_map (replace_in_shoen v (atom a)) o) n (atom b) (replace_in_state v (atom a) s) ≡ replace_in_state v (atom a) (if is_tail_of v o then broken_at n s else report n (atom b) s)
 report_found None n v a b s p le = sym (ap (λ o. replace_in_state v (atom a) (report_of o n (atom b) s)) p)
 report_found (Some h) n v a b s p le =
     let R : State → State = λ z. replace_in_state v (atom a) z in
     elim (cases_Bool h.is_broken) [
       | inl q ↦ rw q (sym (ap (λ o. R (report_of o n (atom b) s)) p ∙ ap (λ x. R (if x then s else reported_at n (atom b) h.tail s)) q))
       | inr q ↦ rw q (elim (cases_Bool (is_variable v h.tail)) [
-        | inl k ↦ rw k (told_bound n v a b h.tail (R s) k ∙ sym (ap R (dropped n (atom b) s h p) ∙ broken_replaced n v (atom a) s))
+        | inl k ↦ rw k (told_bound n v a b h.tail (R s) k ∙ sym (broken_replaced n v (atom a) s))
         | inr k ↦ rw k (told_replaced n v a b h.tail s le k ∙ sym (ap (λ o. R (report_of o n (atom b) s)) p ∙ ap (λ x. R (if x then s else reported_at n (atom b) h.tail s)) q))
       ])
     ]
 
 -- a report, of a name, before a variable becomes a name or after that
-pub report_replaced : (n v : ℕ) (a b : List ℕ) (s : State) → v ≤ s.last_variable → report n (atom b) (replace_in_state v (atom a) s) ≡ replace_in_state v (atom a) (report_late v n (atom b) s)
+pub report_replaced : (n v : ℕ) (a b : List ℕ) (s : State) → v ≤ s.last_variable → report n (atom b) (replace_in_state v (atom a) s) ≡ replace_in_state v (atom a) (report_late (Some v) n (atom b) s)
 report_replaced n v a b s le =
     ap (λ o. report_of o n (atom b) (replace_in_state v (atom a) s)) (found_replaced n v (atom a) s.shoens) ∙ report_found (shoen_at n s.shoens) n v a b s refl le
 
@@ -128,17 +106,13 @@ report_replaced n v a b s le =
 
 closed_replaced : (v : ℕ) (a : List ℕ) (tail : Term) (s : State) → is_variable v tail ≡ false → closed_at (replace v (atom a) tail) (replace_in_state v (atom a) s) ≡ replace_in_state v (atom a) (closed_at tail s)
 closed_replaced v a (variable w) s e = ap (λ c. closed_at (if c then atom a else variable w) (replace_in_state v (atom a) s)) e ∙ sym (swapped_state v w a nil e s)
-closed_replaced v a (integer i) s e = refl
-closed_replaced v a (atom c) s e = refl
-closed_replaced v a (structure f ts) s e = refl
+closed_replaced v a _ s e = refl
 
 closed_bound : (v : ℕ) (a : List ℕ) (tail : Term) (s : State) → is_variable v tail ≡ true → closed_at (replace v (atom a) tail) s ≡ s
 closed_bound v a (variable w) s e = ap (λ c. closed_at (if c then atom a else variable w) s) e
-closed_bound v a (integer i) s e = refl
-closed_bound v a (atom c) s e = refl
-closed_bound v a (structure f ts) s e = refl
+closed_bound v a _ s e = refl
 
-close_found : (o : Option Shoen) (v : ℕ) (a : List ℕ) (s : State) → close_of (option_map (replace_in_shoen v (atom a)) o) (replace_in_state v (atom a) s) ≡ replace_in_state v (atom a) (close_late_of o v s)
+close_found : (o : Option Shoen) (v : ℕ) (a : List ℕ) (s : State) → close_of (option_map (replace_in_shoen v (atom a)) o) (replace_in_state v (atom a) s) ≡ replace_in_state v (atom a) (if is_tail_of v o then s else close_of o s)
 close_found None v a s = refl
 close_found (Some h) v a s = elim (cases_Bool h.is_broken) [
   | inl q ↦ rw q
@@ -146,23 +120,19 @@ close_found (Some h) v a s = elim (cases_Bool h.is_broken) [
 ]
 
 -- the end of a report stream, before a variable becomes a name or after that
-pub close_replaced : (n v : ℕ) (a : List ℕ) (s : State) → close n (replace_in_state v (atom a) s) ≡ replace_in_state v (atom a) (close_late v n s)
+pub close_replaced : (n v : ℕ) (a : List ℕ) (s : State) → close n (replace_in_state v (atom a) s) ≡ replace_in_state v (atom a) (close_late (Some v) n s)
 close_replaced n v a s = ap (λ o. close_of o (replace_in_state v (atom a) s)) (found_replaced n v (atom a) s.shoens) ∙ close_found (shoen_at n s.shoens) v a s
 
 -- ---- what doesn't depend on terms
 
 -- lives end before a variable is replaced or after that
-pub end_replaced : (n v : ℕ) (t : Term) (s : State) → ended_at n (replace_in_state v t s) ≡ replace_in_state v t (ended_at n s)
-end_replaced n v t s = sym (change_replaced n v t (λ h. record h { life = Terminated }) (λ h. record h { life = Terminated }) s (λ h. refl))
-
 pub ends_replaced : (ns : List ℕ) (v : ℕ) (t : Term) (s : State) → ended_each ns (replace_in_state v t s) ≡ replace_in_state v t (ended_each ns s)
 ends_replaced [] v t s = refl
-ends_replaced (n ∷ ns) v t s = ap (ended_each ns) (end_replaced n v t s) ∙ ends_replaced ns v t (ended_at n s)
+ends_replaced (n ∷ ns) v t s = ap (ended_each ns) (sym (replace_ended n v t s)) ∙ ends_replaced ns v t (ended_at n s)
 
 monitor_task : (v : ℕ) (t : Term) (k : Task) → is_monitor (replace_in_task v t k) ≡ is_monitor k
 monitor_task v t monitor = refl
-monitor_task v t (reduces u) = refl
-monitor_task v t (substitutes u) = refl
+monitor_task v t _ = refl
 
 -- a monitor goes before a variable is replaced or after that
 pub monitor_replaced : (n v : ℕ) (t : Term) (s : State) → without_monitor n (replace_in_state v t s) ≡ replace_in_state v t (without_monitor n s)
@@ -177,9 +147,7 @@ path_replaced : (n v : ℕ) (t : Term) (hs : List Shoen) → path (map (replace_
 path_replaced n v t hs = ap (λ (ns : List ℕ). path_within n ns n) (parents_replaced v t hs)
 
 lives_replaced : (n v : ℕ) (t : Term) (s : State) → lives n (replace_in_state v t s) ≡ lives n s
-lives_replaced n v t s =
-    ap (λ (o : Option Shoen). unwrap_or (option_map (λ h. is_living h.life) o) false) (found_replaced n v t s.shoens)
-    ∙ held_by (replace_in_shoen v t) (λ h. is_living h.life) (λ h. is_living h.life) (λ h. refl) (shoen_at n s.shoens)
+lives_replaced n v t s = found_by (replace_in_shoen v t) (λ h. h.number == n) (λ h. is_living h.life) (λ h. h.number == n) (λ h. is_living h.life) (λ h. refl) (λ h. refl) s.shoens
 
 ends_now_replaced : (n v : ℕ) (t : Term) (s : State) → ends_now n (replace_in_state v t s) ≡ ends_now n s
 ends_now_replaced n v t s =
@@ -192,13 +160,12 @@ pub ending_replaced : (ns : List ℕ) (v : ℕ) (t : Term) (s : State) → endin
 ending_replaced [] v t s = refl
 ending_replaced (n ∷ ns) v t s =
     ap (λ c. if c then n ∷ ending_of ns (ended_at n (replace_in_state v t s)) else ending_of ns (replace_in_state v t s)) (ends_now_replaced n v t s)
-    ∙ ap₂ (λ (xs ys : List ℕ). if ends_now n s then n ∷ xs else ys) (ap (ending_of ns) (end_replaced n v t s) ∙ ending_replaced ns v t (ended_at n s)) (ending_replaced ns v t s)
+    ∙ ap₂ (λ (xs ys : List ℕ). if ends_now n s then n ∷ xs else ys) (ap (ending_of ns) (sym (replace_ended n v t s)) ∙ ending_replaced ns v t (ended_at n s)) (ending_replaced ns v t s)
 
 has_reached_replaced : (n v : ℕ) (t : Term) (s : State) → has_reached (replace_in_state v t s) n ≡ has_reached s n
 has_reached_replaced n v t s =
     ap (λ (ps : List ℕ). unwrap_or (option_map (λ h. h.allowance == count_by (λ k. is_among n (path_within k ps k)) s.work) (shoen_at n (replace_in_state v t s).shoens)) false) (parents_replaced v t s.shoens)
-    ∙ ap (λ (o : Option Shoen). unwrap_or (option_map (λ h. h.allowance == count_by (λ k. is_among n (path s.shoens k)) s.work) o) false) (found_replaced n v t s.shoens)
-    ∙ held_by (replace_in_shoen v t) (λ h. h.allowance == count_by (λ k. is_among n (path s.shoens k)) s.work) (λ h. h.allowance == count_by (λ k. is_among n (path s.shoens k)) s.work) (λ h. refl) (shoen_at n s.shoens)
+    ∙ found_by (replace_in_shoen v t) (λ h. h.number == n) (λ h. h.allowance == count_by (λ k. is_among n (path s.shoens k)) s.work) (λ h. h.number == n) (λ h. h.allowance == count_by (λ k. is_among n (path s.shoens k)) s.work) (λ h. refl) (λ h. refl) s.shoens
 
 -- nor does which of them have reached their allowance
 pub reached_replaced : (ns ending : List ℕ) (v : ℕ) (t : Term) (s : State) → newly_exhausted (replace_in_state v t s) ending ns ≡ newly_exhausted s ending ns
@@ -220,34 +187,28 @@ report_more_of : (o : Option Shoen) (n last : ℕ) (message : Term) (s : State) 
 report_more_of None n last message s le = le
 report_more_of (Some h) n last message s le = more_if h.is_broken last s (reported_at n message h.tail s) le (told_more n last message (report_tail (has_made_last s) message h.tail) s le)
 
-break_more : (o : Option Shoen) (v n last : ℕ) (s : State) → last ≤ s.last_variable → last ≤ (break_of o v n s).last_variable
-break_more None v n last s le = le
-break_more (Some h) v n last s le = more_if h.is_broken last s (if is_variable v h.tail then broken_at n s else s) le (more_if (is_variable v h.tail) last (broken_at n s) s le le)
-
 -- after a report there are as many variables, or more
-pub report_late_more : (v n last : ℕ) (message : Term) (s : State) → last ≤ s.last_variable → last ≤ (report_late v n message s).last_variable
+pub report_late_more : (v n last : ℕ) (message : Term) (s : State) → last ≤ s.last_variable → last ≤ (report_late (Some v) n message s).last_variable
 report_late_more v n last message s le =
-    let z = break_at v n s in
-    report_more_of (shoen_at n z.shoens) n last message z (break_more (shoen_at n s.shoens) v n last s le)
+    more_if (is_tail_of v (shoen_at n s.shoens)) last (broken_at n s) (report n message s) le (report_more_of (shoen_at n s.shoens) n last message s le)
 
 closed_more : (last : ℕ) (tail : Term) (s : State) → last ≤ s.last_variable → last ≤ (closed_at tail s).last_variable
 closed_more last (variable w) s le = le
-closed_more last (integer i) s le = le
-closed_more last (atom a) s le = le
-closed_more last (structure f ts) s le = le
+closed_more last _ s le = le
 
-close_more_of : (o : Option Shoen) (v last : ℕ) (s : State) → last ≤ s.last_variable → last ≤ (close_late_of o v s).last_variable
-close_more_of None v last s le = le
-close_more_of (Some h) v last s le = more_if h.is_broken last s (if is_variable v h.tail then s else closed_at h.tail s) le (more_if (is_variable v h.tail) last s (closed_at h.tail s) le (closed_more last h.tail s le))
+close_more_of : (o : Option Shoen) (last : ℕ) (s : State) → last ≤ s.last_variable → last ≤ (close_of o s).last_variable
+close_more_of None last s le = le
+close_more_of (Some h) last s le = more_if h.is_broken last s (closed_at h.tail s) le (closed_more last h.tail s le)
 
-finished_more : (v n last : ℕ) (s : State) → last ≤ s.last_variable → last ≤ (finished_late v n s).last_variable
+finished_more : (v n last : ℕ) (s : State) → last ≤ s.last_variable → last ≤ (finished_late (Some v) n s).last_variable
 finished_more v n last s le =
-    let z = report_late v n terminated_report (without_monitor n s) in
-    close_more_of (shoen_at n z.shoens) v last z (report_late_more v n last terminated_report (without_monitor n s) le)
+    let z = report_late (Some v) n terminated_report (without_monitor n s) in
+    let told = report_late_more v n last terminated_report (without_monitor n s) le in
+    more_if (is_tail_of v (shoen_at n z.shoens)) last z (close n z) told (close_more_of (shoen_at n z.shoens) last z told)
 
-reports_more : (ns : List ℕ) (v last : ℕ) (message : Term) (s : State) → last ≤ s.last_variable → last ≤ (report_each_late v ns message s).last_variable
+reports_more : (ns : List ℕ) (v last : ℕ) (message : Term) (s : State) → last ≤ s.last_variable → last ≤ (report_each_late (Some v) ns message s).last_variable
 reports_more [] v last message s le = le
-reports_more (n ∷ ns) v last message s le = reports_more ns v last message (report_late v n message s) (report_late_more v n last message s le)
+reports_more (n ∷ ns) v last message s le = reports_more ns v last message (report_late (Some v) n message s) (report_late_more v n last message s le)
 
 ends_more : (ns : List ℕ) (last : ℕ) (s : State) → last ≤ s.last_variable → last ≤ (ended_each ns s).last_variable
 ends_more [] last s le = le
@@ -256,29 +217,29 @@ ends_more (n ∷ ns) last s le = ends_more ns last (ended_at n s) le
 -- ---- all of it
 
 -- one report of each of some shoens, before a variable becomes a name or after that
-pub reports_replaced : (ns : List ℕ) (v : ℕ) (a b : List ℕ) (s : State) → v ≤ s.last_variable → report_each ns (atom b) (replace_in_state v (atom a) s) ≡ replace_in_state v (atom a) (report_each_late v ns (atom b) s)
+pub reports_replaced : (ns : List ℕ) (v : ℕ) (a b : List ℕ) (s : State) → v ≤ s.last_variable → report_each ns (atom b) (replace_in_state v (atom a) s) ≡ replace_in_state v (atom a) (report_each_late (Some v) ns (atom b) s)
 reports_replaced [] v a b s le = refl
 reports_replaced (n ∷ ns) v a b s le =
-    ap (report_each ns (atom b)) (report_replaced n v a b s le) ∙ reports_replaced ns v a b (report_late v n (atom b) s) (report_late_more v n v (atom b) s le)
+    ap (report_each ns (atom b)) (report_replaced n v a b s le) ∙ reports_replaced ns v a b (report_late (Some v) n (atom b) s) (report_late_more v n v (atom b) s le)
 
 -- what is left of a termination, before a variable becomes a name or after that
-pub finish_replaced : (n v : ℕ) (a : List ℕ) (s : State) → v ≤ s.last_variable → finished n (replace_in_state v (atom a) s) ≡ replace_in_state v (atom a) (finished_late v n s)
+pub finish_replaced : (n v : ℕ) (a : List ℕ) (s : State) → v ≤ s.last_variable → finished_late None n (replace_in_state v (atom a) s) ≡ replace_in_state v (atom a) (finished_late (Some v) n s)
 finish_replaced n v a s le =
     ap (λ (z : State). close n (report n terminated_report z)) (monitor_replaced n v (atom a) s)
     ∙ ap (close n) (report_replaced n v a (codes "terminated") (without_monitor n s) le)
-    ∙ close_replaced n v a (report_late v n terminated_report (without_monitor n s))
+    ∙ close_replaced n v a (report_late (Some v) n terminated_report (without_monitor n s))
 
 -- what is left of terminations of shoens, in order, before a variable becomes a name or after that
-pub finishes_replaced : (ns : List ℕ) (v : ℕ) (a : List ℕ) (s : State) → v ≤ s.last_variable → finished_each ns (replace_in_state v (atom a) s) ≡ replace_in_state v (atom a) (finished_each_late v ns s)
+pub finishes_replaced : (ns : List ℕ) (v : ℕ) (a : List ℕ) (s : State) → v ≤ s.last_variable → finished_each_late None ns (replace_in_state v (atom a) s) ≡ replace_in_state v (atom a) (finished_each_late (Some v) ns s)
 finishes_replaced [] v a s le = refl
 finishes_replaced (n ∷ ns) v a s le =
-    ap (finished_each ns) (finish_replaced n v a s le) ∙ finishes_replaced ns v a (finished_late v n s) (finished_more v n v s le)
+    ap (finished_each_late None ns) (finish_replaced n v a s le) ∙ finishes_replaced ns v a (finished_late (Some v) n s) (finished_more v n v s le)
 
 -- what comes after the effects of a reduction, before a variable becomes a name or after that
-pub settles_late : (n v : ℕ) (a : List ℕ) (s : State) → v ≤ s.last_variable → after_reduction n (replace_in_state v (atom a) s) ≡ replace_in_state v (atom a) (settle_charged_late v n s)
+pub settles_late : (n v : ℕ) (a : List ℕ) (s : State) → v ≤ s.last_variable → after_reduction n (replace_in_state v (atom a) s) ≡ replace_in_state v (atom a) (settle_charged_late (Some v) n s)
 settles_late n v a s le =
     let R : State → State = λ z. replace_in_state v (atom a) z in
-    let all : List ℕ → List ℕ → State = λ ns ending. finished_each ending (report_each (newly_exhausted (R s) ending ns) exhausted_report (ended_each ending (R s))) in
+    let all : List ℕ → List ℕ → State = λ ns ending. finished_each_late None ending (report_each (newly_exhausted (R s) ending ns) exhausted_report (ended_each ending (R s))) in
     let ns = path s.shoens n in
     let ending = ending_of ns s in
     let told = newly_exhausted s ending ns in
@@ -287,6 +248,21 @@ settles_late n v a s le =
     settles_apart n (R s)
     ∙ ap (λ (ps : List ℕ). all ps (ending_of ps (R s))) (path_replaced n v (atom a) s.shoens)
     ∙ ap (all ns) (ending_replaced ns v (atom a) s)
-    ∙ ap₂ (λ (ms : List ℕ) (z : State). finished_each ending (report_each ms exhausted_report z)) (reached_replaced ns ending v (atom a) s) (ends_replaced ending v (atom a) s)
-    ∙ ap (finished_each ending) (reports_replaced told v a (codes "exhausted") over le_over)
-    ∙ finishes_replaced ending v a (report_each_late v told exhausted_report over) (reports_more told v v exhausted_report over le_over)
+    ∙ ap₂ (λ (ms : List ℕ) (z : State). finished_each_late None ending (report_each ms exhausted_report z)) (reached_replaced ns ending v (atom a) s) (ends_replaced ending v (atom a) s)
+    ∙ ap (finished_each_late None ending) (reports_replaced told v a (codes "exhausted") over le_over)
+    ∙ finishes_replaced ending v a (report_each_late (Some v) told exhausted_report over) (reports_more told v v exhausted_report over le_over)
+
+-- ---- no variable becomes a name
+
+reports_early : (ns : List ℕ) (message : Term) (s : State) → report_each ns message s ≡ report_each_late None ns message s
+reports_early [] message s = refl
+reports_early (n ∷ ns) message s = reports_early ns message (report n message s)
+
+-- then after the effects of a reduction comes what always does
+pub settles_early : (n : ℕ) (s : State) → after_reduction n s ≡ settle_charged_late None n s
+settles_early n s =
+    let ns = path s.shoens n in
+    let ending = ending_of ns s in
+    let told = newly_exhausted s ending ns in
+    let over = ended_each ending s in
+    settles_apart n s ∙ ap (finished_each_late None ending) (reports_early told exhausted_report over)

@@ -1,5 +1,5 @@
 -- Lists each of whose elements changes.
-use Rattle.kl1_user_effects.proofs.Words.{◌≡◌, ◌||◌, Bool, false, List, [], ◌∷◌, ◌++◌, map, refl, ap, ap₂, inl, inr, filter, find, Option, None, Some, option_map, unwrap_or, AllByRecursion, list_any, cases_Bool}
+use Rattle.kl1_user_effects.proofs.Words.{◌≡◌, ◌||◌, Bool, false, List, [], ◌∷◌, ◌++◌, map, refl, ap, ap₂, inl, inr, filter, find, option_map, unwrap_or, AllByRecursion, list_any, cases_Bool, None, Option, Some}
 
 -- two changes of elements that come to what two others do
 pub maps_both : {A B C D : Type 0} (f : B → D) (g : A → B) (j : C → D) (k : A → C) → ((x : A) → f (g x) ≡ j (k x)) → (xs : List A) → map f (map g xs) ≡ map j (map k xs)
@@ -49,6 +49,11 @@ all_then P Q e (x ∷ xs) a = (e x a.0, all_then P Q e xs a.1)
 -- elements that pass a test after a change, if each passes it as it passes another before
 pub filter_each : {A B : Type 0} (k : A → B) (p : B → Bool) (q : A → Bool) → ((x : A) → p (k x) ≡ q x) → (xs : List A) → filter p (map k xs) ≡ map k (filter q xs)
 filter_each k p q e xs = filter_by k p q xs (all_of (λ x. p (k x) ≡ q x) e xs)
+
+-- a test of the first of them, if there is one
+pub found_by : {A B : Type 0} (k : A → B) (p r : B → Bool) (q s : A → Bool) → ((x : A) → p (k x) ≡ q x) → ((x : A) → r (k x) ≡ s x) → (xs : List A) → unwrap_or (option_map r (find p (map k xs))) false ≡ unwrap_or (option_map s (find q xs)) false
+found_by k p r q s e d [] = refl
+found_by k p r q s e d (x ∷ xs) = elim (cases_Bool (q x)) [ inl y ↦ rw (e x, y) (d x) | inr y ↦ rw (e x, y) (found_by k p r q s e d xs) ]
 
 -- a test of what may be there, after a change and before
 pub held_by : {A B : Type 0} (k : A → B) (p : B → Bool) (q : A → Bool) → ((x : A) → p (k x) ≡ q x) → (o : Option A) → unwrap_or (option_map p (option_map k o)) false ≡ unwrap_or (option_map q o) false

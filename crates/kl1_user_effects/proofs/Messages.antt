@@ -1,23 +1,21 @@
 -- Messages from the console: when they are refused.
-use Rattle.kl1_user_effects.proofs.Words.{◌≡◌, ℕ, suc, ◌+◌, ◌<◌, ◌≤◌, ◌==◌, ◌&&◌, not, Bool, true, false, if◌then◌else◌, List, [], ◌∷◌, refl, ap, ap₂, ◌∙◌, arith, subst, inl, inr, nat_lt, nat_le, find, Option, Some, None, option_map, option_and_then, cases_Bool, le-leb, lt-leb, lt-ltb, le-ltb, Message, Limits, message_nodes, State, shoen_at, control, sent, syntax, no_shoen, shoen_ended, limit_passed, journal_full, refuse, with_entry, Transition, is_number, is_message, sent_on, send_living, send_to, step, CellName, Held, Goal, Origin, Shoen, shoen_in, has_number, lives_in, NoShoen, Ended, Limit, Journal, Means, origin_with, shoen_with, state_with, IsKeptIn, IsOriginIn, AreShoensIn, Usage, Counts, RefusesMessage, AllowsMessage}
-use Rattle.kl1_user_effects.proofs.States.{found_in}
+use Rattle.kl1_user_effects.proofs.Words.{◌≡◌, ℕ, suc, ◌+◌, ◌<◌, ◌≤◌, ◌&&◌, not, Bool, true, false, if◌then◌else◌, List, refl, ap, ap₂, ◌∙◌, arith, subst, nat_lt, nat_le, find, Option, Some, None, option_map, option_and_then, le-leb, lt-leb, lt-ltb, le-ltb, Message, Limits, message_nodes, State, shoen_at, control, sent, syntax, no_shoen, shoen_ended, limit_passed, journal_full, refuse, with_entry, Transition, is_number, is_message, sent_on, send_living, send_to, step, CellName, Held, Goal, Origin, Shoen, shoen_in, has_number, lives_in, NoShoen, Ended, Limit, Journal, Means, origin_with, shoen_with, state_with, IsKeptIn, IsOriginIn, AreShoensIn, Usage, Counts, RefusesMessage, AllowsMessage}
+use Rattle.kl1_user_effects.proofs.States.{found_in, found_shoen_in}
 
 -- what the console keeps of shoen `n`
 abbrev pub kept_at : ℕ → List (Shoen CellName) → Option (Origin CellName)
 kept_at n ss = option_and_then (λ shoen. shoen.origin) (find (has_number n) ss)
 
--- what is kept has the cells of the store
-pub origin_in : (h : Held CellName) (n : ℕ) (ss : List (Shoen CellName)) (o : Origin CellName) → AreShoensIn h ss → kept_at n ss ≡ Some o → IsKeptIn h o
-origin_in h n [] o i e = absurd (cc)
-origin_in h n (s ∷ ss) o i e = elim (cases_Bool (s.number == n)) [
-  | inl p ↦ subst (λ (z : Option (Origin CellName)). IsOriginIn h z) (rw p at e) i.0.origin
-  | inr p ↦ origin_in h n ss o i.1 (rw p at e)
-]
-
 -- what is kept is what a shoen that is found has
 kept_by : (p : Option (Shoen CellName)) (o : Origin CellName) → option_and_then (λ shoen. shoen.origin) p ≡ Some o → (h : Shoen CellName) × ((p ≡ Some h) × (h.origin ≡ Some o))
 kept_by None o e = absurd (cc)
 kept_by (Some h) o e = (h, (refl, e))
+
+-- it has the cells of the store
+pub origin_in : (h : Held CellName) (n : ℕ) (ss : List (Shoen CellName)) (o : Origin CellName) → AreShoensIn h ss → kept_at n ss ≡ Some o → IsKeptIn h o
+origin_in h n ss o i e =
+    let k = kept_by (find (has_number n) ss) o e in
+    subst (λ (z : Option (Origin CellName)). IsOriginIn h z) k.1.1 (found_shoen_in h n ss k.0 i k.1.0).origin
 
 -- ---- when a message is refused
 
@@ -89,26 +87,19 @@ pub sends_limited : {ss : List (Shoen CellName)} {u : Usage} {n : ℕ} {m : Mess
 sends_limited {ss} {u} {n} {m} {o} a lives few many = λ t s last goals counts.
     with_room ss u n m o t s last goals a lives counts ∙ rw (le-leb (suc u.variables) u.most.variables few, lt-leb (u.nodes + message_nodes m) u.most.nodes many)
 
--- a message for which there is room, to a shoen that lives
-pub record HasRoom (ss : List (Shoen CellName)) (u : Usage) (n : ℕ) (m : Message) (o : Origin CellName) : Type 0 where
-  pub aimed : IsAimed ss u n m o
-  pub lives : lives_in ss n ≡ true
-  pub variables : u.variables < u.most.variables
-  pub nodes : u.nodes + message_nodes m ≤ u.most.nodes
-
 -- if the journal is full
-pub sends_full : {ss : List (Shoen CellName)} {u : Usage} {n : ℕ} {m : Message} {o : Origin CellName} → HasRoom ss u n m o → u.most.entries ≤ u.entries → RefusesMessage ss u n m Journal
-sends_full {ss} {u} {n} {m} {o} r full = λ t s last goals counts.
-    with_room ss u n m o t s last goals r.aimed r.lives counts ∙ rw (le-leb (suc u.variables) u.most.variables r.variables, le-leb (u.nodes + message_nodes m) u.most.nodes r.nodes, le-ltb u.entries u.most.entries full)
+pub sends_full : {ss : List (Shoen CellName)} {u : Usage} {n : ℕ} {m : Message} {o : Origin CellName} → IsAimed ss u n m o → lives_in ss n ≡ true → u.variables < u.most.variables → u.nodes + message_nodes m ≤ u.most.nodes → u.most.entries ≤ u.entries → RefusesMessage ss u n m Journal
+sends_full {ss} {u} {n} {m} {o} a lives few fits full = λ t s last goals counts.
+    with_room ss u n m o t s last goals a lives counts ∙ rw (le-leb (suc u.variables) u.most.variables few, le-leb (u.nodes + message_nodes m) u.most.nodes fits, le-ltb u.entries u.most.entries full)
 
 -- if it may be sent
-pub sends_allowed : {ss : List (Shoen CellName)} {u : Usage} {n : ℕ} {m : Message} {o : Origin CellName} → HasRoom ss u n m o → u.entries < u.most.entries → AllowsMessage ss u n m o
-sends_allowed {ss} {u} {n} {m} {o} r journal = record {
-  found = r.aimed.kept;
-  message = r.aimed.message;
-  has_variables = r.variables;
-  has_nodes = r.nodes;
+pub sends_allowed : {ss : List (Shoen CellName)} {u : Usage} {n : ℕ} {m : Message} {o : Origin CellName} → IsAimed ss u n m o → lives_in ss n ≡ true → u.variables < u.most.variables → u.nodes + message_nodes m ≤ u.most.nodes → u.entries < u.most.entries → AllowsMessage ss u n m o
+sends_allowed {ss} {u} {n} {m} {o} a lives few fits journal = record {
+  found = a.kept;
+  message = a.message;
+  has_variables = few;
+  has_nodes = fits;
   journal = journal;
   steps = λ t s last goals counts.
-      with_room ss u n m o t s last goals r.aimed r.lives counts ∙ rw (le-leb (suc u.variables) u.most.variables r.variables, le-leb (u.nodes + message_nodes m) u.most.nodes r.nodes, lt-ltb u.entries u.most.entries journal);
+      with_room ss u n m o t s last goals a lives counts ∙ rw (le-leb (suc u.variables) u.most.variables few, le-leb (u.nodes + message_nodes m) u.most.nodes fits, lt-ltb u.entries u.most.entries journal);
 }

@@ -1,7 +1,7 @@
 -- Readings of numbers as names, when a name comes that is new.
-use Rattle.kl1_user_effects.proofs.Words.{◌≡◌, ℕ, zero, suc, ◌+◌, ◌<◌, Bool, true, false, if◌then◌else◌, ◌||◌, List, [], ◌∷◌, ◌++◌, length, map, is_some, bytes_eq, refl, sym, ap, ◌∙◌, subst, inl, inr, arith, length-append, slice_get, unwrap_or, list_any, cases_Bool, false≢true, slice_get_cases, bytes_eq-Decides, variable, integer, atom, is_built_in, BuiltIn, Reads, built_in_of, place_of, CellName, Known, number_in, number_by, option_cases, is_of_language, found_in_language, missed_in_language, Cell, Variable, Integer, Atom, Structure, Shape, Held, IsIn, IsLower, is_bound, found, arguments_of, shape_arguments, term_of, IsFormed, term_of-Integer, term_of-Atom, term_of-unbound, term_of-Structure, Numbered, IsRead, AreRead, Reading, Fits, built, meaning}
+use Rattle.kl1_user_effects.proofs.Words.{◌≡◌, ℕ, zero, suc, ◌+◌, ◌<◌, Bool, true, false, if◌then◌else◌, ◌||◌, List, [], ◌∷◌, ◌++◌, length, map, is_some, bytes_eq, refl, sym, ap, ◌∙◌, subst, inl, inr, arith, length-append, unwrap_or, list_any, cases_Bool, false≢true, bytes_eq-Decides, variable, integer, atom, is_built_in, Reads, built_in_of, place_of, CellName, Known, number_in, number_by, option_cases, is_of_language, found_in_language, missed_in_language, Cell, Variable, Integer, Atom, Structure, Held, IsIn, IsLower, is_bound, found, term_of, IsFormed, term_of-Integer, term_of-Atom, term_of-unbound, term_of-Structure, Numbered, IsRead, AreRead, Reading, Fits, built, meaning, false_from_ne_true, named}
 use Rattle.std.proofs.Common.{Option, Some, None}
-use Rattle.kl1_user_effects.proofs.Swaps.{swap, text_test, swap_first, retold, retold_fits}
+use Rattle.kl1_user_effects.proofs.Swapping.{swap, text_test, swap_first, retold, retold_fits}
 use Rattle.kl1_user_effects.proofs.LateFree.{bound_to, in_lower, lower_still}
 
 -- ---- cells that are atoms
@@ -30,16 +30,10 @@ atom_below (suc n) f h (Variable v) t formed inside low e = elim (cases_Bool (is
 ]
 atom_below n f h (Integer i) t formed inside low e = let a : integer i ≡ atom t = sym (term_of-Integer f h i) ∙ e in absurd (cc)
 atom_below n f h (Atom k) t formed inside low e = record { number = k; read = same_text (f k) t (sym (term_of-Atom f h k) ∙ e); means = λ g. term_of-Atom g h k }
-atom_below n f h (Structure s) t formed inside low e = elim (slice_get_cases h.structures s).1 [
-  | inl there ↦
-      let shape : Shape CellName = there.0 in
-      let at : slice_get h.structures s ≡ Some shape = there.2 in
-      let is : slice_get h.structures s ≡ Some (record { name = shape.name; arguments = arguments_of h s }) =
-      at ∙ ap (λ (xs : List (Cell CellName)). let z : Shape CellName = record { name = shape.name; arguments = xs } in Some z) (sym (ap shape_arguments at)) in
-      let a = sym (term_of-Structure f h s shape.name formed is) ∙ e in
-      absurd (cc)
-  | inr past ↦ let le = past.0 in absurd (omega arith)
-]
+atom_below n f h (Structure s) t formed inside low e =
+    let there = named h s inside in
+    let a = sym (term_of-Structure f h s there.0 formed there.1) ∙ e in
+    absurd (cc)
 
 -- a cell of a store that is read as an atom is a number
 pub atom_at : (f : Reading) (h : Held CellName) (x : Cell CellName) (t : List ℕ) → IsFormed h → IsIn h x → meaning f h x ≡ atom t → IsAtomAt h x f t
@@ -52,14 +46,11 @@ abbrev long : List Known → List ℕ
 long [] = []
 long (k ∷ ks) = k.text ++ long ks
 
-apart : (x s : List ℕ) → (x ≡ s → ⊥) → bytes_eq x s ≡ false
-apart x s other = elim (cases_Bool (bytes_eq x s)) [ inl is ↦ absurd (other ((bytes_eq-Decides x s).0 is)) | inr is ↦ is ]
-
 unknown_in : (ks : List Known) (w : List ℕ) → length (long ks) < length w → number_in ks w ≡ None
 unknown_in [] w lt = refl
 unknown_in (k ∷ ks) w lt =
     let sum : length (k.text ++ long ks) ≡ length k.text + length (long ks) = length-append k.text (long ks) in
-    let ne : bytes_eq k.text w ≡ false = apart k.text w (λ e. let n : length k.text ≡ length w = ap length e in omega (arith, sum, n, lt)) in
+    let ne : bytes_eq k.text w ≡ false = false_from_ne_true (bytes_eq k.text w) (λ e. let n : length k.text ≡ length w = ap length ((bytes_eq-Decides k.text w).0 e) in omega (arith, sum, n, lt)) in
     ap (λ b. if b then Some k.number.number else number_in ks w) ne ∙ unknown_in ks w (omega (arith, sum, lt))
 
 -- a text that is longer than each of names, and than another text
@@ -120,18 +111,11 @@ alone_read f all k same = elim (cases_Bool (is_built_in k.text)) [ inl old ↦ s
 read_alone : (f : Reading) (all : List Known) (k : Known) → is_built_in k.text ≡ false → IsRead f (named_alone all k) → f (first_for all k.text) ≡ k.text
 read_alone f all k new is = let one : f (first_for all k.text) ∷ [] ≡ k.text ∷ [] = simp new at is in cc
 
-not_of_language : (t : List ℕ) → built_in_of t ≡ None → is_built_in t ≡ false
-unfolding is_of_language
-not_of_language t e = missed_in_language t e
-
-of_language : (t : List ℕ) (b : BuiltIn) → built_in_of t ≡ Some b → is_built_in t ≡ true
-unfolding is_of_language
-of_language t b e = (found_in_language t b e).1
-
 number_there : (all : List Known) (t : List ℕ) → is_built_in t ≡ false → is_some (number_in all t) ≡ true → number_by all t ≡ Some (unwrap_or (number_in all t) 0)
+unfolding is_of_language
 number_there all t new there = elim (option_cases (built_in_of t)) [
   | inl none ↦ rw none (is (number_in all t) there)
-  | inr some ↦ absurd (false≢true (sym new ∙ of_language t some.0 some.1))
+  | inr some ↦ absurd (false≢true (sym new ∙ (found_in_language t some.0 some.1).1))
 ]
   where
     is : (o : Option ℕ) → is_some o ≡ true → o ≡ Some (unwrap_or o 0)
@@ -159,20 +143,20 @@ read_modules f all [] t are new there = absurd (cc)
 read_modules f all (k ∷ ks) t are new there = elim (cases_Bool (bytes_eq k.text t)) [
   | inl is ↦
       let same : k.text ≡ t = (bytes_eq-Decides k.text t).0 is in
-      let P : List ℕ → Type 0 = λ x. f (first_for all x) ≡ x in
-      subst P same (read_alone f all k (ap is_built_in same ∙ new) are.0)
+      subst (λ x. f (first_for all x) ≡ x) same (read_alone f all k (ap is_built_in same ∙ new) are.0)
   | inr is ↦ read_modules f all ks t are.1 new (sym (ap (λ b. is_some (if b then Some k.number.number else number_in ks t)) is) ∙ there)
 ]
 
 -- a reading that reads names as modules reads them
 pub modules_fit : (f : Reading) (ks : List Known) → Reads built f → AreRead f (as_modules ks) → Fits ks f
+unfolding is_of_language
 modules_fit f ks reads are = record {
   reads = reads;
   texts = λ t n e. elim (option_cases (built_in_of t)) [
     | inl none ↦
         let there : number_in ks t ≡ Some n = rw none at e in
         let c : ℕ → CellName = λ m. record { number = m } in
-        ap (λ o. f (c (unwrap_or o 0))) (sym there) ∙ read_modules f ks ks t are (not_of_language t none) (ap (λ (o : Option ℕ). is_some o) there)
+        ap (λ o. f (c (unwrap_or o 0))) (sym there) ∙ read_modules f ks ks t are (missed_in_language t none) (ap (λ (o : Option ℕ). is_some o) there)
     | inr some ↦
         let place : Some (place_of some.0) ≡ Some n = rw some.1 at e in
         let c : ℕ → CellName = λ m. record { number = m } in

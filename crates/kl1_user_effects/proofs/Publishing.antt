@@ -1,11 +1,8 @@
 -- Texts looked up one after another in a table of names.
-use Rattle.kl1_user_effects.proofs.Words.{◌≡◌, ℕ, ◌+◌, ◌<◌, ◌≤◌, ◌^◌, List, [], ◌∷◌, ◌++◌, length, map, take, get_or, refl, sym, ap, ap₂, ◌∙◌, subst, inl, inr, arith, length-map, map-append, length_push, MOST_NAMES, AtomNo, CellName, Known, number_by, added, Adds, HasRoom, option_cases, publishes_same, publishes_then, with_text, with_texts, with_none, texts_of, AreSmall, AreNumbersOf, Grows, Keeps}
+use Rattle.kl1_user_effects.proofs.Words.{◌≡◌, ℕ, ◌+◌, ◌<◌, ◌≤◌, ◌^◌, List, [], ◌∷◌, ◌++◌, length, map, take, get_or, refl, sym, ap, ap₂, ◌∙◌, subst, inl, inr, arith, length-map, map-append, length_push, MOST_NAMES, AtomNo, CellName, Known, number_by, added, Adds, HasRoom, option_cases, publishes_same, publishes_then, with_text, with_texts, with_none, texts_of, AreSmall, AreNumbersOf, Grows, Keeps, Fits, Reading}
 use Rattle.std.proofs.Common.{Some}
-use Rattle.kl1_user_effects.proofs.KnownNames.{added_new}
-use Rattle.kl1_user_effects.proofs.KnownTexts.{no_text, next_text, put_more}
-use Rattle.kl1_user_effects.proofs.ModuleNames.{not_there}
-use Rattle.kl1_user_effects.proofs.DraftRows.{push_below}
-use Rattle.kl1_user_effects.proofs.NumberRows.{fits_less}
+use Rattle.kl1_user_effects.proofs.KnownTexts.{added_new, no_text, next_text, put_more, not_there}
+use Rattle.kl1_user_effects.proofs.Lists.{all_append}
 
 -- the first of some texts are looked up: the names that are known now have the texts put to those of the first names, and the
 -- row has the texts' numbers
@@ -26,9 +23,13 @@ published_none first texts row small empty = record {
 -- numbers stay small
 pub small_more : (now : List Known) (t : List ℕ) (a : AtomNo) → a.number < 2 ^ 32 → AreSmall now → AreSmall (added now t a)
 small_more now t a low small = elim (option_cases (number_by now t)) [
-  | inl none ↦ subst AreSmall (sym (added_new now t a none)) (push_below (2 ^ 32) now (record { text = t; number = a }) small low)
+  | inl none ↦ subst AreSmall (sym (added_new now t a none)) (all_append (λ (k : Known). k.number.number < 2 ^ 32) now (record { text = t; number = a } ∷ []) small (low, tt))
   | inr some ↦ let same : now ≡ added now t a = rw some.1 refl in subst AreSmall same small
 ]
+
+-- what fits more names fits the first ones
+pub fits_less : (old new : List Known) → Grows old new → (f : Reading) → Fits new f → Fits old f
+fits_less old new g f fits = record { reads = fits.reads; texts = λ t n e. fits.texts t n (g t n e) }
 
 -- a number more
 pub numbered_more : (now new : List Known) (texts : List (List ℕ)) (row : List CellName) (t : List ℕ) (c : CellName) → Grows now new → number_by new t ≡ Some c.number → AreNumbersOf now texts row → AreNumbersOf new (texts ++ t ∷ []) (row ++ c ∷ [])

@@ -1,9 +1,8 @@
 -- A reading of names, some of which are new, by the spare numbers of these.
-use Rattle.kl1_user_effects.proofs.Words.{◌≡◌, ℕ, suc, ◌<◌, ◌^◌, Bool, if◌then◌else◌, List, [], ◌∷◌, length, map, get_or, refl, sym, ap, ap₂, ◌∙◌, subst, inl, inr, arith, bytes_eq, AllByRecursion, eq-eqb, ne_eqb, map-map, CellName, Known, number_by, AreNames, option_cases, IsNameList, Reading, Fits, marked_reading, marked_fits, reading_of, reading_fits, AreSmall, AreNumbersOf, ReadsDraft, swapped, swapped_one, swapped_all, read_exchanged, IsSpared, AreSpared}
+use Rattle.kl1_user_effects.proofs.Words.{◌≡◌, ℕ, suc, ◌<◌, ◌^◌, if◌then◌else◌, List, [], ◌∷◌, length, map, get_or, refl, sym, ap, ap₂, ◌∙◌, subst, inl, inr, arith, bytes_eq, AllByRecursion, eq-eqb, ne_eqb, map-map, CellName, Known, number_by, AreNames, option_cases, IsNameList, Reading, Fits, marked_reading, marked_fits, reading_of, reading_fits, AreSmall, AreNumbersOf, ReadsDraft, swapped, swapped_one, swapped_all, read_exchanged, IsSpared, AreSpared}
 use Rattle.std.proofs.Common.{None}
-use Rattle.kl1_user_effects.proofs.Swaps.{text_test, swap_first, swap_other, retold, retold_fits, exchange_fits, one_first, one_other}
-use Rattle.kl1_user_effects.proofs.CellReadings.{is_known, is_small}
-use Rattle.kl1_user_effects.proofs.Exchanged.{small_by}
+use Rattle.kl1_user_effects.proofs.Swapping.{text_test, swap_first, swap_other, retold, retold_fits, exchange_fits, one_first, one_other}
+use Rattle.kl1_user_effects.proofs.Exchanged.{small_by, is_known, is_small}
 
 -- ---- numbers of names have 32 bits
 
@@ -67,30 +66,26 @@ module _ (names : List Known) (f : Reading) (small : AreSmall names) (fits : Fit
   -- it stays if others are exchanged
   stays : (place : ℕ) (n : CellName) (t : List ℕ) (ts : List (List ℕ)) (ss ns : List CellName) → f n ≡ t → n.number < 2 ^ 32 → AreSpared names place ts ss → map f ns ≡ ts → IsOther t ts → swapped_all ss ns n ≡ n
   stays place n t [] [] ns here low a e o = refl
-  stays place n t [] (s ∷ ss) ns here low a e o = absurd a
-  stays place n t (u ∷ ts) [] ns here low a e o = absurd a
   stays place n t (u ∷ ts) (s ∷ ss) [] here low a e o = refl
   stays place n t (u ∷ ts) (s ∷ ss) (m ∷ ns) here low a e o =
       let first : f m ≡ u = cc in
       let rest : map f ns ≡ ts = cc in
       ap (swapped_all ss ns) (one_other s m n (not_its place n s t u here low a.0 o.0) (λ q. o.0 (sym first ∙ ap f (sym q) ∙ here)))
       ∙ stays (suc place) n t ts ss ns here low a.1 rest o.1
+  stays place n t _ _ ns here low a e o = absurd a
 
   -- and so do the numbers of later names
   later_stay : (first place : ℕ) (s n : CellName) (t : List ℕ) (ts : List (List ℕ)) (ss : List CellName) → (f n ≡ t) × (n.number < 2 ^ 32) → IsSpared names first t s → first < place → AreSpared names place ts ss → IsOther t ts → map (swapped_one s n) ss ≡ ss
   later_stay first place s n t [] [] here own lt a o = refl
-  later_stay first place s n t [] (r ∷ ss) here own lt a o = absurd a
-  later_stay first place s n t (u ∷ ts) [] here own lt a o = absurd a
   later_stay first place s n t (u ∷ ts) (r ∷ ss) here own lt a o =
       ap₂ (λ (x : CellName) (xs : List CellName). x ∷ xs)
       (one_other s n r (apart first place s r t u lt own a.0 o.0) (λ e. not_its place n r t u here.0 here.1 a.0 o.0 (sym e)))
       (later_stay first (suc place) s n t ts ss here own (omega (arith, lt)) a.1 o.1)
+  later_stay first place s n t _ _ here own lt a o = absurd a
 
   -- the reading by the spare numbers
   reads_all : (place : ℕ) (ts : List (List ℕ)) (ss ns : List CellName) → AreSpared names place ts ss → map f ns ≡ ts → AreShort ns → AreOnce ts → ReadsSpares names ts ss (read_exchanged ss ns f)
   reads_all place [] [] ns a e low once = record { fits = fits; reads = refl }
-  reads_all place [] (s ∷ ss) ns a e low once = absurd a
-  reads_all place (t ∷ ts) [] ns a e low once = absurd a
   reads_all place (t ∷ ts) (s ∷ ss) [] a e low once = absurd (cc)
   reads_all place (t ∷ ts) (s ∷ ss) (n ∷ ns) a e low once =
       let here : f n ≡ t = cc in
@@ -107,26 +102,24 @@ module _ (names : List Known) (f : Reading) (small : AreSmall names) (fits : Fit
     where
       by_name : IsSpared names place t s → f n ≡ t → (g : Reading) → g n ≡ t → Fits names g → Fits names (λ c. g (swapped_one s n c))
       by_name (inl known) here g there fit =
-          let P : Bool → Type 0 = λ b. Fits names (λ c. g (if b then c else swapped s n c)) in
-          subst P (sym (eq-eqb s.number n.number (ap (λ (c : CellName). c.number) (fits.reads.once s n (fits.texts t s.number known ∙ sym here))))) fit
+          subst (λ b. Fits names (λ c. g (if b then c else swapped s n c))) (sym (eq-eqb s.number n.number (ap (λ (c : CellName). c.number) (fits.reads.once s n (fits.texts t s.number known ∙ sym here))))) fit
       by_name (inr new) here g there fit =
-          let P : Bool → Type 0 = λ b. Fits names (λ c. g (if b then c else swapped s n c)) in
           let short = low.0 in
           let is = new.1 in
-          subst P (sym (ne_eqb s.number n.number (λ q. omega (arith, short, is, q))))
+          subst (λ b. Fits names (λ c. g (if b then c else swapped s n c))) (sym (ne_eqb s.number n.number (λ q. omega (arith, short, is, q))))
           (exchange_fits names t s n g new.0 (λ u m was q. let small_one = small_by names u m small was in omega (arith, small_one, is, q)) there fit)
+  reads_all place _ _ ns a e low once = absurd a
 
   -- a reading by which a number is another text reads the numbers of later names as before
   later_read : (first place : ℕ) (s : CellName) (t : List ℕ) (ts : List (List ℕ)) (ss : List CellName) → IsSpared names first t s → first < place → AreSpared names place ts ss → map f ss ≡ ts → IsOther t ts → map (retold (f s) t f) ss ≡ ts
   later_read first place s t [] [] own lt a e o = refl
-  later_read first place s t [] (r ∷ ss) own lt a e o = absurd a
-  later_read first place s t (u ∷ ts) [] own lt a e o = absurd a
   later_read first place s t (u ∷ ts) (r ∷ ss) own lt a e o =
       let here : f r ≡ u = cc in
       let rest : map f ss ≡ ts = cc in
       ap₂ (λ (x : List ℕ) (xs : List (List ℕ)). x ∷ xs)
       (swap_other bytes_eq text_test (f s) t (f r) (λ q. apart first place s r t u lt own a.0 o.0 (fits.reads.once r s q)) (λ q. o.0 (sym here ∙ q)) ∙ here)
       (later_read first (suc place) s t ts ss own (omega (arith, lt)) a.1 rest o.1)
+  later_read first place s t _ _ own lt a e o = absurd a
 
 -- the reading by the spare numbers does, if the other reads the numbers that came as these texts
 pub reads_spares : (names : List Known) (f : Reading) (place : ℕ) (ts : List (List ℕ)) (ss ns : List CellName) → AreSmall names → Fits names f → AreSpared names place ts ss → map f ns ≡ ts → AreShort ns → AreOnce ts → ReadsSpares names ts ss (read_exchanged ss ns f)
@@ -136,8 +129,6 @@ reads_spares names f place ts ss ns small fits a e low once = reads_all names f 
 
 drafted : (names : List Known) → AreNames names → AreSmall names → (place : ℕ) (ts : List (List ℕ)) (ss : List CellName) → AreSpared names place ts ss → AreOnce ts → ReadsDraft names ts ss
 drafted names one small place [] [] a once = record { reading = reading_of names; fits = reading_fits names one; reads = refl }
-drafted names one small place [] (s ∷ ss) a once = absurd a
-drafted names one small place (t ∷ ts) [] a once = absurd a
 drafted names one small place (t ∷ ts) (s ∷ ss) a once = by_name a.0 (drafted names one small (suc place) ts ss a.1 once.1)
   where
     by_name : IsSpared names place t s → ReadsDraft names ts ss → ReadsDraft names (t ∷ ts) (s ∷ ss)
@@ -157,6 +148,7 @@ drafted names one small place (t ∷ ts) (s ∷ ss) a once = by_name a.0 (drafte
           fits = retold_fits names (f s) t f unread new.0 d.fits;
           reads = ap₂ (λ (x : List ℕ) (xs : List (List ℕ)). x ∷ xs) (swap_first bytes_eq text_test (f s) t) (later_read names f small d.fits place (suc place) s t ts ss (inr new) (omega arith) a.1 d.reads once.0);
         }
+drafted names one small place _ _ a once = absurd a
 
 -- numbers of names, of which those of new ones are spare, are read as these by a reading of the names that are known
 pub spared_draft : (names : List Known) (texts : List (List ℕ)) (row : List CellName) → IsNameList texts → AreNames names → AreSmall names → AreSpared names 0 texts row → ReadsDraft names texts row

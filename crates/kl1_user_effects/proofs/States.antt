@@ -1,7 +1,7 @@
 -- States made of goals and shoens whose cells are read in one way or another.
-use Rattle.kl1_user_effects.proofs.Words.{◌≡◌, ℕ, ◌==◌, if◌then◌else◌, List, [], ◌∷◌, length, map, refl, ap, ap₂, ◌∙◌, arith, length-take, subst, inl, inr, Option, Some, None, option_map, find, Term, replace, Replacement, replaced, State, replace_in_goal, replace_in_shoen, replace_in_state, replace_all, shoen_at, CellName, Qualified, Cell, Variable, Integer, Atom, Structure, Held, IsIn, Grown, Task, Monitor, Reduces, Substitutes, Goal, Origin, Shoen, has_number, changed, Means, task_with, goal_with, origin_with, shoen_with, state_with, told_in, aim_with, IsTaskIn, AreGoalsIn, IsOriginIn, IsShoenIn, AreShoensIn, cases_Bool, map-map, length-map}
+use Rattle.kl1_user_effects.proofs.Words.{◌≡◌, ℕ, ◌==◌, if◌then◌else◌, List, [], ◌∷◌, length, map, refl, ap, ap₂, ◌∙◌, arith, length-take, subst, inl, inr, Option, Some, None, option_map, find, Term, replace, Replacement, replaced, State, replace_in_goal, replace_in_shoen, replace_in_state, replace_all, shoen_at, CellName, Qualified, Cell, Variable, Atom, Structure, Held, IsIn, Grown, Task, Monitor, Reduces, Substitutes, Goal, Origin, Shoen, has_number, changed, Means, task_with, goal_with, origin_with, shoen_with, state_with, told_in, aim_with, IsTaskIn, AreGoalsIn, IsOriginIn, IsShoenIn, AreShoensIn, cases_Bool, map-map, length-map, IsKind, IsLater, Kind, Reading, aim, codes, in_module, meaning, more, none, qualified_later, qualified_term, structure, sym, term_of-Atom}
 use Rattle.kl1_model.specs.State as model
-use Rattle.kl1_user_effects.proofs.Lists.{maps_as, maps_both, find_by}
+use Rattle.kl1_user_effects.proofs.Lists.{maps_as, maps_both, find_by, all_then}
 
 -- ---- one way of reading in place of another
 
@@ -30,18 +30,10 @@ same_goals h t u a (g ∷ gs) i = ap₂ (λ (k : model.Goal) (ks : List model.Go
 
 same_origin : (h : Held CellName) (t u : Means) → Agree h t u → (o : Option (Origin CellName)) → IsOriginIn h o → option_map (origin_with t) o ≡ option_map (origin_with u) o
 same_origin h t u a None i = refl
-same_origin h t u a (Some o) i =
-    let one = a o.goal i.goal in
-    let two = a o.reports i.reports in
-    let three = a o.control i.control in
-    cc
+same_origin h t u a (Some o) i = rw (a o.goal i.goal, a o.reports i.reports, a o.control i.control)
 
 same_shoen : (h : Held CellName) (t u : Means) → Agree h t u → (s : Shoen CellName) → IsShoenIn h s → shoen_with t s ≡ shoen_with u s
-same_shoen h t u a s i =
-    let one = a s.control i.control in
-    let two = a s.tail i.tail in
-    let three = same_origin h t u a s.origin i.origin in
-    cc
+same_shoen h t u a s i = rw (a s.control i.control, a s.tail i.tail, same_origin h t u a s.origin i.origin)
 
 pub same_shoens : (h : Held CellName) (t u : Means) → Agree h t u → (ss : List (Shoen CellName)) → AreShoensIn h ss → map (shoen_with t) ss ≡ map (shoen_with u) ss
 same_shoens h t u a [] i = refl
@@ -61,9 +53,8 @@ replaced_goals v b t gs = map-map (replace_in_goal v b) (goal_with t) gs ∙ map
     by_aim (Some m) u = refl
 
     by_task : (k : Task CellName) → model.replace_in_task v b (task_with t k) ≡ task_with (λ x. replace v b (t x)) k
-    by_task Monitor = refl
     by_task (Reduces q) = ap model.reduces (by_aim q.module_name (t q.cell))
-    by_task (Substitutes x) = refl
+    by_task _ = refl
 
 replaced_shoens : (v : ℕ) (b : Term) (t : Means) (ss : List (Shoen CellName)) → map (replace_in_shoen v b) (map (shoen_with t) ss) ≡ map (shoen_with (λ x. replace v b (t x))) ss
 replaced_shoens v b t ss = map-map (replace_in_shoen v b) (shoen_with t) ss ∙ maps_as (λ s. replace_in_shoen v b (shoen_with t s)) (shoen_with (λ x. replace v b (t x))) (λ s. ap (λ (o : Option model.Origin). let r : model.Shoen = record (shoen_with (λ x. replace v b (t x)) s) { origin = o } in r) (by_origin s.origin)) ss
@@ -100,39 +91,27 @@ changed_count n f ss = length-map ss (λ h. if has_number n h then f h else h)
 pub in_grown : (h k : Held CellName) → Grown h k → (x : Cell CellName) → IsIn h x → IsIn k x
 in_grown h k g (Variable v) i = let le = g.variables in omega arith
 in_grown h k g (Structure s) i = let e = ap length g.structures in omega (arith, e, length-take (length h.structures) k.structures)
-in_grown h k g (Integer n) i = tt
-in_grown h k g (Atom a) i = tt
+in_grown h k g _ i = tt
 
 -- goals of a store are goals of another in which each of its cells is
 pub goals_in_by : (h k : Held CellName) → ((x : Cell CellName) → IsIn h x → IsIn k x) → (gs : List (Goal CellName)) → AreGoalsIn h gs → AreGoalsIn k gs
-goals_in_by h k up [] i = tt
-goals_in_by h k up (g ∷ gs) i = (by_task g.task i.0, goals_in_by h k up gs i.1)
+goals_in_by h k up gs i = all_then (λ (g : Goal CellName). IsTaskIn h g.task) (λ g. IsTaskIn k g.task) (λ g j. by_task g.task j) gs i
   where
     by_task : (t : Task CellName) → IsTaskIn h t → IsTaskIn k t
     by_task Monitor j = tt
     by_task (Reduces q) j = up q.cell j
     by_task (Substitutes x) j = up x j
 
-pub goals_grown : (h k : Held CellName) → Grown h k → (gs : List (Goal CellName)) → AreGoalsIn h gs → AreGoalsIn k gs
-goals_grown h k g gs i = goals_in_by h k (in_grown h k g) gs i
-
 -- and so is a shoen
-shoen_in_by : (h k : Held CellName) → ((x : Cell CellName) → IsIn h x → IsIn k x) → (s : Shoen CellName) → IsShoenIn h s → IsShoenIn k s
+pub shoen_in_by : (h k : Held CellName) → ((x : Cell CellName) → IsIn h x → IsIn k x) → (s : Shoen CellName) → IsShoenIn h s → IsShoenIn k s
 shoen_in_by h k up s i = record { control = up s.control i.control; tail = up s.tail i.tail; origin = by_origin s.origin i.origin; low = i.low; high = i.high }
   where
     by_origin : (o : Option (Origin CellName)) → IsOriginIn h o → IsOriginIn k o
     by_origin None j = tt
     by_origin (Some o) j = record { goal = up o.goal j.goal; reports = up o.reports j.reports; control = up o.control j.control }
 
-pub shoen_grown : (h k : Held CellName) → Grown h k → (s : Shoen CellName) → IsShoenIn h s → IsShoenIn k s
-shoen_grown h k g s i = shoen_in_by h k (in_grown h k g) s i
-
 pub shoens_in_by : (h k : Held CellName) → ((x : Cell CellName) → IsIn h x → IsIn k x) → (ss : List (Shoen CellName)) → AreShoensIn h ss → AreShoensIn k ss
-shoens_in_by h k up [] i = tt
-shoens_in_by h k up (s ∷ ss) i = (shoen_in_by h k up s i.0, shoens_in_by h k up ss i.1)
-
-pub shoens_grown : (h k : Held CellName) → Grown h k → (ss : List (Shoen CellName)) → AreShoensIn h ss → AreShoensIn k ss
-shoens_grown h k g ss i = shoens_in_by h k (in_grown h k g) ss i
+shoens_in_by h k up ss i = all_then (IsShoenIn h) (IsShoenIn k) (shoen_in_by h k up) ss i
 
 -- shoens of which one is changed to one with cells of the store
 pub shoens_changed : (h : Held CellName) (n : ℕ) (f : Shoen CellName → Shoen CellName) → ((s : Shoen CellName) → IsShoenIn h s → IsShoenIn h (f s)) → (ss : List (Shoen CellName)) → AreShoensIn h ss → AreShoensIn h (changed n f ss)
@@ -146,3 +125,21 @@ found_shoen_in h n (r ∷ ss) s a e = elim (cases_Bool (r.number == n)) [
   | inl p ↦ let found : Some r ≡ Some s = rw p at e in let same : r ≡ s = cc in subst (λ (x : Shoen CellName). IsShoenIn h x) same a.0
   | inr p ↦ found_shoen_in h n ss s a.1 (rw p at e)
 ]
+
+-- ---- what is to be reduced, as an account and as its store tell it
+
+told_is : (f : Reading) (h : Held CellName) (m : Option CellName) (t : Term) → told_in (meaning f h) m t ≡ in_module f m t
+told_is f h None t = refl
+told_is f h (Some m) t = ap (λ x. structure (codes ":") (more x (more t none))) (term_of-Atom f h m)
+
+-- both tell the same
+pub aim_is : (f : Reading) (h : Held CellName) (q : Qualified CellName) → aim f h q ≡ qualified_term f h q
+aim_is f h q = told_is f h q.module_name (meaning f h q.cell)
+
+-- in a later store the variables are replaced that were bound since then
+pub aim_later : (f : Reading) (old new : Held CellName) (q : Qualified CellName) (l : IsLater f old new) → IsIn old q.cell → aim f new q ≡ replaced l.replacements (aim f old q)
+aim_later f old new q l i = aim_is f new q ∙ (qualified_later f old new q l i ∙ ap (replaced l.replacements) (sym (aim_is f old q)))
+
+-- its kind
+pub kind_at : (f : Reading) (h : Held CellName) (q : Qualified CellName) (k : Kind CellName) → IsKind f h (qualified_term f h q) k → IsKind f h (aim f h q) k
+kind_at f h q k is = let P : Term → Type 0 = λ t. IsKind f h t k in subst P (sym (aim_is f h q)) is

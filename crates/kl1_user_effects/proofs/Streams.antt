@@ -1,5 +1,5 @@
 -- Reports, the end of a stream, exceptions and unifications.
-use Rattle.kl1_user_effects.proofs.Words.{◌≡◌, ℕ, ◌-◌, List, sym, ap, ◌∙◌, subst, inl, inr, find, Some, BuiltIn, text_of, Term, variable, integer, atom, structure, replace, replaced, nil, mgu, State, report, close, closed_at, exception, failure, close_of, raised, unified, equation, CellName, Qualified, Cell, Bound, Clash, Held, IsIn, Grown, UnifiesAs, EndsAt, ClosedAs, IsException, Goal, Shoen, has_number, Numbered, Reading, built, meaning, goal_with, aim, Made, worked, IsMadeIn, Turns, cases_Bool}
+use Rattle.kl1_user_effects.proofs.Words.{◌≡◌, ℕ, ◌-◌, List, sym, ap, ◌∙◌, subst, inl, inr, find, Some, BuiltIn, text_of, Term, variable, replace, replaced, nil, mgu, State, report, close, closed_at, exception, failure, close_of, raised, unified, equation, CellName, Qualified, Cell, Bound, Clash, Held, IsIn, Grown, UnifiesAs, EndsAt, ClosedAs, IsException, Goal, Shoen, has_number, Numbered, Reading, built, meaning, goal_with, aim, Made, worked, IsMadeIn, Turns, cases_Bool}
 use Rattle.kl1_user_effects.proofs.States.{replaced_state, all_replaced}
 use Rattle.kl1_user_effects.proofs.Works.{base, read_as, finds, rereads, turns_then, turns_as, grown_made}
 
@@ -10,9 +10,7 @@ ends_at f h k s w (variable v) i same e =
     replaced_state (base s w) v nil (meaning f h) (h.variables - 1) w.goals w.shoens
     ∙ rereads s (λ x. replace v nil (meaning f h x)) (meaning f k) (h.variables - 1) h w (λ x j. sym (e x)) i
     ∙ ap (λ n. read_as s (meaning f k) (n - 1) w) (sym same)
-ends_at f h k s w (integer n) i same e = ap (λ (x : Held CellName). worked f s x w) (sym e)
-ends_at f h k s w (atom a) i same e = ap (λ (x : Held CellName). worked f s x w) (sym e)
-ends_at f h k s w (structure g ts) i same e = ap (λ (x : Held CellName). worked f s x w) (sym e)
+ends_at f h k s w _ i same e = ap (λ (x : Held CellName). worked f s x w) (sym e)
 
 pub closed_turns : (ms : List Numbered) (h k : Held CellName) (w : Made) (n : ℕ) (sh : Shoen CellName) → Grown h k → IsMadeIn h w → find (has_number n) w.shoens ≡ Some sh → ClosedAs built h k sh.tail sh.is_broken → Turns ms (λ f. close n) h k w w
 closed_turns ms h k w n sh g i e c = record {
@@ -68,6 +66,5 @@ solved_turns ms h k w goal cell left right i u = record {
 pub clash_turns : (ms : List Numbered) (h mid k : Held CellName) (w v : Made) (goal : Goal CellName) (cell : Qualified CellName) (left right : Cell CellName) → UnifiesAs built h mid left right Clash →
     Turns ms (λ f. raised (goal_with (meaning f mid) goal) failure (aim f mid cell)) mid k w v → Turns ms (λ f s. unified (goal_with (meaning f h) goal) (aim f h cell) (mgu (equation (meaning f h left) (meaning f h right))) s) h k w v
 clash_turns ms h mid k w v goal cell left right u t =
-    let P : Held CellName → Type 0 = λ x. Turns ms (λ f. raised (goal_with (meaning f x) goal) failure (aim f x cell)) x k w v in
     turns_as ms (λ f. raised (goal_with (meaning f h) goal) failure (aim f h cell)) (λ f s. unified (goal_with (meaning f h) goal) (aim f h cell) (mgu (equation (meaning f h left) (meaning f h right))) s) h k w v
-    (λ f knows s. ap (λ o. unified (goal_with (meaning f h) goal) (aim f h cell) o (worked f s h w)) (u.0 f knows.reads)) (subst P u.1 t)
+    (λ f knows s. ap (λ o. unified (goal_with (meaning f h) goal) (aim f h cell) o (worked f s h w)) (u.0 f knows.reads)) (subst (λ x. Turns ms (λ f. raised (goal_with (meaning f x) goal) failure (aim f x cell)) x k w v) u.1 t)

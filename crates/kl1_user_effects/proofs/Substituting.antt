@@ -1,11 +1,11 @@
 -- Exceptions: with a report alone, and with a substitute in the place of the goal.
-use Rattle.kl1_user_effects.proofs.Words.{◌≡◌, ℕ, suc, ◌+◌, ◌≤◌, ◌==◌, not, ◌&&◌, ◌||◌, Bool, true, false, if◌then◌else◌, List, [], ◌∷◌, ◌++◌, length, take, refl, sym, ap, ◌∙◌, inl, inr, arith, find, Some, None, option_map, ne_eqb, and-false, map-append, take_all, BuiltIn, Term, variable, integer, atom, structure, occurs, State, has_substitutes, report, is_reported, exception, exception_with, is_reported_at, is_reported_of, replaced_by, substituted_by, raised, Reads, CellName, Qualified, Cell, Variable, Integer, Atom, Structure, Binding, Shape, Held, IsIn, is_bound, with_variable, Kept, HasGrown, IsFormed, Grown, term_of-variable, term_of-unbound, Grown-variable, Grown-trans, IsExceptionWith, Task, Goal, Shoen, has_number, Numbered, Reading, built, meaning, aim, task_with, goal_with, shoen_with, IsWhole, IsTaskIn, IsOwned, AreShoensIn, one_for, is_variable, IsNoTail, KeepsFree, Made, worked, IsMadeIn, Knows, Turns, option_cases}
+use Rattle.kl1_user_effects.proofs.Words.{◌≡◌, ℕ, suc, ◌+◌, ◌≤◌, ◌==◌, not, ◌&&◌, ◌||◌, Bool, false, if◌then◌else◌, List, [], ◌∷◌, ◌++◌, length, take, refl, sym, ap, ◌∙◌, inl, inr, arith, find, Some, None, option_map, ne_eqb, and-false, map-append, take_all, BuiltIn, Term, variable, occurs, State, has_substitutes, report, is_reported, exception, exception_with, is_reported_at, is_reported_of, replaced_by, substituted_by, raised, Reads, CellName, Qualified, Cell, Variable, Binding, Shape, Held, IsIn, is_bound, with_variable, Kept, HasGrown, IsFormed, Grown, term_of-variable, term_of-unbound, Grown-variable, IsExceptionWith, Task, Goal, Shoen, has_number, Numbered, Reading, built, meaning, aim, task_with, goal_with, shoen_with, IsWhole, IsTaskIn, IsOwned, AreShoensIn, one_for, is_variable, IsNoTail, KeepsFree, Made, worked, IsMadeIn, Knows, Turns, option_cases}
 use Rattle.std.specs.Prelude.{is_some}
 use Rattle.kl1_model.specs.State as model
 use Rattle.kl1_store.specs.Sound.{Bound}
 use Rattle.kl1_user_effects.proofs.States.{Agree, found_shoen_in}
 use Rattle.kl1_user_effects.proofs.Works.{turns_then, turns_as}
-use Rattle.kl1_user_effects.proofs.Goals.{goals_in_append, owned_append}
+use Rattle.kl1_user_effects.proofs.Lists.{all_append}
 use Rattle.kl1_user_effects.proofs.LateFree.{in_lower, not_lower}
 use Rattle.kl1_user_effects.proofs.Streams.{grown_turns}
 
@@ -22,9 +22,9 @@ replaced_turns ms h w goal task i j own =
     record {
       inside = record {
         some = i.some;
-        goals = goals_in_append h w.goals one i.goals (j, tt);
+        goals = all_append (λ (g : Goal CellName). IsTaskIn h g.task) w.goals one i.goals (j, tt);
         shoens = i.shoens;
-        owned = owned_append (length w.shoens) w.goals one i.owned (record { low = own.low; high = own.high }, tt);
+        owned = all_append (IsOwned (length w.shoens)) w.goals one i.owned (record { low = own.low; high = own.high }, tt);
       };
       states = λ f knows s.
           let t = meaning f h in
@@ -34,16 +34,12 @@ replaced_turns ms h w goal task i j own =
 
 -- ---- a message with a new variable
 
--- a variable occurs in an exception with another variable as it does in the exception without that
-pub occurs_beside : (v w : ℕ) (kind : List ℕ) (goal : Term) → (v == w) ≡ false → occurs v (exception_with kind goal (variable w)) ≡ occurs v (exception kind goal)
-occurs_beside v w kind goal e = rw e
-
--- such an exception is reported if the exception without the variable is
+-- an exception with a variable that isn't the tail is reported if the exception without it is
 reported_beside : (tail : Term) (kind : List ℕ) (goal : Term) (w : ℕ) (last : Bool) → ((v : ℕ) → tail ≡ variable v → (v == w) ≡ false) → is_reported_at last (exception_with kind goal (variable w)) tail ≡ is_reported_at last (exception kind goal) tail
-reported_beside (variable v) kind goal w last other = ap (λ b. is_some (if b || last then None else Some v)) (occurs_beside v w kind goal (other v refl))
-reported_beside (integer i) kind goal w last other = refl
-reported_beside (atom a) kind goal w last other = refl
-reported_beside (structure g ts) kind goal w last other = refl
+reported_beside (variable v) kind goal w last other =
+    let same : occurs v (exception_with kind goal (variable w)) ≡ occurs v (exception kind goal) = rw (other v refl) in
+    ap (λ b. is_some (if b || last then None else Some v)) same
+reported_beside _ kind goal w last other = refl
 
 -- ---- a variable that is new to a store
 
@@ -76,9 +72,7 @@ reported_here f h k ss n last kind goal p i agree = elim (option_cases (find (ha
 
 none_is : (v : ℕ) (t : Term) → ((w : ℕ) → t ≡ variable w → (w == v) ≡ false) → is_variable v t ≡ false
 none_is v (variable w) other = other w refl
-none_is v (integer i) other = refl
-none_is v (atom a) other = refl
-none_is v (structure g ts) other = refl
+none_is v _ other = refl
 
 -- it is the tail of no stream
 new_no_tail : (h k : Held CellName) (ss : List (Shoen CellName)) (n : ℕ) → IsFormed h → AreShoensIn h ss → ((f : Reading) → Agree h (meaning f k) (meaning f h)) → IsNoTail h.variables n k ss
@@ -106,9 +100,7 @@ asked h next mid kind term message v p i fresh g e =
 
 in_next : (h : Held CellName) (x : Cell CellName) → IsIn h x → IsIn (with_variable h) x
 in_next h (Variable v) i = omega arith
-in_next h (Structure s) i = i
-in_next h (Integer n) i = tt
-in_next h (Atom a) i = tt
+in_next h _ i = i
 
 -- a cell that was there is there after a new variable
 pub next_still : (h next : Held CellName) (v : ℕ) (x : Cell CellName) → (v ≡ h.variables) × (next ≡ with_variable h) → IsIn h x → IsIn next x
@@ -123,9 +115,6 @@ next_grown h next v fresh = rw fresh.1 (Grown-variable h)
 
 pub asked_agree : (h mid : Held CellName) (kind : BuiltIn) (term message : Cell CellName) → IsAsked h mid kind term message → (f : Reading) → Agree h (meaning f mid) (meaning f h)
 asked_agree h mid kind term message a f x i = a.asks.others f x (in_next h x i) ∙ term_of-variable f h x
-
-pub asked_grown : (h mid : Held CellName) (kind : BuiltIn) (term message : Cell CellName) → IsAsked h mid kind term message → Grown h mid
-asked_grown h mid kind term message a = Grown-trans h (with_variable h) mid (Grown-variable h) a.grown
 
 -- the new variable is of each store that is later
 pub new_in : (h mid k : Held CellName) (kind : BuiltIn) (term message : Cell CellName) → IsAsked h mid kind term message → Grown mid k → IsIn k (Variable h.variables)
@@ -144,29 +133,16 @@ new_stays h mid k kind term message ss n a i free = λ f reads.
 
 -- ---- exceptions by the rules
 
--- if there are no substitutes an exception is a report
-pub plain_turns : (ms : List Numbered) (h k : Held CellName) (w v : Made) (goal : Goal CellName) (kind : List ℕ) (x : Cell CellName) → has_substitutes w.rules ≡ false → Turns ms (λ f. report goal.shoen (exception kind (meaning f h x))) h k w v →
-    Turns ms (λ f. raised (goal_with (meaning f h) goal) kind (meaning f h x)) h k w v
+-- an exception that isn't reported, or for which there are no substitutes, is a report
+pub plain_turns : (ms : List Numbered) (h k : Held CellName) (w v : Made) (goal : Goal CellName) (kind : List ℕ) (x : Cell CellName) → ((f : Reading) → Knows ms f → (s : State) → (has_substitutes w.rules && is_reported goal.shoen (exception kind (meaning f h x)) (worked f s h w)) ≡ false) →
+    Turns ms (λ f. report goal.shoen (exception kind (meaning f h x))) h k w v → Turns ms (λ f. raised (goal_with (meaning f h) goal) kind (meaning f h x)) h k w v
 plain_turns ms h k w v goal kind x one t =
     turns_as ms (λ f. report goal.shoen (exception kind (meaning f h x))) (λ f. raised (goal_with (meaning f h) goal) kind (meaning f h x)) h k w v
     (λ f knows s.
     let S = worked f s h w in
     let G = goal_with (meaning f h) goal in
     let T = meaning f h x in
-    ap (λ b. if b && is_reported goal.shoen (exception kind T) S then substituted_by G kind T S else report goal.shoen (exception kind T) S) one)
-    t
-
--- one that isn't reported is one too
-pub unreported_turns : (ms : List Numbered) (h k : Held CellName) (w v : Made) (goal : Goal CellName) (kind : List ℕ) (x : Cell CellName) → has_substitutes w.rules ≡ true → ((f : Reading) → Knows ms f → (s : State) → is_reported goal.shoen (exception kind (meaning f h x)) (worked f s h w) ≡ false) →
-    Turns ms (λ f. report goal.shoen (exception kind (meaning f h x))) h k w v → Turns ms (λ f. raised (goal_with (meaning f h) goal) kind (meaning f h x)) h k w v
-unreported_turns ms h k w v goal kind x two unmade t =
-    turns_as ms (λ f. report goal.shoen (exception kind (meaning f h x))) (λ f. raised (goal_with (meaning f h) goal) kind (meaning f h x)) h k w v
-    (λ f knows s.
-    let S = worked f s h w in
-    let G = goal_with (meaning f h) goal in
-    let T = meaning f h x in
-    ap (λ b. if b && is_reported goal.shoen (exception kind T) S then substituted_by G kind T S else report goal.shoen (exception kind T) S) two
-    ∙ ap (λ b. if b then substituted_by G kind T S else report goal.shoen (exception kind T) S) (unmade f knows s))
+    ap (λ b. if b then substituted_by G kind T S else report goal.shoen (exception kind T) S) (one f knows s))
     t
 
 -- a store that has only grown, by no hook, still has all that it had

@@ -2,13 +2,14 @@
 pub use Rattle.std.proofs.Common.{Bool, IsSome, List, [], add-one, ap, ap₂, arith, bytes_eq, cond, drop, false, get_or, if◌then◌else◌, inl, inr, is_some, le_trans, length, length-append, length-take, map, not, refl, rules, subst, suc, sym, take, true, vec_capacity, vec_len, zero, ℕ, ◌&&◌, ◌*◌, ◌++◌, ◌+◌, ◌-◌, ◌<◌, ◌==◌, ◌^◌, ◌||◌, ◌∙◌, ◌∷◌, ◌≡◌, ◌≤◌, ◌⊎◌}
 pub use Rattle.std.proofs.Math.Bool.{and-false, or-true}
 pub use Rattle.std.proofs.Math.Nat.{max-le, min-le_right}
-pub use Rattle.std.proofs.lemmas.Bool.{cases_Bool, cases_lt, eq-eqb, eqb-false, eqb-true, false≢true, le-leb, le-ltb, leb-false, leb-true, lt-leb, lt-ltb, ne_eqb, or_cases}
+pub use Rattle.std.proofs.lemmas.Bool.{cases_Bool, cases_lt, eq-eqb, eqb-false, eqb-true, false_from_ne_true, false≢true, le-leb, le-ltb, leb-false, leb-true, lt-leb, lt-ltb, ne_eqb, or_cases, or_from, or_parts}
+pub use Rattle.std.proofs.lemmas.Bool.Decides.{same_from_decides}
 pub use Rattle.std.proofs.lemmas.List.{append-nil, append_assoc, get_or-take, get_or_default, length-map, length_push, map-append, take-append-drop, take_all, take_more}
 pub use Rattle.std.proofs.lemmas.List.Elements.{Contains-append_left, Contains-append_right, filter-append}
 pub use Rattle.std.proofs.lemmas.List.Folds.{list_any-append}
 pub use Rattle.std.proofs.lemmas.List.Sorted.{Contains-permutation, IsNonDecreasingBy-from_sort, searched}
 pub use Rattle.std.proofs.lemmas.List.Sums.{sum_by-cons}
-pub use Rattle.std.proofs.lemmas.Option.{slice_get_cases}
+pub use Rattle.std.proofs.lemmas.Map.Views.{Contains-from_any}
 pub use Rattle.std.proofs.lemmas.Simd.{map-map}
 pub use Rattle.std.proofs.lemmas.Slice.Eq.{bytes_eq-Decides}
 pub use Rattle.std.specs.HashMap.{HashMap}
@@ -57,10 +58,11 @@ pub use Rattle.kl1_atoms.specs.Names.{Adds, AreNames, HasRoom, added, number_by,
 pub use Rattle.kl1_atoms.specs.declared.known.Known.{Known}
 pub use Rattle.kl1_store.proofs.Grows.{Grown-trans, Grown-variable}
 pub use Rattle.kl1_store.proofs.InModules.{qualified_later}
+pub use Rattle.kl1_store.proofs.Meetings.{named}
 pub use Rattle.kl1_store.proofs.Renamed.{renamed_everywhere, term_of-renamed}
 pub use Rattle.kl1_store.proofs.Terms.{term_of-Atom, term_of-Integer, term_of-Structure, term_of-structure, term_of-unbound, term_of-variable}
 pub use Rattle.kl1_store.proofs.Walking.{bound_at, found_itself}
-pub use Rattle.kl1_store.specs.Held.{Held, IsIn, IsLower, IsWalked, Shape, arguments_of, found, is_bound, shape_arguments, with_variable}
+pub use Rattle.kl1_store.specs.Held.{Held, IsIn, IsLower, IsWalked, Shape, arguments_of, found, is_bound, with_variable}
 pub use Rattle.kl1_store.specs.Hooks.{HasGrown, Hook, Kept}
 pub use Rattle.kl1_store.specs.InModules.{AreQualifiedIn, in_module, qualified_list, qualified_term}
 pub use Rattle.kl1_store.specs.Later.{IsLater}
@@ -106,12 +108,12 @@ pub use Rattle.kl1_user_events.specs.declared.refusal.Refusal.TheVariants.{Ended
 pub use Rattle.kl1_user_effects.specs.Account.{Means, aim, aim_with, goal_with, meaning, origin_with, shoen_with, state_with, task_with, texts_of, told_in}
 pub use Rattle.kl1_user_effects.specs.Calling.{keeps_names, spare}
 pub use Rattle.kl1_user_effects.specs.Drafts.{goals_for, is_of_any, one_for}
-pub use Rattle.kl1_user_effects.specs.Endings.{ended_each, finished, finished_each}
+pub use Rattle.kl1_user_effects.specs.Endings.{ended_each}
 pub use Rattle.kl1_user_effects.specs.Exchanging.{AreSpared, IsRowOf, IsSpared, exchanged, held_exchanged, pair_of, read_exchanged, swapped, swapped_all, swapped_one, touched}
 pub use Rattle.kl1_user_effects.specs.Fitting.{Fits, Reading, built, marked_fits, marked_reading, reading_fits, reading_of}
 pub use Rattle.kl1_user_effects.specs.Frames.{IsCalm, KeepsBy, plain}
 pub use Rattle.kl1_user_effects.specs.Kept.{AreGoalsIn, AreOwned, AreShoensIn, AreUpTo, IsKeptIn, IsOriginIn, IsOwned, IsShoenIn, IsTaskIn}
-pub use Rattle.kl1_user_effects.specs.Late.{IsNoTail, KeepsFree, StaysFree, break_at, break_of, close_late, close_late_of, finished_each_late, finished_late, is_tail_of, is_variable, report_each_late, report_late, settle_charged_late}
+pub use Rattle.kl1_user_effects.specs.Late.{HasLate, IsNoTail, KeepsFree, KeepsLate, StaysFree, close_late, finished_each_late, finished_late, is_late_tail, is_tail_of, is_variable, report_each_late, report_late, settle_charged_late}
 pub use Rattle.kl1_user_effects.specs.Messages.{AllowsMessage, Counts, RefusesMessage, Usage}
 pub use Rattle.kl1_user_effects.specs.Moving.{priorities_by}
 pub use Rattle.kl1_user_effects.specs.Naming.{AreNumbersOf, AreSmall, Grows, Keeps, ReadsDraft}

@@ -1,7 +1,8 @@
 -- What is made of an account, one change after another.
-use Rattle.kl1_user_effects.proofs.Words.{◌≡◌, ℕ, suc, ◌-◌, ◌||◌, not, Bool, true, false, if◌then◌else◌, List, length, map, refl, sym, ap, ◌∙◌, arith, subst, nat_lt, find, Option, Some, None, option_map, Rules, Term, variable, integer, atom, structure, replace, occurs, cell, State, limits_of, shoen_at, change_shoen, replace_in_state, has_made_last, reported_on, report, reported_at, broken_at, report_of, Reads, CellName, Cell, Variable, Held, IsIn, Grown, Told, Dropped, Broken, Sent, Breaks, ToldAs, Shoen, has_number, changed, Numbered, Reading, built, Means, meaning, shoen_with, state_with, AreOwned, IsShoenIn, Made, worked, IsMadeIn, Knows, Turns}
+use Rattle.kl1_user_effects.proofs.Words.{◌≡◌, ℕ, suc, ◌-◌, not, Bool, true, if◌then◌else◌, List, length, map, refl, sym, ap, ◌∙◌, arith, subst, nat_lt, find, Option, Some, None, option_map, Rules, Term, variable, replace, occurs, cell, State, limits_of, shoen_at, change_shoen, replace_in_state, has_made_last, reported_on, report, reported_at, broken_at, report_of, Reads, CellName, Cell, Variable, Held, IsIn, Grown, Told, Dropped, Broken, Sent, Breaks, ToldAs, Shoen, has_number, changed, Numbered, Reading, built, Means, meaning, shoen_with, state_with, AreOwned, IsShoenIn, Made, worked, IsMadeIn, Knows, Turns, or_from, cases_Bool, false, inl, inr, is_reported, is_reported_at, is_reported_of, unheard, ◌||◌}
 use Rattle.kl1_model.specs.State as model
-use Rattle.kl1_user_effects.proofs.States.{Agree, same_state, replaced_state, found_in, changed_in, changed_count, goals_grown, shoens_grown, shoens_changed}
+use Rattle.kl1_user_effects.proofs.States.{Agree, same_state, replaced_state, found_in, changed_in, changed_count, in_grown, goals_in_by, shoens_in_by, shoens_changed}
+use Rattle.std.specs.Prelude.{is_some}
 
 -- ---- changes one after another
 
@@ -46,11 +47,10 @@ changes s t last w n f g e =
 -- what is made still has the cells of the store
 pub changed_made : (h : Held CellName) (w : Made) (n : ℕ) (f : Shoen CellName → Shoen CellName) → ((s : Shoen CellName) → IsShoenIn h s → IsShoenIn h (f s)) → IsMadeIn h w → IsMadeIn h (with_changed n f w)
 changed_made h w n f e i =
-    let O : ℕ → Type 0 = λ c. AreOwned c w.goals in
-    record { some = i.some; goals = i.goals; shoens = shoens_changed h n f e w.shoens i.shoens; owned = subst O (sym (changed_count n f w.shoens)) i.owned }
+    record { some = i.some; goals = i.goals; shoens = shoens_changed h n f e w.shoens i.shoens; owned = subst (λ c. AreOwned c w.goals) (sym (changed_count n f w.shoens)) i.owned }
 
 pub grown_made : (h k : Held CellName) (w : Made) → Grown h k → IsMadeIn h w → IsMadeIn k w
-grown_made h k w g i = let a = i.some in let b = g.variables in record { some = omega arith; goals = goals_grown h k g w.goals i.goals; shoens = shoens_grown h k g w.shoens i.shoens; owned = i.owned }
+grown_made h k w g i = let a = i.some in let b = g.variables in record { some = omega arith; goals = goals_in_by h k (in_grown h k g) w.goals i.goals; shoens = shoens_in_by h k (in_grown h k g) w.shoens i.shoens; owned = i.owned }
 
 -- a change of a shoen turns the state as the definitions' does
 pub changed_turns : (ms : List Numbered) (h : Held CellName) (w : Made) (n : ℕ) (f : Shoen CellName → Shoen CellName) (g : model.Shoen → model.Shoen) → IsMadeIn h w → ((s : Shoen CellName) → IsShoenIn h s → IsShoenIn h (f s)) →
@@ -73,9 +73,7 @@ last_made rules made = not (nat_lt made (limits_of rules).reports)
 -- a report that breaks the stream
 pub broken_by : (n : ℕ) (t m : Term) (s : State) → Breaks (has_made_last s) t m → reported_at n m t s ≡ broken_at n s
 broken_by n (variable v) m s e = ap (λ b. reported_on n m (if b then None else Some v) s) e
-broken_by n (integer i) m s e = refl
-broken_by n (atom a) m s e = refl
-broken_by n (structure f ts) m s e = refl
+broken_by n _ m s e = refl
 
 -- a shoen whose stream is broken, and one whose stream goes on with this tail
 abbrev pub torn : Shoen CellName → Shoen CellName
@@ -96,10 +94,6 @@ reports_as s t last w n sh m e = ap (λ o. report_of o n m (read_as s t last w))
 
 pub next_in : (h k : Held CellName) (next : ℕ) → next ≡ h.variables → k.variables ≡ suc h.variables → IsIn k (Variable next)
 next_in h k next a b = omega arith
-
-both_false : (a b : Bool) → a ≡ false → b ≡ false → (a || b) ≡ false
-both_false true b e f = e
-both_false false b e f = f
 
 report_states : (h k : Held CellName) (w : Made) (n : ℕ) (sh : Shoen CellName) (m : Cell CellName) (told : Told) → IsMadeIn h w → find (has_number n) w.shoens ≡ Some sh →
     ToldAs built h k sh.tail sh.is_broken (last_made w.rules w.reports) m told → (f : Reading) → Reads built f → (s : State) → report n (meaning f h m) (worked f s h w) ≡ worked f s k (after_report n w told)
@@ -126,7 +120,7 @@ report_states h k w n sh m (Sent next) i e d f reads = λ s.
     reports_as s (meaning f h) (h.variables - 1) w n sh M e
     ∙ ap (λ b. if b then S else reported_at n M (meaning f h sh.tail) S) d.whole
     ∙ ap (λ t. reported_at n M t S) (d.tail_is f)
-    ∙ ap (λ b. reported_on n M (if b then None else Some d.number) S) (both_false (occurs d.number M) (last_made w.rules w.reports) sent.free d.more)
+    ∙ ap (λ b. reported_on n M (if b then None else Some d.number) S) (or_from (occurs d.number M) (last_made w.rules w.reports) sent.free d.more)
     ∙ ap moved N
     ∙ ap told (replaced_state (base s w) d.number (cell M (variable next)) (meaning f h) (h.variables - 1) w.goals w.shoens)
     ∙ ap told (rereads s (λ x. replace d.number (cell M (variable next)) (meaning f h x)) (meaning f k) (h.variables - 1) h w (λ x j. sym (sent.means x j)) i)
@@ -154,3 +148,48 @@ report_turns ms h k w n sh m told g i e d = record {
 -- a report of a shoen that isn't there is none
 pub no_report_turns : (ms : List Numbered) (h : Held CellName) (w : Made) (n : ℕ) (m : Cell CellName) → IsMadeIn h w → find (has_number n) w.shoens ≡ None → Turns ms (λ f. report n (meaning f h m)) h h w w
 no_report_turns ms h w n m i e = turns_none ms (λ f. report n (meaning f h m)) h w i (λ f knows s. ap (λ o. report_of o n (meaning f h m) (worked f s h w)) (finds s (meaning f h) (h.variables - 1) w n None e))
+
+-- ---- whether a report is made
+
+no_tail : (b : Bool) (v : ℕ) → is_some (if b then None else Some v) ≡ false → b ≡ true
+no_tail true v e = refl
+no_tail false v e = sym e
+
+-- one that isn't made on an unbroken stream breaks it
+none_breaks : (m t : Term) (last : Bool) → is_reported_at last m t ≡ false → Breaks last t m
+none_breaks m (variable v) last e = no_tail (occurs v m || last) v e
+none_breaks m _ last e = tt
+
+-- what is made by a report of shoen `n`, which may be there, that isn't made
+abbrev pub with_unheard : ℕ → Option (Shoen CellName) → Made → Made
+with_unheard n o w = record w { shoens = unheard n o w.shoens }
+
+unheard_made : (h : Held CellName) (w : Made) (n : ℕ) (o : Option (Shoen CellName)) → IsMadeIn h w → IsMadeIn h (with_unheard n o w)
+unheard_made h w n None i = i
+unheard_made h w n (Some sh) i = elim (cases_Bool sh.is_broken) [
+  | inl p ↦ rw p i
+  | inr p ↦ rw p (changed_made h w n torn (λ s a. record { control = a.control; tail = a.tail; origin = a.origin; low = a.low; high = a.high }) i)
+]
+
+-- by what is found of the shoen
+unmade_state : (s : State) (t : Means) (last : ℕ) (w : Made) (n : ℕ) (m : Term) (o : Option (Shoen CellName)) → is_reported_of (option_map (shoen_with t) o) m (last_made w.rules w.reports) ≡ false →
+    report_of (option_map (shoen_with t) o) n m (read_as s t last w) ≡ read_as s t last (with_unheard n o w)
+unmade_state s t last w n m None unmade = refl
+unmade_state s t last w n m (Some sh) unmade = elim (cases_Bool sh.is_broken) [
+  | inl p ↦ rw p
+  | inr p ↦
+      let none : is_reported_at (last_made w.rules w.reports) m (t sh.tail) ≡ false = rw p at unmade in
+      rw p (broken_by n (t sh.tail) m (read_as s t last w) (none_breaks m (t sh.tail) (last_made w.rules w.reports) none) ∙ changes s t last w n torn (λ x. record x { is_broken = true }) (λ x. refl))
+]
+
+-- a report that isn't made turns the state as the definitions' does
+pub unmade_turns : (ms : List Numbered) (h : Held CellName) (w : Made) (n : ℕ) (m : Reading → Term) → IsMadeIn h w → ((f : Reading) → Knows ms f → (s : State) → is_reported n (m f) (worked f s h w) ≡ false) →
+    Turns ms (λ f. report n (m f)) h h w (with_unheard n (find (has_number n) w.shoens) w)
+unmade_turns ms h w n m i unmade = record {
+  inside = unheard_made h w n (find (has_number n) w.shoens) i;
+  states = λ f knows s.
+      let t = meaning f h in
+      let o = find (has_number n) w.shoens in
+      ap (λ (p : Option model.Shoen). report_of p n (m f) (worked f s h w)) (found_in t n w.shoens)
+      ∙ unmade_state s t (h.variables - 1) w n (m f) o (sym (ap (λ (p : Option model.Shoen). is_reported_of p (m f) (last_made w.rules w.reports)) (found_in t n w.shoens)) ∙ unmade f knows s);
+}

@@ -2,19 +2,11 @@
 use Rattle.std.specs.Prelude.{◌≡◌, ℕ, ◌^◌, nat_le, Bool, true, false, List, length, Option, Some, None, IsTrue}
 use Rattle.kl1_model.specs.declared.limits.TheConstants.{MOST_NAMES}
 use Rattle.kl1_model.specs.Text.{is_text}
-use Rattle.kl1_model.specs.Term.{atom}
-use Rattle.kl1_model.specs.Unify.{mgu}
 use Rattle.kl1_model.specs.State.{with_name}
-use Rattle.kl1_model.specs.Reduction.{equation}
 use Rattle.kl1_text.specs.declared.cell_name.CellName.{CellName}
 use Rattle.kl1_atoms.specs.declared.known.Known.{Known}
 use Rattle.kl1_atoms.specs.Names.{number_by}
-use Rattle.kl1_store.specs.declared.cell.Cell.{Cell}
-use Rattle.kl1_store.specs.Held.{Held}
-use Rattle.kl1_codes.specs.Numbered.{Numbered}
-use Rattle.kl1_user_effects.specs.Fitting.{Reading}
-use Rattle.kl1_user_effects.specs.Account.{texts_of, meaning}
-use Rattle.kl1_user_effects.specs.Works.{Knows}
+use Rattle.kl1_user_effects.specs.Account.{texts_of}
 
 -- the first spare number, which stands for a name whose number isn't known yet
 abbrev pub spare : CellName
@@ -34,13 +26,3 @@ abbrev pub name_of : Option ℕ → Bool → List ℕ → Option (List ℕ)
 name_of None true text = Some text
 name_of None false text = None
 name_of (Some n) keeps text = None
-
--- a reading reads a number by which an account knows a text as this text; if the account knows it by none and may use it, the term
--- that a cell means can't become that name
-abbrev pub ReadsKnown : Reading → Held CellName → List Known → List ℕ → Cell CellName → Option ℕ → Type 0
-ReadsKnown f h known text a None = keeps_names known text ≡ true → mgu (equation (meaning f h a) (atom text)) ≡ None
-ReadsKnown f h known text a (Some n) = f (record { number = n }) ≡ text
-
--- each reading that knows these modules does, by the number by which an account with these names knows the text
-abbrev pub ReadsName : List Numbered → Held CellName → List Known → List ℕ → Cell CellName → Type 0
-ReadsName ms h known text a = (f : Reading) → Knows ms f → ReadsKnown f h known text a (number_by known text)

@@ -2,30 +2,17 @@
 use Rattle.std.specs.Prelude.{ℕ, List, map, Option, Some, None, option_map, unwrap_or}
 use Rattle.kl1_model.specs.code.Steps.{clipped, priority_of}
 use Rattle.kl1_text.specs.declared.cell_name.CellName.{CellName}
-use Rattle.kl1_store.specs.Held.{Held}
 use Rattle.kl1_goals_moves.specs.declared.moves.Move.{Move}
 use Rattle.kl1_goals_moves.specs.declared.moves.Move.TheVariants as move
 use Rattle.kl1_shoen_paths.specs.declared.shoen.Shoen.{Shoen}
-use Rattle.kl1_codes.specs.Numbered.{Numbered}
 use Rattle.kl1_atoms.specs.declared.known.Known.{Known}
 use Rattle.kl1_atoms.specs.Names.{number_by}
-use Rattle.kl1_user_effects.specs.Calling.{keeps_names, name_of, ReadsName}
+use Rattle.kl1_user_effects.specs.Calling.{keeps_names, name_of}
 
 -- the priorities of a body's goals, by those that they name, if any, and the shoen, which may be there: clipped to its range
 abbrev pub priorities_by : Option (Shoen CellName) → ℕ → List (Option ℕ) → List ℕ
 priorities_by None own ps = map (priority_of None own) ps
 priorities_by (Some h) own ps = map (λ (p : Option ℕ). unwrap_or (option_map (clipped h.low h.high) p) own) ps
-
--- if a move uses a text as a name, each reading that knows these modules reads its number as this text, or the term can't become
--- that name
-abbrev pub ReadsMove : Move CellName → List Numbered → Held CellName → List Known → List ℕ → Type 0
-ReadsMove (move.Commits place) ms h known text = Unit {0}
-ReadsMove (move.Raises b) ms h known text = Unit {0}
-ReadsMove (move.Unifies a b) ms h known text = Unit {0}
-ReadsMove (move.Names a) ms h known text = ReadsName ms h known text a
-ReadsMove (move.Opens s) ms h known text = Unit {0}
-ReadsMove move.Goes ms h known text = Unit {0}
-ReadsMove move.GivesWay ms h known text = Unit {0}
 
 -- the name that is drafted by a move, if this text stands for a name
 abbrev pub name_for : Move CellName → List Known → List ℕ → Option (List ℕ)

@@ -4,18 +4,16 @@ ghost use Rattle.std.specs.Prelude.{◌≡◌, [], true, List, ℕ, OnOk};
 ghost use Rattle.std.specs.List.{list_any};
 ghost use Rattle.kl1_model.specs.Term.{atom};
 ghost use Rattle.kl1_model.specs.Text.{text_of};
-ghost use Rattle.kl1_model.specs.Report.{report_each};
-ghost use Rattle.kl1_model.specs.Ending.{after_reduction};
 ghost use Rattle.kl1_goals.specs.Lists.{is_goal_of};
 ghost use Rattle.kl1_shoen.specs.Shoens.{path_in, lives_in};
-ghost use Rattle.kl1_user_effects.specs.Endings.{finished_each};
+ghost use Rattle.kl1_user_effects.specs.Late.{HasLate, report_each_late, finished_late, finished_each_late, settle_charged_late};
 ghost use Rattle.kl1_user_effects.specs.Walks.{ends_in, ending_in, reached_in};
 ghost use Rattle.kl1_machine.specs.declared.machine.Machine.{Machine};
 ghost use Rattle.kl1_machine.specs.Machines.{IsMachine, Keeps};
 ghost use Rattle.kl1_machine.specs.Since.{Since, StillSince};
-ghost use Rattle.kl1_machine.specs.Effects.{TurnsAs};
 ghost use Rattle.kl1_machine.specs.Rescheduling.{LetsStill};
 ghost use Rattle.kl1_machine.specs.Ending.{LifeEnds, LivesEnd};
+ghost use Rattle.kl1_machine.specs.Naming.{LateAs};
 
 use crate::machine::Machine;
 use kl1_model::BuiltIn;
@@ -108,44 +106,76 @@ impl Machine {
         Ok(())
     }
 
-    /// A report, which is a name of the language, of each of these shoens, in order.
-    fn report_each(&mut self, numbers: &[u64], name: BuiltIn) -> Result<(), AllocError>
+    /// A report, which is a name of the language, of each of these shoens, in order. `late` is the variable that becomes a name at the
+    /// end, if one does.
+    fn report_each(
+        &mut self,
+        numbers: &[u64],
+        late: Option<u32>,
+        name: BuiltIn,
+    ) -> Result<(), AllocError>
         requires machine { IsMachine self.old }
-        ensures ok { OnOk result (TurnsAs (λ f. report_each numbers.now (atom (text_of name))) self.old self.new) }
+        requires within { HasLate late self.old.store.held }
+        ensures ok { OnOk result (LateAs late (λ f. report_each_late late numbers.now (atom (text_of name))) self.old self.new) }
         ensures since { (b : Machine) → Since b self.old → StillSince result b self.new }
     {
         for number in numbers {
-            self.report_name(*number, name)?;
+            self.report_late(*number, late, name)?;
         }
         Ok(())
     }
 
-    /// Does what is left of the terminations of these shoens after their lives have ended, in order: the monitor of each goes, it reports
-    /// that it has terminated, and its stream is closed.
-    pub(crate) fn finish_each(&mut self, numbers: &[u64]) -> Result<(), AllocError>
+    /// Does what is left of a termination after the shoen's life has ended: its monitor goes, it reports that it has terminated, and its
+    /// stream is closed, but for one whose tail is `late`, the variable that becomes a name at the end, if one does.
+    fn finish(&mut self, number: u64, late: Option<u32>) -> Result<(), AllocError>
         requires machine { IsMachine self.old }
-        ensures ok { OnOk result (TurnsAs (λ f. finished_each numbers.now) self.old self.new) }
+        requires within { HasLate late self.old.store.held }
+        ensures ok { OnOk result (LateAs late (λ f. finished_late late number) self.old self.new) }
+        ensures since { (b : Machine) → Since b self.old → StillSince result b self.new }
+    {
+        self.remove_monitor(number)?;
+        self.report_late(number, late, BuiltIn::Terminated)?;
+        if self.is_late(number, late) {
+            return Ok(());
+        }
+        self.close(number)
+    }
+
+    /// Does what is left of the terminations of these shoens, in order. `late` is the variable that becomes a name at the end, if one does.
+    pub(crate) fn finish_each(
+        &mut self,
+        numbers: &[u64],
+        late: Option<u32>,
+    ) -> Result<(), AllocError>
+        requires machine { IsMachine self.old }
+        requires within { HasLate late self.old.store.held }
+        ensures ok { OnOk result (LateAs late (λ f. finished_each_late late numbers.now) self.old self.new) }
         ensures since { (b : Machine) → Since b self.old → StillSince result b self.new }
     {
         for number in numbers {
-            self.remove_monitor(*number)?;
-            self.report_name(*number, BuiltIn::Terminated)?;
-            self.close(*number)?;
+            self.finish(*number, late)?;
         }
         Ok(())
     }
 
     /// What comes after the effects of a reduction in a shoen: the shoens on its path that have just been charged what they may be, and
-    /// go on, report that they are exhausted, innermost first, and then come terminations. What `scan` holds after it is of no use.
-    pub fn end_path(&mut self, scan: &mut PathScan, number: u64) -> Result<(), AllocError>
+    /// go on, report that they are exhausted, innermost first, and then come terminations. `late` is the variable that becomes a name at the
+    /// end, if one does. What `scan` holds after it is of no use.
+    pub(crate) fn end_path(
+        &mut self,
+        scan: &mut PathScan,
+        number: u64,
+        late: Option<u32>,
+    ) -> Result<(), AllocError>
         requires machine { IsMachine self.old }
-        ensures ok { OnOk result (TurnsAs (λ f. after_reduction number) self.old self.new) }
+        requires within { HasLate late self.old.store.held }
+        ensures ok { OnOk result (LateAs late (λ f. settle_charged_late late number) self.old self.new) }
         ensures since { (b : Machine) → Since b self.old → StillSince result b self.new }
     {
         self.end_lives(number, &mut scan.ending)?;
         let ending = scan.ending.as_slice();
         self.find_reached(number, ending, &mut scan.reached)?;
-        self.report_each(scan.reached.as_slice(), BuiltIn::Exhausted)?;
-        self.finish_each(ending)
+        self.report_each(scan.reached.as_slice(), late, BuiltIn::Exhausted)?;
+        self.finish_each(ending, late)
     }
 }

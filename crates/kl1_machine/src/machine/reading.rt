@@ -32,6 +32,6 @@ impl Machine {
     {
         self.hear(scan, monitor, number, control)?;
         self.end_lives(number, &mut scan.ending)?;
-        self.finish_each(scan.ending.as_slice())
+        self.finish_each(scan.ending.as_slice(), None)
     }
 }

@@ -53,7 +53,7 @@ impl Machine {
         match self.use_name(made, trial) {
             Named::Becomes(variable) => {
                 // Nothing may be bound after it: what comes after the move comes first.
-                self.end_path_late(scan, goal.shoen, variable)?;
+                self.end_path(scan, goal.shoen, Some(variable))?;
                 self.bind_spare(variable)
             }
             Named::Does(found) => {
@@ -61,7 +61,7 @@ impl Machine {
                 if self.is_calm(goal.shoen) {
                     return Ok(());
                 }
-                self.end_path(scan, goal.shoen)
+                self.end_path(scan, goal.shoen, None)
             }
         }
     }

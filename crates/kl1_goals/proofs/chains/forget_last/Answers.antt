@@ -1,25 +1,24 @@
-use Rattle.std.proofs.Common.{◌<◌, length, sym, arith}
-use Rattle.std.proofs.lemmas.List.{length-map}
+use Rattle.std.proofs.Common.{◌<◌, ◌≤◌, length, refl, sym, arith}
 use Rattle.kl1_goals.specs.Tallies.{HasChanged}
 use Rattle.kl1_goals.specs.Chains.{shoen_in}
 use Rattle.kl1_goals.proofs.Changing.{field_read}
-use Rattle.kl1_goals.proofs.Linking.{known_at, counts_counts, counts_exchanged, linked}
+use Rattle.kl1_goals.proofs.Linking.{counts_counts, counts_exchanged, linked}
 use Rattle.kl1_goals.proofs.Chaining.{forget_next, forget_end}
+use Rattle.kl1_goals.proofs.Shaping.{read_known}
 use Rattle.kl1_goals.proofs.chains.forget_last.Goals as goal
+use Rattle.kl1_goals.proofs.chains.forget_last.Goals.{After-index}
+
+-- the shoen of the place is known
+known : (g : _) (c : goal.After-index g) → (0 < c.index.result.now.goal.shoen) × (c.index.result.now.goal.shoen ≤ length c.args.tallies.now.items)
+known g c =
+    let ss = c.args.slots.now.items in
+    read_known ss ss (length c.args.tallies.now.items) c.loop-place.place c.index.result.now c.requires.known refl (omega arith) c.index.ensures
 
 pub exchange_last-requires-clause-low : goal.exchange_last-requires-clause-low
-exchange_last-requires-clause-low g c =
-    let ss = c.args.slots.now.items in
-    let k = c.loop-place.place in
-    let within : k < length ss = omega arith in
-    omega (arith, (known_at (length c.args.tallies.now.items) _ k c.requires.known (omega (arith, within, length-map ss (shoen_in {N = g.row.N.Denot})))).0, field_read shoen_in ss k c.index.result.now within c.index.ensures)
+exchange_last-requires-clause-low g c = (known g (goal.at.exchange_last-requires-clause-low g c).After-index).0
 
 pub exchange_last-requires-clause-high : goal.exchange_last-requires-clause-high
-exchange_last-requires-clause-high g c =
-    let ss = c.args.slots.now.items in
-    let k = c.loop-place.place in
-    let within : k < length ss = omega arith in
-    omega (arith, (known_at (length c.args.tallies.now.items) _ k c.requires.known (omega (arith, within, length-map ss (shoen_in {N = g.row.N.Denot})))).1, field_read shoen_in ss k c.index.result.now within c.index.ensures, c.loop-place.invariant.counts.length)
+exchange_last-requires-clause-high g c = omega (arith, (known g (goal.at.exchange_last-requires-clause-high g c).After-index).1, c.loop-place.invariant.counts.length)
 
 pub returns-clause-last : goal.returns-clause-last
 returns-clause-last g c = λ n.

@@ -3,7 +3,8 @@ use Rattle.std.proofs.lemmas.List.{length-map, take_more_set}
 use Rattle.kl1_goals.specs.Tallies.{HasChanged}
 use Rattle.kl1_goals.specs.Chains.{unlinked_in}
 use Rattle.kl1_goals.proofs.Linking.{linked, chained_next, counts_counts, counts_exchanged}
-use Rattle.kl1_goals.proofs.Chaining.{relinked, changed_set, changed_same, read_known}
+use Rattle.kl1_goals.proofs.Chaining.{changed_set, changed_same}
+use Rattle.kl1_goals.proofs.Shaping.{relinked, read_known}
 use Rattle.kl1_goals.proofs.chains.link_all.Goals as goal
 
 pub exchange_last-slot-requires-clause-low : goal.exchange_last-slot-requires-clause-low

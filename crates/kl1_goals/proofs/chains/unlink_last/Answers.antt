@@ -1,9 +1,8 @@
-use Rattle.std.proofs.Common.{◌≡◌, ◌-◌, ◌+◌, ◌<◌, ◌==◌, cond, length, sym, ap, ◌∙◌, arith}
-use Rattle.std.proofs.lemmas.List.{length-map}
+use Rattle.std.proofs.Common.{◌≡◌, ◌-◌, ◌+◌, ◌<◌, ◌==◌, cond, length, refl, sym, ap, ◌∙◌, arith}
 use Rattle.kl1_goals.specs.Tallies.{tally_at, left}
 use Rattle.kl1_goals.specs.Chains.{shoen_in, before_in}
 use Rattle.kl1_goals.proofs.Changing.{field_read}
-use Rattle.kl1_goals.proofs.Linking.{known_at}
+use Rattle.kl1_goals.proofs.Shaping.{read_known}
 use Rattle.kl1_goals.proofs.Chaining.{chained_left, counts_left}
 use Rattle.kl1_goals.proofs.chains.unlink_last.Goals as goal
 
@@ -12,14 +11,14 @@ unlink-requires-clause-low g c =
     let ss = c.args.slots.now.items in
     let k = c.len-count.result - 1 in
     let within : k < length ss = omega (arith, c.len-count.ensures, c.args.slots.now.ok.0, c.requires.some) in
-    omega (arith, (known_at (length c.args.tallies.now.items) _ k c.requires.chained.known (omega (arith, within, length-map ss (shoen_in {N = g.row.N.Denot})))).0, field_read shoen_in ss k c.index-slot.result.now within c.index-slot.ensures)
+    (read_known ss ss (length c.args.tallies.now.items) k c.index-slot.result.now c.requires.chained.known refl within c.index-slot.ensures).0
 
 pub unlink-requires-clause-high : goal.unlink-requires-clause-high
 unlink-requires-clause-high g c =
     let ss = c.args.slots.now.items in
     let k = c.len-count.result - 1 in
     let within : k < length ss = omega (arith, c.len-count.ensures, c.args.slots.now.ok.0, c.requires.some) in
-    omega (arith, (known_at (length c.args.tallies.now.items) _ k c.requires.chained.known (omega (arith, within, length-map ss (shoen_in {N = g.row.N.Denot})))).1, field_read shoen_in ss k c.index-slot.result.now within c.index-slot.ensures)
+    (read_known ss ss (length c.args.tallies.now.items) k c.index-slot.result.now c.requires.chained.known refl within c.index-slot.ensures).1
 
 pub returns-clause-chained : goal.returns-clause-chained
 returns-clause-chained g c =

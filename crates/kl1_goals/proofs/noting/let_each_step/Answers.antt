@@ -3,7 +3,8 @@ use Rattle.kl1_goals.specs.declared.begun.Begun.{Begun}
 use Rattle.kl1_goals.specs.Keeping.{places_then}
 use Rattle.kl1_goals.specs.Chains.{before_in, before_at}
 use Rattle.kl1_goals.proofs.Changing.{field_read}
-use Rattle.kl1_goals.proofs.Chaining.{let_first, let_next, let_last, linked_here, settled_at, relinked_low, relinked_ranks, settled, changed_set}
+use Rattle.kl1_goals.proofs.Chaining.{let_first, let_next, let_last, linked_here, settled, changed_set}
+use Rattle.kl1_goals.proofs.Shaping.{settled_at, relinked_low, relinked_ranks}
 use Rattle.kl1_goals.proofs.noting.let_each_step.Goals as goal
 
 pub loop-link-init : goal.loop-link-init

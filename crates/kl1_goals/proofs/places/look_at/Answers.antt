@@ -2,7 +2,8 @@ use Rattle.std.proofs.Common.{refl, sym}
 use Rattle.kl1_goals.specs.Slots.{looked_in, rank_in}
 use Rattle.kl1_goals.specs.Chains.{shape_in, before_in}
 use Rattle.kl1_goals.proofs.Changing.{field_kept}
-use Rattle.kl1_goals.proofs.Chaining.{changed_set, slots_shaped}
+use Rattle.kl1_goals.proofs.Chaining.{changed_set}
+use Rattle.kl1_goals.proofs.Shaping.{slots_shaped}
 use Rattle.kl1_goals.proofs.Flagging.{ranks_set, priority_at}
 use Rattle.kl1_goals.proofs.places.look_at.Goals as goal
 

@@ -1,6 +1,5 @@
 use Rattle.kl1_ready.proofs.Words.{IfOk-weaker}
-use Rattle.kl1_ready.proofs.Serving.{serves_has}
-use Rattle.kl1_ready.proofs.Ready.{ready_goal}
+use Rattle.kl1_ready.proofs.Ready.{ready_goal, serves_has}
 use Rattle.kl1_ready.proofs.clauses.clause_of_goal.Goals as goal
 
 pub returns-clause-ready : goal.returns-clause-ready

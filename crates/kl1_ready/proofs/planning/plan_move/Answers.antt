@@ -1,9 +1,6 @@
-use Rattle.kl1_ready.proofs.Words.{sym, ap, ◌∙◌, subst, option_map, moves, move_by, is_monitor_task, MovesAs, taken_places, contents, aim, kind_at}
+use Rattle.kl1_ready.proofs.Words.{ap, ◌∙◌, subst, option_map, moves, move_by, is_monitor_task, MovesAs, taken_places, contents, aim, kind_at}
 use Rattle.kl1_ready.proofs.Plans.{goal_does, move_found}
 use Rattle.kl1_ready.proofs.planning.plan_move.Goals as goal
-
-pub kind_of_qualified-kind-requires : goal.kind_of_qualified-kind-requires
-kind_of_qualified-kind-requires g c = c.requires.cell
 
 pub returns-in_default : goal.returns-in_default
 returns-in_default g c w rules f knows s is =

@@ -1,5 +1,4 @@
-use Rattle.kl1_ready.proofs.Words.{subst, Option, MatchOption, IfOk-weaker, CellName, Task, taken_places, IsTaskIn, Made, Plan, IsPlan, DoesNothing}
-use Rattle.std.specs.Prelude.{◌≡◌}
+use Rattle.kl1_ready.proofs.Words.{subst, IfOk-weaker, taken_places, IsTaskIn}
 use Rattle.kl1_ready.proofs.planning.plan_of.Goals as goal
 
 pub returns-in-Monitor : goal.returns-in-Monitor

@@ -2,9 +2,6 @@ use Rattle.kl1_ready.proofs.Words.{ap, ◌∙◌, subst, option_map, moves, is_m
 use Rattle.kl1_ready.proofs.Plans.{substitute_does, substitute_moves, inside_by, move_found}
 use Rattle.kl1_ready.proofs.planning.plan_substitute.Goals as goal
 
-pub substitute_move-requires : goal.substitute_move-requires
-substitute_move-requires g c = c.requires.cell
-
 pub returns-in_default : goal.returns-in_default
 returns-in_default g c w places text f knows s is =
     let t = meaning f c.args.store.now.held c.args.term in

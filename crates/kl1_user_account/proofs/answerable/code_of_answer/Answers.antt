@@ -1,20 +1,20 @@
-use Rattle.kl1_user_account.proofs.Words.{◌≡◌, ◌&&◌, true, [], sym, ap, ap₂, ◌∙◌, refl, Option, Some, None, Term, may_answer, answer_by, State, has_substitutes, names_of, with_names, Transition, unless, Refusal, with_kept, origin_in, refusals_of, refused_or, has_room_to_answer_beside}
-use Rattle.kl1_user_account.proofs.AnswerSteps.{IsJudged, refused_wrong, refused_nowhere, refused_ended, answer_steps, answerable}
-use Rattle.kl1_user_account.proofs.StartChecks.{right_report}
+use Rattle.kl1_user_account.proofs.Words.{◌≡◌, ◌&&◌, true, [], sym, ap, ap₂, ◌∙◌, refl, Option, Some, None, Term, may_answer, answer_by, State, has_substitutes, names_of, with_names, Transition, unless, Refusal, with_kept, origin_in, refusals_of, refused_or, has_room_to_answer_beside, false}
+use Rattle.kl1_user_account.proofs.AnswerSteps.{IsJudged, by_right, refused_nowhere, refused_ended, answer_steps, answerable}
+use Rattle.kl1_user_account.proofs.StartChecks.{may_answer_is}
 use Rattle.kl1_user_account.proofs.answerable.code_of_answer.Goals.{After-origin_at, After-refusal_of}
 use Rattle.kl1_user_account.proofs.answerable.code_of_answer.Goals as goal
 
 pub returns-then-not-has_substitutes : goal.returns-then-not-has_substitutes
-returns-then-not-has_substitutes c =
+returns-then-not-has_substitutes c = λ f reads s goals same at.
     let m = c.args.machine.now in
-    refused_wrong m.rules m.store.held m.shoens.shoens m.names.names c.args.counted c.args.number c.args.report c.args.goal.now
-    (ap (λ b. b && may_answer c.args.number c.args.report c.args.goal.now) (sym c.has_substitutes.ensures ∙ c.if-not-has_substitutes.true))
+    by_right m.rules m.store.held m.shoens.shoens m.names.names c.args.counted c.args.number c.args.report c.args.goal.now false
+    (ap (λ b. b && may_answer c.args.number c.args.report c.args.goal.now) (sym c.has_substitutes.ensures ∙ c.if-not-has_substitutes.true)) f s goals same
 
 pub returns-then-not-branch : goal.returns-then-not-branch
-returns-then-not-branch c =
+returns-then-not-branch c = λ f reads s goals same at.
     let m = c.args.machine.now in
-    refused_wrong m.rules m.store.held m.shoens.shoens m.names.names c.args.counted c.args.number c.args.report c.args.goal.now
-    (ap₂ (λ x y. x && y) (sym c.has_substitutes.ensures ∙ c.if-not-has_substitutes.false) (sym c.in_ok-may_answer.ensures ∙ c.if-not-branch.true))
+    by_right m.rules m.store.held m.shoens.shoens m.names.names c.args.counted c.args.number c.args.report c.args.goal.now false
+    (ap₂ (λ x y. x && y) (sym c.has_substitutes.ensures ∙ c.if-not-has_substitutes.false) (sym c.in_ok-may_answer.ensures ∙ c.if-not-branch.true)) f s goals same
 
 -- an answer that is right
 right : (c : goal.After-origin_at) → (has_substitutes c.args.machine.now.rules && may_answer c.args.number c.args.report c.args.goal.now) ≡ true
@@ -54,7 +54,7 @@ unanswered_at-requires-clause-reports c =
     (origin_in m.store.held c.args.number m.shoens.shoens c.in-Some.origin c.requires.shoens (sym c.origin_at.ensures ∙ c.in-Some.is)).reports
 
 pub unanswered_at-requires-clause-report : goal.unanswered_at-requires-clause-report
-unanswered_at-requires-clause-report c = right_report c.args.number c.args.report c.args.goal.now (sym c.in_ok-may_answer.ensures ∙ c.if-not-branch.false)
+unanswered_at-requires-clause-report c = (may_answer_is c.args.number c.args.report c.args.goal.now (sym c.in_ok-may_answer.ensures ∙ c.if-not-branch.false)).2
 
 pub returns-in-None : goal.returns-in-None
 returns-in-None c = λ f reads s goals same at.

@@ -1,9 +1,9 @@
 use Rattle.kl1_user_account.proofs.Words.{◌++◌, ◌∷◌, List, [], sym, ap, ◌∙◌, subst, IfOk-weaker, Colon, with_node, text_of, CellName, Known, Cell, Atom, Fits, Structure, node_with, stacked_terms}
-use Rattle.kl1_user_account.proofs.Called.{colon_named, called_printed}
+use Rattle.kl1_user_account.proofs.Called.{called_printed}
 use Rattle.kl1_user_account.proofs.printing.print_called.Goals as goal
 
 pub put_structure-requires-clause-named : goal.put_structure-requires-clause-named
-put_structure-requires-clause-named g c = λ f k a b. colon_named c.of.result (g.A.AtomSource.knows c.args.seat.now) f k c.of.ensures a b
+put_structure-requires-clause-named g c = λ f k a b. ap f c.of.ensures ∙ a.reads.texts Colon ∙ sym (b.reads.texts Colon) ∙ sym (ap k c.of.ensures)
 
 pub returns-clause-text : goal.returns-clause-text
 returns-clause-text g c =

@@ -1,19 +1,17 @@
-use Rattle.kl1_user_account.proofs.Words.{◌∙◌, ap, on_ok_weaker, node_with}
-use Rattle.kl1_user_account.proofs.Prints.{cell_printed}
-use Rattle.kl1_user_account.proofs.Stacks.{same_atom_node, same_structure_node}
+use Rattle.kl1_user_account.proofs.Words.{◌∙◌, ap, on_ok_weaker, node_with, sym, Node, text_of, with_node}
 use Rattle.kl1_user_account.proofs.printing.put_top.Goals as goal
 
 pub put_atom-requires-clause-named : goal.put_atom-requires-clause-named
 put_atom-requires-clause-named g c =
-    λ f k a b. same_atom_node (f c.in-Atom.name) (k c.in-Atom.name) (rw c.in-Atom.is at (c.requires.named f k a b))
+    λ f k a b. let same = rw c.in-Atom.is at (c.requires.named f k a b) in cc
 
 pub put_structure-requires-clause-named : goal.put_structure-requires-clause-named
 put_structure-requires-clause-named g c =
-    λ f k a b. same_structure_node (f c.in-Structure.name) (k c.in-Structure.name) c.in-Structure.count (rw c.in-Structure.is at (c.requires.named f k a b))
+    λ f k a b. let same = rw c.in-Structure.is at (c.requires.named f k a b) in cc
 
 pub returns-then-is_list_cell-clause-text : goal.returns-then-is_list_cell-clause-text
 returns-then-is_list_cell-clause-text g c =
     let ks = g.A.AtomSource.knows c.args.seat.now in
     on_ok_weaker c.put_cell.result (λ printed. λ f fits ts.
-    cell_printed (node_with f c.args.top) c.args.printer.now c.put_cell.new.self ts
-    (ap (node_with f) c.in-Structure.is ∙ c.is_list_cell.ensures.node c.if-is_list_cell.true ks f fits) (printed ts)) c.put_cell.ensures.text
+    let is = ap (node_with f) c.in-Structure.is ∙ c.is_list_cell.ensures.node c.if-is_list_cell.true ks f fits in
+    printed ts ∙ sym (ap (λ (n : Node). text_of c.args.printer.now (with_node n ts)) is)) c.put_cell.ensures.text

@@ -1,7 +1,8 @@
 use Rattle.kl1_user_account.proofs.Words.{rules, ◌≡◌, subst, w64, sym, ap, refl, ◌∙◌, arith, variable, integer, atom, term_of-Integer, term_of-Atom, term_of-unbound, meaning, IsNext}
 use Rattle.kl1_term.specs.declared.node.Node.TheVariants as node
 use Rattle.kl1_user_account.specs.declared.top.Top.TheVariants as top
-use Rattle.kl1_user_account.proofs.Stacks.{plain_next, same_atom, next_structure}
+use Rattle.kl1_user_effects.proofs.NameReadings.{same_text}
+use Rattle.kl1_user_account.proofs.Stacks.{plain_next, next_structure}
 use Rattle.kl1_user_account.proofs.printing.top_of.Goals as goal
 
 pub returns-in-Variable : goal.returns-in-Variable
@@ -27,7 +28,7 @@ returns-in-Atom c =
     let h = c.args.store.now.held in
     let a = c.in-Atom.name in
     plain_next h c.args.cell (top.Atom a) (λ f. atom (f a)) c.args.stack.now.items c.requires.stack (λ f. sym (c.walk.ensures.means f) ∙ ap (meaning f h) c.in-Atom.is ∙ term_of-Atom f h a)
-    refl (λ f ts. refl) (λ f. omega arith) (λ f g e. ap (λ u. node.Atom u) (same_atom (f a) (g a) e))
+    refl (λ f ts. refl) (λ f. omega arith) (λ f g e. ap (λ u. node.Atom u) (same_text (f a) (g a) e))
 
 pub returns-in_ok-put_arguments-in-Structure : goal.returns-in_ok-put_arguments-in-Structure
 returns-in_ok-put_arguments-in-Structure c =

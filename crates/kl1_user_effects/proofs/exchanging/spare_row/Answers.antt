@@ -1,5 +1,5 @@
 use Rattle.kl1_user_effects.proofs.Words.{ℕ, ◌+◌, List, take, sym, ap, ◌∙◌, subst, take_all, CellName, IsSpared, AreSpared}
-use Rattle.kl1_user_effects.proofs.Exchanges.{spared_next}
+use Rattle.kl1_user_effects.proofs.Swapping.{spared_next}
 use Rattle.kl1_user_effects.proofs.exchanging.spare_row.Goals as goal
 
 pub loop-text-preserved : goal.loop-text-preserved

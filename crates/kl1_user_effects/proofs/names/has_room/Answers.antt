@@ -1,4 +1,4 @@
-use Rattle.kl1_user_effects.proofs.Calling.{room_known, room_new}
+use Rattle.kl1_user_effects.proofs.KnownTexts.{room_known, room_new}
 use Rattle.kl1_user_effects.proofs.names.has_room.Goals as goal
 
 pub returns-in-Some : goal.returns-in-Some

@@ -1,8 +1,7 @@
 use Rattle.kl1_user_effects.proofs.Words.{List, ℕ, ◌+◌, ◌++◌, ◌∷◌, [], length, sym, ap, ◌∙◌, subst, arith, take, length_push, take_all, CellName, Known, HasRoom, Adds, still_known, with_text, texts_of, AreSmall, AreNumbersOf}
 use Rattle.std.proofs.Common.{Some}
 use Rattle.kl1_user_effects.proofs.KnownTexts.{texts_added, next_take, next_text}
-use Rattle.kl1_user_effects.proofs.NumberRows.{fits_less}
-use Rattle.kl1_user_effects.proofs.Publishing.{published_none, numbered_more, small_more, has_room, keeps_same, keeps_then, adds_to}
+use Rattle.kl1_user_effects.proofs.Publishing.{published_none, fits_less, numbered_more, small_more, has_room, keeps_same, keeps_then, adds_to}
 use Rattle.kl1_user_effects.proofs.names.publish.Goals as goal
 
 pub loop-text-init : goal.loop-text-init

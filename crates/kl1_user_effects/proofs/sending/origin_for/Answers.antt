@@ -1,5 +1,5 @@
-use Rattle.kl1_user_effects.proofs.Words.{◌≡◌, true, ◌+◌, ◌<◌, ◌≤◌, sym, ◌∙◌, arith, leb-true, leb-false, message_nodes, lives_in}
-use Rattle.kl1_user_effects.proofs.Messages.{used, IsAimed, HasRoom, sends_none, sends_ended, sends_crowded, sends_limited, sends_full, sends_allowed}
+use Rattle.kl1_user_effects.proofs.Words.{◌+◌, sym, ◌∙◌, arith, leb-true, leb-false}
+use Rattle.kl1_user_effects.proofs.Messages.{used, IsAimed, sends_none, sends_ended, sends_crowded, sends_limited, sends_full, sends_allowed}
 use Rattle.kl1_user_effects.proofs.sending.origin_for.Goals as goal
 use Rattle.kl1_user_effects.proofs.sending.origin_for.Goals.{In-Some}
 
@@ -21,16 +21,12 @@ returns-then-not-is_within c =
     let a = leb-false (c.args.nodes + c.nodes_of.result) c.args.most.nodes (sym c.is_within.ensures ∙ c.if-not-is_within.true) in
     sends_limited (aimed (goal.at.returns-then-not-is_within c).In-Some) (sym c.lives.ensures ∙ c.if-not-lives.false) (omega (arith, c.if-most-variables.false)) (omega (arith, a, c.nodes_of.ensures.value))
 
-has_room : (c : In-Some) → lives_in c.args.shoens.now.shoens c.args.number ≡ true → c.args.variables < c.args.most.variables → c.args.nodes + message_nodes c.args.message ≤ c.args.most.nodes →
-    HasRoom c.args.shoens.now.shoens (used c.args.most c.args.variables c.args.nodes c.args.entries) c.args.number c.args.message c.in-Some.origin
-has_room c lives variables nodes = record { aimed = aimed c; lives = lives; variables = variables; nodes = nodes }
-
 pub returns-then-most-entries : goal.returns-then-most-entries
 returns-then-most-entries c =
     let a = leb-true (c.args.nodes + c.nodes_of.result) c.args.most.nodes (sym c.is_within.ensures ∙ c.if-not-is_within.false) in
-    sends_full (has_room (goal.at.returns-then-most-entries c).In-Some (sym c.lives.ensures ∙ c.if-not-lives.false) (omega (arith, c.if-most-variables.false)) (omega (arith, a, c.nodes_of.ensures.value))) c.if-most-entries.true
+    sends_full (aimed (goal.at.returns-then-most-entries c).In-Some) (sym c.lives.ensures ∙ c.if-not-lives.false) (omega (arith, c.if-most-variables.false)) (omega (arith, a, c.nodes_of.ensures.value)) c.if-most-entries.true
 
 pub returns : goal.returns
 returns c =
     let a = leb-true (c.args.nodes + c.nodes_of.result) c.args.most.nodes (sym c.is_within.ensures ∙ c.if-not-is_within.false) in
-    sends_allowed (has_room (goal.at.returns c).In-Some (sym c.lives.ensures ∙ c.if-not-lives.false) (omega (arith, c.if-most-variables.false)) (omega (arith, a, c.nodes_of.ensures.value))) (omega (arith, c.if-most-entries.false))
+    sends_allowed (aimed (goal.at.returns c).In-Some) (sym c.lives.ensures ∙ c.if-not-lives.false) (omega (arith, c.if-most-variables.false)) (omega (arith, a, c.nodes_of.ensures.value)) (omega (arith, c.if-most-entries.false))

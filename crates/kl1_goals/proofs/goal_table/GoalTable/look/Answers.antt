@@ -4,7 +4,7 @@ use Rattle.kl1_goals.specs.Lists.{looked_at}
 use Rattle.kl1_goals.specs.Slots.{goals_in, looked_in}
 use Rattle.kl1_goals.specs.Keeping.{parts}
 use Rattle.kl1_goals.proofs.Changing.{goals_changed}
-use Rattle.kl1_goals.proofs.Chaining.{linked_shaped}
+use Rattle.kl1_goals.proofs.Shaping.{linked_shaped}
 use Rattle.kl1_goals.proofs.Tabling.{missing_stay, looked_here, looked_other}
 use Rattle.kl1_goals.proofs.Restoring.{HasNoted, moved_tables, noted_slots, noted_view}
 use Rattle.kl1_goals.proofs.Walking.{shaped_table, length_shaped}

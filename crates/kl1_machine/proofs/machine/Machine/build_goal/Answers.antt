@@ -1,5 +1,4 @@
-use Rattle.kl1_machine.proofs.Words.{◌-◌, ℕ, List, [], length, sym, ap, ◌∙◌, arith, subst, names_of, with_names, CellName, Cell, Held, Grown, with_variables, goal_variables, AreGoalVariables, goal_row_below, built}
-use Rattle.kl1_match.specs.GoalCells.{BuildsGoal}
+use Rattle.kl1_machine.proofs.Words.{[], length, ap, ◌∙◌, arith, names_of, with_names, CellName, Held, with_variables, goal_variables, goal_row_below}
 use Rattle.kl1_machine.proofs.Sincing.{still, since_store, since_counts}
 use Rattle.kl1_machine.proofs.Starting.{IsPut, built_goal}
 use Rattle.kl1_machine.proofs.machine.Machine.build_goal.Goals as goal
@@ -28,10 +27,6 @@ returns-clause-ok c =
     let v = c.in_ok-put_goal_variables.ensures in
     let r = c.in_ok-reserve_goal.ensures in
     let b = c.put_goal-cell.ensures in
-    let W : List (Cell CellName) → Type 0 = λ xs. BuildsGoal built c.args.numbers.now row xs c.reserve_goal.new.store.held k.held x in
-    let H : Held CellName → Type 0 = λ z. BuildsGoal built c.args.numbers.now row cells z k.held x in
-    let G : Held CellName → Type 0 = λ z. Grown z k.held in
-    let V : ℕ → Type 0 = λ n. AreGoalVariables one (h.variables - 1) n cells in
     let put : IsPut c.args.code.now c.args.numbers.now row c.args.self.now one k cells x =
     record {
       machine = c.requires.machine;
@@ -39,10 +34,10 @@ returns-clause-ok c =
       row_is = c.row-row.ensures;
       one_is = v.held ∙ ap (with_variables h) c.requires.variables;
       first = v.grown;
-      variables = subst V c.requires.variables v.variables;
-      more = subst G r.same b.grown;
+      variables = rw c.requires.variables at v.variables;
+      more = rw r.same at b.grown;
       bindings = b.bindings ∙ ap (λ (z : Held CellName). z.bindings) r.same;
-      builds = subst H r.same (subst W r.scratch b.goal);
+      builds = rw (r.scratch, r.same) at b.goal;
       hooks = b.hooks ∙ r.hooks ∙ v.hooks;
     } in
     built_goal _ _ _ c.args.self.now _ k _ x put _ _
@@ -65,5 +60,4 @@ pub returns-in_err-reserve_goal-clause-since : goal.returns-in_err-reserve_goal-
 returns-in_err-reserve_goal-clause-since c b s =
     let m = c.args.self.now in
     let v = c.in_ok-put_goal_variables.ensures in
-    let G : Held CellName → Type 0 = λ z. Grown m.store.held z in
-    still c.from_residual-in_err-reserve_goal.result b _ (since_store b m c.reserve_goal.new.store (record { grown = subst G (sym c.reserve_goal.ensures.same) v.grown; hooks = c.reserve_goal.ensures.hooks ∙ v.hooks }) s)
+    still c.from_residual-in_err-reserve_goal.result b _ (since_store b m c.reserve_goal.new.store (record { grown = rw c.reserve_goal.ensures.same v.grown; hooks = c.reserve_goal.ensures.hooks ∙ v.hooks }) s)

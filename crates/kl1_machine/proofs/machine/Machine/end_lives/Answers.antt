@@ -1,10 +1,10 @@
-use Rattle.kl1_machine.proofs.Words.{arith}
-use Rattle.kl1_machine.proofs.Ending.{first_walked, next_walked, last_walked}
+use Rattle.kl1_machine.proofs.Words.{arith, refl, first_end}
+use Rattle.kl1_machine.proofs.Ending.{next_walked, last_walked}
 use Rattle.kl1_machine.proofs.machine.Machine.end_lives.Goals as goal
 
 pub loop-at-init : goal.loop-at-init
 loop-at-init c = record {
-  walked = first_walked c.args.self.now c.args.number c.clear.new.self.items c.requires.machine c.clear.ensures.items;
+  walked = record { ends = first_end c.args.self.now.goals.goals c.args.self.now.shoens c.args.number c.clear.new.self.items c.clear.ensures.items; rest = refl; machine = c.requires.machine };
   since = λ b s. s;
 }
 

@@ -1,6 +1,6 @@
 use Rattle.kl1_machine.proofs.Words.{on_ok_weaker}
 use Rattle.kl1_machine.proofs.Ending.{as_none, unmonitored}
-use Rattle.kl1_machine.proofs.Hearing.{told, told_other, broken_off, still_in, still_left}
+use Rattle.kl1_machine.proofs.Hearing.{same_held, told, told_other, broken_off}
 use Rattle.kl1_machine.proofs.machine.Machine.hear.Goals as goal
 
 pub returns-in-Awaits-clause-ok : goal.returns-in-Awaits-clause-ok
@@ -20,7 +20,7 @@ pub raise_whole-requires : goal.raise_whole-requires
 raise_whole-requires c =
     let b = c.in_ok-set_control-in-TellsOther.ensures.ok in
     let j = rw c.in-TellsOther.is at c.requires.control in
-    record { machine = b.machine; goal = still_in c.args.self.now c.set_control-in-TellsOther.new.self c.args.number c.in-TellsOther.rest c.in-TellsOther.element b j.0 }
+    record { machine = b.machine; goal = rw (same_held c.args.number c.in-TellsOther.rest c.args.self.now c.set_control-in-TellsOther.new.self b) j.0 }
 
 pub returns-in_ok-set_control-in-TellsOther-clause-ok : goal.returns-in_ok-set_control-in-TellsOther-clause-ok
 returns-in_ok-set_control-in-TellsOther-clause-ok c =
@@ -32,7 +32,7 @@ returns-in-Ends-clause-ok c = rw c.in-Ends.is (on_ok_weaker c.remove_monitor.res
 pub raise_whole-requires-in-BreaksOff : goal.raise_whole-requires-in-BreaksOff
 raise_whole-requires-in-BreaksOff c =
     let b = c.in_ok-remove_monitor-in-BreaksOff.ensures.ok in
-    record { machine = b.machine; goal = still_left c.args.self.now c.remove_monitor-in-BreaksOff.new.self c.args.number c.in-BreaksOff.term b (rw c.in-BreaksOff.is at c.requires.control) }
+    record { machine = b.machine; goal = rw b.is (rw c.in-BreaksOff.is at c.requires.control) }
 
 pub returns-in_ok-remove_monitor-in-BreaksOff-clause-ok : goal.returns-in_ok-remove_monitor-in-BreaksOff-clause-ok
 returns-in_ok-remove_monitor-in-BreaksOff-clause-ok c =

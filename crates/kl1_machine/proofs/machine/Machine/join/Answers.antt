@@ -1,5 +1,5 @@
-use Rattle.kl1_machine.proofs.Words.{◌≡◌, length, sym, ap, ◌∙◌, arith, subst, on_ok_weaker, CellName, IsIn, Kept, Tree, Machine}
-use Rattle.kl1_machine.proofs.Opening.{one_more, no_monitor_yet, put_beside, joined}
+use Rattle.kl1_machine.proofs.Words.{◌≡◌, length, ap, ◌∙◌, arith, list_any, is_monitor_of, on_ok_weaker, Machine}
+use Rattle.kl1_machine.proofs.Opening.{one_more, no_monitor, joined}
 use Rattle.kl1_machine.proofs.PlainStays.{joined_plain}
 use Rattle.kl1_machine.proofs.machine.Machine.join.Goals as goal
 
@@ -10,19 +10,20 @@ put-requires-clause-shoen c =
     record { low = omega (arith, number); high = omega (arith, number, count) }
 
 pub put-requires-clause-monitor : goal.put-requires-clause-monitor
-put-requires-clause-monitor c = λ e. no_monitor_yet c.args.shoen _ c.args.self.now c.open.new.self c.requires.machine c.requires.number c.in_ok-open.ensures.ok
+put-requires-clause-monitor c = λ e.
+    let n = c.args.shoen.number in
+    let m = c.args.self.now in
+    let number = c.requires.number in
+    ap (λ (y : Machine). list_any (is_monitor_of n) y.goals.goals) c.in_ok-open.ensures.ok.is ∙ no_monitor (length m.shoens.shoens) n m.goals.goals (omega (arith, number)) c.requires.machine.inside.owned
 
 pub put-requires-2-clause-task : goal.put-requires-2-clause-task
-put-requires-2-clause-task c =
-    let store = (put_beside c.args.shoen.number _ _ c.open.new.self c.put.new.self c.in_ok-put.ensures.ok).0 ∙ ap (λ (y : Machine). y.store) c.in_ok-open.ensures.ok.is in
-    let P : Kept CellName → Type 0 = λ k. IsIn k.held c.args.goal in
-    subst P (sym store) c.requires.goal
+put-requires-2-clause-task c = rw (c.in_ok-put.ensures.ok.is, c.in_ok-open.ensures.ok.is) c.requires.goal
 
 pub put-requires-2-clause-shoen : goal.put-requires-2-clause-shoen
 put-requires-2-clause-shoen c =
     let number = c.requires.number in
     let count = one_more c.args.shoen _ c.args.self.now c.open.new.self c.in_ok-open.ensures.ok in
-    let same : length c.put.new.self.shoens.shoens ≡ length c.open.new.self.shoens.shoens = ap (λ (t : Tree CellName). length t.shoens) (put_beside c.args.shoen.number _ _ c.open.new.self c.put.new.self c.in_ok-put.ensures.ok).1 in
+    let same : length c.put.new.self.shoens.shoens ≡ length c.open.new.self.shoens.shoens = ap (λ (y : Machine). length y.shoens.shoens) c.in_ok-put.ensures.ok.is in
     record { low = omega (arith, number); high = omega (arith, number, count, same) }
 
 pub put-requires-2-clause-monitor : goal.put-requires-2-clause-monitor

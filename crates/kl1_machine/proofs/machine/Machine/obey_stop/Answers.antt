@@ -1,5 +1,5 @@
-use Rattle.kl1_machine.proofs.Words.{refl, sym, ◌∙◌, Some, None, on_ok_weaker, stopped_of, is_stopped_already}
-use Rattle.kl1_machine.proofs.Hearing.{unmoved, stopped}
+use Rattle.kl1_machine.proofs.Words.{refl, sym, ◌∙◌, Some, None, on_ok_weaker, stopped_of, is_stopped_already, true, stopped_report}
+use Rattle.kl1_machine.proofs.Hearing.{unmoved, halts, goes_as}
 use Rattle.kl1_machine.proofs.machine.Machine.obey_stop.Goals as goal
 
 pub returns-in_default-clause-ok : goal.returns-in_default-clause-ok
@@ -12,5 +12,6 @@ returns-then-shoen-clause-ok c =
 pub returns-clause-ok : goal.returns-clause-ok
 returns-clause-ok c =
     on_ok_weaker c.report_name.result
-    (stopped c.args.self.now c.set_stopped.new.self c.report_name.new.self c.args.number c.in-Some.shoen c.requires.machine (sym c.lend.ensures.value ∙ (sym c.copied.ensures ∙ c.in-Some.is)) c.if-shoen.false c.in_ok-set_stopped.ensures.ok)
+    (goes_as (λ o. stopped_of o c.args.number) c.args.self.now c.set_stopped.new.self c.report_name.new.self c.args.number true stopped_report c.in-Some.shoen (sym c.lend.ensures.value ∙ (sym c.copied.ensures ∙ c.in-Some.is)) (λ t s. rw c.if-shoen.false)
+    (halts true c.args.self.now c.set_stopped.new.self c.args.number c.requires.machine c.in_ok-set_stopped.ensures.ok))
     c.report_name.ensures.ok

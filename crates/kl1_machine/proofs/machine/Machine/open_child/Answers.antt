@@ -1,4 +1,4 @@
-use Rattle.kl1_machine.proofs.Words.{◌≡◌, ◌≤◌, ℕ, suc, length, sym, ap, ◌∙◌, arith, subst, on_ok_weaker, MONITOR_PRIORITY, clipped, CellName, Shoen, found_shoen_in, never_absent, clipped_low, child_of, one_order}
+use Rattle.kl1_machine.proofs.Words.{◌≡◌, ℕ, suc, length, sym, ap, ◌∙◌, arith, on_ok_weaker, clipped, CellName, Shoen, found_shoen_in, never_absent, clipped_low, child_of, one_order}
 use Rattle.kl1_machine.proofs.Opening.{IsChild, child_refused, child_opened}
 use Rattle.kl1_machine.proofs.machine.Machine.open_child.Goals as goal
 
@@ -16,14 +16,13 @@ open_shoen-requires-clause-shoen c =
     let m = c.args.self.now in
     let parent = c.in-Some.parent in
     let found = found_shoen_in m.store.held c.args.goal.shoen m.shoens.shoens parent c.requires.machine.inside.shoens (sym c.lend.ensures.value ∙ (sym c.copied.ensures ∙ c.in-Some.is)) in
-    let L : ℕ → Type 0 = λ n. n ≤ MONITOR_PRIORITY in
     let inside = c.order_at-order.ensures.inside in
     record {
       control = inside.control_in;
       tail = inside.reports_in;
       origin = tt;
-      low = subst L (sym c.clipped_in.ensures) (clipped_low parent.low parent.high c.number_at-2.result found.low found.high);
-      high = subst L (sym c.clipped_in-2.ensures) (clipped_low parent.low parent.high c.number_at-3.result found.low found.high);
+      low = rw c.clipped_in.ensures (clipped_low parent.low parent.high c.number_at-2.result found.low found.high);
+      high = rw c.clipped_in-2.ensures (clipped_low parent.low parent.high c.number_at-3.result found.low found.high);
     }
 
 pub returns-then-not-may_open-clause-ok : goal.returns-then-not-may_open-clause-ok

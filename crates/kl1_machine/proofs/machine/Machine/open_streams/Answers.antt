@@ -1,7 +1,7 @@
-use Rattle.kl1_machine.proofs.Words.{sym, ◌∙◌, subst, CellName, Held, Grown}
+use Rattle.kl1_machine.proofs.Words.{◌∙◌, Grown, Grown-variable}
 use Rattle.kl1_machine.proofs.Sincing.{still, since_store}
 use Rattle.kl1_machine.proofs.Unifying.{same_grows}
-use Rattle.kl1_machine.proofs.Starting.{fresh_grows, streams_opened}
+use Rattle.kl1_machine.proofs.Starting.{streams_opened}
 use Rattle.kl1_machine.proofs.machine.Machine.open_streams.Goals as goal
 
 pub returns-clause-ok : goal.returns-clause-ok
@@ -19,6 +19,5 @@ returns-in_err-fresh-clause-since c b s = still c.from_residual.result b _ (sinc
 pub returns-in_err-fresh-2-clause-since : goal.returns-in_err-fresh-2-clause-since
 returns-in_err-fresh-2-clause-since c b s =
     let m = c.args.self.now in
-    let G : Held CellName → Type 0 = λ h. Grown m.store.held h in
-    let grown = subst G (sym c.in_err-fresh-2.ensures.err) (fresh_grows m.store.held c.fresh.new.self.held c.in_ok-fresh.ensures.ok.1) in
+    let grown : Grown m.store.held c.fresh-2.new.self.held = rw (c.in_err-fresh-2.ensures.err, c.in_ok-fresh.ensures.ok.1) (Grown-variable m.store.held) in
     still c.from_residual-in_err-fresh-2.result b _ (since_store b m c.fresh-2.new.self (record { grown = grown; hooks = c.fresh-2.ensures.hooks ∙ c.fresh.ensures.hooks }) s)

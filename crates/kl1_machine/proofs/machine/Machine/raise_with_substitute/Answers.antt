@@ -1,4 +1,4 @@
-use Rattle.kl1_machine.proofs.Words.{ℕ, Bool, ◌∙◌, arith, subst, on_ok_weaker, Variable, Grown-trans, Substitutes, asked, next_still, next_there, next_grown, Tells, Puts}
+use Rattle.kl1_machine.proofs.Words.{ℕ, ◌∙◌, arith, subst, on_ok_weaker, Variable, Grown-trans, Substitutes, asked, next_still, next_there, next_grown, Puts}
 use Rattle.kl1_machine.proofs.Keeping.{grown_machine}
 use Rattle.kl1_machine.proofs.Sincing.{since_same, since_store, since_back}
 use Rattle.kl1_machine.proofs.Raising.{Asks, asks_task, raised_asked, raised_unasked}
@@ -52,10 +52,9 @@ returns-then-branch-clause-ok c =
     let u = c.tell.new.self in
     let x = c.args.goal in
     let message = c.in_ok-message.message in
-    let T : Bool → Type 0 = λ b. Tells x.shoen message (record m { store = k }) u b in
     let P : ℕ → Type 0 = λ v. Puts x.shoen x.priority (Substitutes (Variable v)) u c.put.new.self in
     let a = asks (goal.at.returns-then-branch-clause-ok c).In_ok-message in
-    on_ok_weaker c.put.result (λ p. raised_asked m k x c.args.kind c.args.term message u c.put.new.self a (subst T c.if-branch.true c.in_ok-tell.ensures.ok) (subst P c.in_ok-fresh.ensures.ok.0 p)) c.put.ensures.ok
+    on_ok_weaker c.put.result (λ p. raised_asked m k x c.args.kind c.args.term message u c.put.new.self a (rw c.if-branch.true at c.in_ok-tell.ensures.ok) (subst P c.in_ok-fresh.ensures.ok.0 p)) c.put.ensures.ok
 
 -- ---- a report that isn't
 
@@ -66,20 +65,16 @@ back-requires c =
     let s = c.in_ok-tell.ensures.since m (since_store m m c.exception_with.new.store a.grows (since_same m)) in
     (m.store, (c.mark-mark.ensures.point, (c.mark-mark.ensures.formed, s.keeps.grown)))
 
-pub returns-clause-ok : goal.returns-clause-ok
-returns-clause-ok c =
+pub returns : goal.returns
+returns c =
     let m = c.args.self.now in
     let k = c.exception_with.new.store in
     let u = c.tell.new.self in
-    let message = c.in_ok-message.message in
-    let T : Bool → Type 0 = λ b. Tells c.args.goal.shoen message (record m { store = k }) u b in
-    let a = asks (goal.at.returns-clause-ok c).In_ok-message in
-    let s = c.in_ok-tell.ensures.since m (since_store m m k a.grows (since_same m)) in
-    raised_unasked m k c.args.goal c.args.kind c.args.term message u c.back.new.self a (subst T c.if-branch.false c.in_ok-tell.ensures.ok) (c.back.ensures.held m.store c.mark-mark.ensures.point s.keeps.grown) (c.back.ensures.hooks m.store c.mark-mark.ensures.point s.keeps.grown)
-
-pub returns-clause-since : goal.returns-clause-since
-returns-clause-since c b s =
-    let m = c.args.self.now in
-    let a = asks (goal.at.returns-clause-since c).In_ok-message in
-    let t = c.in_ok-tell.ensures.since m (since_store m m c.exception_with.new.store a.grows (since_same m)) in
-    since_back b m c.tell.new.self c.back.new.self (c.back.ensures.held m.store c.mark-mark.ensures.point t.keeps.grown) (c.back.ensures.hooks m.store c.mark-mark.ensures.point t.keeps.grown) s (c.in_ok-tell.ensures.since b (since_store b m c.exception_with.new.store a.grows s))
+    let a = asks (goal.at.returns c).In_ok-message in
+    let t = c.in_ok-tell.ensures.since m (since_store m m k a.grows (since_same m)) in
+    let held = c.back.ensures.held m.store c.mark-mark.ensures.point t.keeps.grown in
+    let hooks = c.back.ensures.hooks m.store c.mark-mark.ensures.point t.keeps.grown in
+    record {
+      ok = raised_unasked m k c.args.goal c.args.kind c.args.term c.in_ok-message.message u c.back.new.self a (rw c.if-branch.false at c.in_ok-tell.ensures.ok) held hooks;
+      since = λ b s. since_back b m u c.back.new.self held hooks s (c.in_ok-tell.ensures.since b (since_store b m k a.grows s));
+    }

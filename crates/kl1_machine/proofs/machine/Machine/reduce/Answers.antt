@@ -1,10 +1,10 @@
-use Rattle.kl1_machine.proofs.Words.{◌≡◌, ℕ, true, length, refl, sym, ap, ◌∙◌, arith, subst, MatchOption, Option, Some, IsIn, MoveIn, taken_places, is_enabled_at, Plan, IsPlan, DoesNothing, plan_reads, plan_moves, IsTaskIn, IsOwned, Machine, Trail, made, Since, StepsAs}
+use Rattle.kl1_machine.proofs.Words.{◌≡◌, true, length, refl, sym, ap, ◌∙◌, arith, subst, Some, None, MoveIn, taken_places, Plan, plan_reads, plan_moves, IsTaskIn, Machine, Trail, made, Since}
 use Rattle.kl1_machine.proofs.Keeping.{keeps_then}
 use Rattle.kl1_machine.proofs.Planned.{MayStep, found_holds, nothing_refused, full_refused}
-use Rattle.kl1_machine.proofs.Reduced.{IsHeard, only_monitor, heard_reduces, unnamed_publishes, charged_by}
+use Rattle.kl1_machine.proofs.Reduced.{IsHeard, only_monitor, heard_reduces, charged_by}
 use Rattle.kl1_machine.proofs.Resting.{still_lets}
 use Rattle.kl1_machine.proofs.Sincing.{since_same, kept_after}
-use Rattle.kl1_machine.proofs.Stepped.{IsChosen, making, rested_knows, moved_reduces, owned_by, let_by, stepped_publishes}
+use Rattle.kl1_machine.proofs.Stepped.{IsChosen, rested_knows, moved_reduces, owned_by, let_by, stepped_publishes}
 use Rattle.kl1_machine.proofs.machine.Machine.reduce.Given as given
 use Rattle.kl1_machine.proofs.machine.Machine.reduce.Goals as goal
 use Rattle.kl1_machine.proofs.machine.Machine.reduce.Goals.{In-Reads, In-Moves, In_ok-step_goal-in-Moves}
@@ -22,9 +22,8 @@ returns-in_default-clause-ok g c =
     let m = c.args.self.now in
     let program = c.args.modules.now in
     let x = c.in-Ok.goal in
-    let D : Option Plan → Type 0 = λ o. MatchOption o (DoesNothing program m.store.held (made m) x c.args.clause) (IsPlan program m.store.held (made m) x c.args.clause (taken_places c.plan_of.new.trial) c.plan_of.new.trial.text) in
     let may : MayStep program m c.args.number c.args.clause x = record { enabled = c.requires.rested.enabled; steppable = c.in-Ok.ensures.found; knows = λ f fits. rested_knows program m f c.requires.rested fits } in
-    (nothing_refused program c.args.is_full m c.args.number c.args.clause x may (subst D c.in_default.is (c.in_ok-plan.ensures (made m) (sym c.requires.rested.rules) refl)), refl)
+    (nothing_refused program c.args.is_full m c.args.number c.args.clause x may (rw c.in_default.is at (c.in_ok-plan.ensures (made m) (sym c.requires.rested.rules) refl)), refl)
 
 pub returns-then-is_full-clause-ok : goal.returns-then-is_full-clause-ok
 returns-then-is_full-clause-ok g c =
@@ -33,9 +32,8 @@ returns-then-is_full-clause-ok g c =
     let x = c.in-Ok.goal in
     let places = taken_places c.plan_of.new.trial in
     let text = c.plan_of.new.trial.text in
-    let D : Option Plan → Type 0 = λ o. MatchOption o (DoesNothing program m.store.held (made m) x c.args.clause) (IsPlan program m.store.held (made m) x c.args.clause places text) in
     let may : MayStep program m c.args.number c.args.clause x = record { enabled = c.requires.rested.enabled; steppable = c.in-Ok.ensures.found; knows = λ f fits. rested_knows program m f c.requires.rested fits } in
-    (full_refused program c.args.is_full m c.args.number c.args.clause x places text c.in-Some.plan may c.if-is_full.true (subst D c.in-Some.is (c.in_ok-plan.ensures (made m) (sym c.requires.rested.rules) refl)), refl)
+    (full_refused program c.args.is_full m c.args.number c.args.clause x places text c.in-Some.plan may c.if-is_full.true (rw c.in-Some.is at (c.in_ok-plan.ensures (made m) (sym c.requires.rested.rules) refl)), refl)
 
 -- ---- a monitor that reads
 
@@ -59,25 +57,27 @@ read-requires g c =
       control = p.plan.inside;
     }
 
-pub returns-in_ok-reschedule_anew-in-Reads-clause-ok : goal.returns-in_ok-reschedule_anew-in-Reads-clause-ok
-returns-in_ok-reschedule_anew-in-Reads-clause-ok g c =
-    heard_reduces c.args.modules.now c.args.self.now c.read.new.self c.reschedule_anew.new.self c.args.number c.args.clause c.in-Ok.goal c.in-Reads.control (heard g (goal.at.returns-in_ok-reschedule_anew-in-Reads-clause-ok g c).In-Reads) c.in_ok-read-in-Reads.ensures.ok c.in_ok-reschedule_anew-in-Reads.ensures.ok
-
-pub returns-in_ok-reschedule_anew-in-Reads-clause-rested : goal.returns-in_ok-reschedule_anew-in-Reads-clause-rested
-returns-in_ok-reschedule_anew-in-Reads-clause-rested g c same =
+pub returns-in_ok-reschedule_anew-in-Reads : goal.returns-in_ok-reschedule_anew-in-Reads
+returns-in_ok-reschedule_anew-in-Reads g c =
     let m = c.args.self.now in
+    let u = c.read.new.self in
+    let v = c.reschedule_anew.new.self in
     let read = c.in_ok-read-in-Reads.ensures in
-    let rest = c.in_ok-reschedule_anew-in-Reads.ensures.ok.rest in (
-      c.in_ok-reschedule_anew-in-Reads.ensures.rested m c.requires.begun (read.since m (since_same m)) c.requires.rested,
-      unnamed_publishes m c.reschedule_anew.new.self c.requires.small c.requires.room (ap (λ (x : Machine). x.names) rest ∙ ap (λ (x : Trail). x.names) (read.since m (since_same m)).keeps.trail) (ap (λ (x : Machine). x.name) rest ∙ read.ok.named.name ∙ c.requires.begun.name)
-          (ap (λ (x : Machine). x.spelled) rest ∙ read.ok.named.spelled ∙ c.requires.begun.spelled),
-    )
-
-pub returns-in_ok-reschedule_anew-in-Reads-clause-charged : goal.returns-in_ok-reschedule_anew-in-Reads-clause-charged
-returns-in_ok-reschedule_anew-in-Reads-clause-charged g c = let m = c.args.self.now in charged_by m c.read.new.self c.reschedule_anew.new.self (c.in_ok-read-in-Reads.ensures.since m (since_same m)) c.in_ok-reschedule_anew-in-Reads.ensures.ok
-
-pub returns-in_ok-reschedule_anew-in-Reads-clause-keeps : goal.returns-in_ok-reschedule_anew-in-Reads-clause-keeps
-returns-in_ok-reschedule_anew-in-Reads-clause-keeps g c = kept_after c.args.self.now c.read.new.self c.reschedule_anew.new.self (c.in_ok-read-in-Reads.ensures.since c.args.self.now) c.reschedule_anew.ensures.keeps
+    let again = c.in_ok-reschedule_anew-in-Reads.ensures in
+    let since = read.since m (since_same m) in
+    let names : v.names ≡ m.names = ap (λ (x : Machine). x.names) again.ok.rest ∙ ap (λ (x : Trail). x.names) since.keeps.trail in
+    let name : v.name ≡ None = ap (λ (x : Machine). x.name) again.ok.rest ∙ read.ok.named.name ∙ c.requires.begun.name in
+    let spelled : v.spelled ≡ None = ap (λ (x : Machine). x.spelled) again.ok.rest ∙ read.ok.named.spelled ∙ c.requires.begun.spelled in
+    record {
+      ok = heard_reduces c.args.modules.now m u v c.args.number c.args.clause c.in-Ok.goal c.in-Reads.control (heard g (goal.at.returns-in_ok-reschedule_anew-in-Reads g c).In-Reads) read.ok again.ok;
+      rested = λ none. (
+        again.rested m c.requires.begun since c.requires.rested,
+        (record { name = rw name tt; last = rw spelled tt; has = λ e. spelled; small = rw names c.requires.small; room = rw names c.requires.room }),
+      );
+      room = λ none. c.if-is_full.false;
+      charged = charged_by m u v since again.ok;
+      keeps = keeps_then m u v since.keeps c.reschedule_anew.ensures.keeps;
+    }
 
 pub returns-in_err-reschedule_anew-in-Reads-clause-keeps : goal.returns-in_err-reschedule_anew-in-Reads-clause-keeps
 returns-in_err-reschedule_anew-in-Reads-clause-keeps g c = kept_after c.args.self.now c.read.new.self c.reschedule_anew.new.self (c.in_ok-read-in-Reads.ensures.since c.args.self.now) c.reschedule_anew.ensures.keeps
@@ -111,21 +111,18 @@ step_goal-requires g c =
     let r = p.makes.runnable in
     let removed = c.in_ok-remove-in-Moves.ensures.ok in
     let few = c.requires.few in
-    let same : length c.remove.new.self.shoens.work ≡ length m.shoens.work = ap (λ (x : Machine). length x.shoens.work) removed.is in
     let I : Machine → Type 0 = λ x. MoveIn x.store.held p.planned.predicate p.places p.text (Some p.planned.made) in
-    let C : Machine → Type 0 = λ x. IsIn x.store.held p.planned.cell.cell in
-    let O : Machine → Type 0 = λ x. IsOwned (length x.shoens.shoens) p.goal in
-    let E : Machine → Type 0 = λ x. is_enabled_at x.shoens.shoens x.shoens.work p.goal.shoen ≡ true in
+    let same : length c.remove.new.self.shoens.work ≡ length m.shoens.work = ap (λ (x : Machine). length x.shoens.work) removed.is in
     record {
       machine = removed.machine;
       none = ap (λ (x : Machine). x.name) removed.is ∙ c.requires.begun.name;
       unspelled = ap (λ (x : Machine). x.spelled) removed.is ∙ c.requires.begun.spelled;
       predicate = r.some;
       inside = subst I (sym removed.is) r.inside;
-      cell = subst C (sym removed.is) r.cell;
-      owned = subst O (sym removed.is) (owned_by c.args.modules.now m c.args.number c.args.clause p);
+      cell = rw removed.is r.cell;
+      owned = rw removed.is (owned_by c.args.modules.now m c.args.number c.args.clause p);
       level = c.in-Ok.ensures.level;
-      lets = subst E (sym removed.is) (let_by c.args.modules.now m c.args.number c.args.clause p);
+      lets = rw removed.is (let_by c.args.modules.now m c.args.number c.args.clause p);
       few = omega (arith, few, same);
     }
 
@@ -147,31 +144,24 @@ reschedule-requires g c =
       lets = still_lets m c.step_goal.new.self p.goal.shoen (stepped g (goal.at.reschedule-requires g c).In_ok-step_goal-in-Moves) (omega (arith, high)) (let_by program m c.args.number c.args.clause p);
     }
 
-pub returns-in_ok-reschedule-in-Moves-clause-ok : goal.returns-in_ok-reschedule-in-Moves-clause-ok
-returns-in_ok-reschedule-in-Moves-clause-ok g c =
-    let m = c.args.self.now in
-    let program = c.args.modules.now in
-    let p = chosen g (goal.at.returns-in_ok-reschedule-in-Moves-clause-ok g c).In-Moves in
-    let P : Machine → Type 0 = λ x. StepsAs (making program m c.args.number c.args.clause p) p.goal p.planned.cell x c.step_goal.new.self in
-    moved_reduces program m c.step_goal.new.self c.reschedule.new.self c.args.number c.args.clause p (subst P c.in_ok-remove-in-Moves.ensures.ok.is c.in_ok-step_goal-in-Moves.ensures.ok) c.in_ok-reschedule-in-Moves.ensures.ok
-
-pub returns-in_ok-reschedule-in-Moves-clause-rested : goal.returns-in_ok-reschedule-in-Moves-clause-rested
-returns-in_ok-reschedule-in-Moves-clause-rested g c none =
+pub returns-in_ok-reschedule-in-Moves : goal.returns-in_ok-reschedule-in-Moves
+returns-in_ok-reschedule-in-Moves g c =
     let m = c.args.self.now in
     let program = c.args.modules.now in
     let u = c.step_goal.new.self in
-    let p = chosen g (goal.at.returns-in_ok-reschedule-in-Moves-clause-rested g c).In-Moves in
-    let s = stepped g (goal.at.returns-in_ok-reschedule-in-Moves-clause-rested g c).In_ok-step_goal-in-Moves in
-    let P : Machine → Type 0 = λ x. StepsAs (making program m c.args.number c.args.clause p) p.goal p.planned.cell x u in (
-      c.in_ok-reschedule-in-Moves.ensures.rested m c.requires.begun s c.requires.rested,
-      stepped_publishes program m u c.reschedule.new.self c.args.number c.args.clause p c.requires.small c.requires.room (ap (λ (x : Trail). x.names) s.keeps.trail) (subst P c.in_ok-remove-in-Moves.ensures.ok.is c.in_ok-step_goal-in-Moves.ensures.ok) c.in_ok-reschedule-in-Moves.ensures.ok,
-    )
-
-pub returns-in_ok-reschedule-in-Moves-clause-charged : goal.returns-in_ok-reschedule-in-Moves-clause-charged
-returns-in_ok-reschedule-in-Moves-clause-charged g c = charged_by c.args.self.now c.step_goal.new.self c.reschedule.new.self (stepped g (goal.at.returns-in_ok-reschedule-in-Moves-clause-charged g c).In_ok-step_goal-in-Moves) c.in_ok-reschedule-in-Moves.ensures.ok
-
-pub returns-in_ok-reschedule-in-Moves-clause-keeps : goal.returns-in_ok-reschedule-in-Moves-clause-keeps
-returns-in_ok-reschedule-in-Moves-clause-keeps g c = keeps_then c.args.self.now c.step_goal.new.self c.reschedule.new.self (stepped g (goal.at.returns-in_ok-reschedule-in-Moves-clause-keeps g c).In_ok-step_goal-in-Moves).keeps c.reschedule.ensures.keeps
+    let v = c.reschedule.new.self in
+    let p = chosen g (goal.at.returns-in_ok-reschedule-in-Moves g c).In-Moves in
+    let since = stepped g (goal.at.returns-in_ok-reschedule-in-Moves g c).In_ok-step_goal-in-Moves in
+    let steps = rw c.in_ok-remove-in-Moves.ensures.ok.is at c.in_ok-step_goal-in-Moves.ensures.ok in
+    let again = c.in_ok-reschedule-in-Moves.ensures in
+    let names : u.names ≡ m.names = ap (λ (x : Trail). x.names) since.keeps.trail in
+    record {
+      ok = moved_reduces program m u v c.args.number c.args.clause p steps again.ok;
+      rested = λ none. (again.rested m c.requires.begun since c.requires.rested, stepped_publishes program m u v c.args.number c.args.clause p c.requires.small c.requires.room names steps again.ok);
+      room = λ none. c.if-is_full.false;
+      charged = charged_by m u v since again.ok;
+      keeps = keeps_then m u v since.keeps c.reschedule.ensures.keeps;
+    }
 
 pub returns-in_err-reschedule-in-Moves-clause-keeps : goal.returns-in_err-reschedule-in-Moves-clause-keeps
 returns-in_err-reschedule-in-Moves-clause-keeps g c = keeps_then c.args.self.now c.step_goal.new.self c.reschedule.new.self (stepped g (goal.at.returns-in_err-reschedule-in-Moves-clause-keeps g c).In_ok-step_goal-in-Moves).keeps c.reschedule.ensures.keeps

@@ -1,9 +1,9 @@
-use Rattle.kl1_machine.proofs.Words.{arith}
-use Rattle.kl1_machine.proofs.Hearing.{first_rid, next_rid, last_rid}
+use Rattle.kl1_machine.proofs.Words.{arith, refl}
+use Rattle.kl1_machine.proofs.Hearing.{next_rid, last_rid}
 use Rattle.kl1_machine.proofs.machine.Machine.remove_of_each.Goals as goal
 
 pub loop-number-init : goal.loop-number-init
-loop-number-init c = record { rid = first_rid c.args.numbers.now c.args.self.now c.requires.machine; since = λ b s. s }
+loop-number-init c = record { rid = record { goals = refl; rest = refl; machine = c.requires.machine }; since = λ b s. s }
 
 pub loop-number-preserved : goal.loop-number-preserved
 loop-number-preserved c =

@@ -1,22 +1,21 @@
-use Rattle.kl1_machine.proofs.Words.{refl, arith, atom, text_of, report, report_each}
-use Rattle.kl1_machine.proofs.Ending.{each_left, none_left}
+use Rattle.kl1_machine.proofs.Words.{arith, atom, text_of, report_late, report_each_late}
+use Rattle.kl1_machine.proofs.Late.{late_none, reports_more, next_late, all_late, within_then}
 use Rattle.kl1_machine.proofs.machine.Machine.report_each.Goals as goal
 
 pub loop-number-init : goal.loop-number-init
-loop-number-init c = record { turns = λ n t. t; machine = c.requires.machine; since = λ b s. s }
+loop-number-init c = record { late = late_none c.args.late c.args.self.now c.requires.machine; since = λ b s. s }
+
+pub report_late-requires-clause-within : goal.report_late-requires-clause-within
+report_late-requires-clause-within c = within_then c.args.late c.args.self.now c.loop-number.self c.requires.within (c.loop-number.invariant.since c.args.self.now)
 
 pub loop-number-preserved : goal.loop-number-preserved
 loop-number-preserved c =
     let i = c.loop-number.invariant in
-    let one = c.in_ok-report_name.ensures in
-    let m = atom (text_of c.args.name) in
+    let one = c.in_ok-report_late.ensures in
     record {
-      turns = each_left (λ ns f. report_each ns m) (λ n f. report n m) (λ n ns f s. refl) c.args.numbers.now c.loop-number.number-index c.args.self.now c.loop-number.self c.report_name.new.self c.loop-number-test.true i.turns one.ok;
-      machine = one.ok.machine;
+      late = next_late (λ ns. report_each_late c.args.late ns (atom (text_of c.args.name))) (λ n. report_late c.args.late n (atom (text_of c.args.name))) (reports_more c.args.late (atom (text_of c.args.name))) c.args.self.now c.loop-number.self c.report_late.new.self c.args.late c.args.numbers.now c.loop-number.number-index c.loop-number-test.true i.late one.ok;
       since = λ b s. one.since b (i.since b s);
     }
 
 pub returns-clause-ok : goal.returns-clause-ok
-returns-clause-ok c =
-    let i = c.loop-number.invariant in
-    none_left (λ ns f. report_each ns (atom (text_of c.args.name))) (λ f s. refl) c.args.numbers.now c.loop-number.number-index c.args.self.now c.loop-number.self (omega (arith, c.loop-number-test.false)) i.machine i.turns
+returns-clause-ok c = all_late (λ ns. report_each_late c.args.late ns (atom (text_of c.args.name))) c.args.self.now c.loop-number.self c.args.late c.args.numbers.now c.loop-number.number-index (omega (arith, c.loop-number-test.false)) c.loop-number.invariant.late

@@ -16,24 +16,16 @@ schedule_new-requires-clause-lets g c = lets_looked c.args.self.now c.tell_bound
 
 pub returns-clause-ok : goal.returns-clause-ok
 returns-clause-ok g c =
-    let p = c.args.calls.now.modules.now in
-    let m = c.args.self.now in
-    let t = c.tell_bound.new.self in
-    let u = c.wake_affected.new.self in
-    let v = c.schedule_new.new.self in
-    let w = c.shift.new.self in
     on_ok_weaker c.shift.result
-    (λ s. steps_reschedule p m t u v w c.requires.machine (record { told = c.in_ok-tell_bound.ensures.all; tells = c.in_ok-tell_bound.ensures.rest; wakes = c.in_ok-wake_affected.ensures.ok; schedules = c.in_ok-schedule_new.ensures.ok; shifts = s }))
+    (λ s.
+    steps_reschedule c.args.calls.now.modules.now c.args.self.now c.tell_bound.new.self c.wake_affected.new.self c.schedule_new.new.self c.shift.new.self c.requires.machine
+    (record { told = c.in_ok-tell_bound.ensures.all; tells = c.in_ok-tell_bound.ensures.rest; wakes = c.in_ok-wake_affected.ensures.ok; schedules = c.in_ok-schedule_new.ensures.ok; shifts = s }))
     c.shift.ensures.ok
 
 pub returns-clause-rested : goal.returns-clause-rested
 returns-clause-rested g c b begun since rested =
-    let p = c.args.calls.now.modules.now in
-    let m = c.args.self.now in
-    let t = c.tell_bound.new.self in
-    let u = c.wake_affected.new.self in
-    let v = c.schedule_new.new.self in
-    let w = c.shift.new.self in
     on_ok_weaker c.shift.result
-    (λ s. steps_rested p b m t u v w begun since c.requires.machine rested (record { told = c.in_ok-tell_bound.ensures.all; tells = c.in_ok-tell_bound.ensures.rest; wakes = c.in_ok-wake_affected.ensures.ok; schedules = c.in_ok-schedule_new.ensures.ok; shifts = s }))
+    (λ s.
+    steps_rested c.args.calls.now.modules.now b c.args.self.now c.tell_bound.new.self c.wake_affected.new.self c.schedule_new.new.self c.shift.new.self begun since c.requires.machine rested
+    (record { told = c.in_ok-tell_bound.ensures.all; tells = c.in_ok-tell_bound.ensures.rest; wakes = c.in_ok-wake_affected.ensures.ok; schedules = c.in_ok-schedule_new.ensures.ok; shifts = s }))
     c.shift.ensures.ok

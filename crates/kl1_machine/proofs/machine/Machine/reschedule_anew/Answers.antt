@@ -1,9 +1,6 @@
 use Rattle.kl1_machine.proofs.Words.{nobody_lets}
 use Rattle.kl1_machine.proofs.machine.Machine.reschedule_anew.Goals as goal
 
-pub reschedule-requires-clause-machine : goal.reschedule-requires-clause-machine
-reschedule-requires-clause-machine g c = c.requires
-
 pub reschedule-requires-clause-served : goal.reschedule-requires-clause-served
 reschedule-requires-clause-served g c = record { some = c.predicate_of.ensures.some; serves = c.predicate_of.ensures.serves }
 

@@ -1,5 +1,5 @@
-use Rattle.kl1_machine.proofs.Words.{sym, ◌∙◌, with_last}
-use Rattle.kl1_machine.proofs.Looking.{looks_machine, looks_keeps}
+use Rattle.kl1_machine.proofs.Words.{sym, ◌∙◌, with_last, ap, Machine, trail_of}
+use Rattle.kl1_machine.proofs.Looking.{looks_machine}
 use Rattle.kl1_machine.proofs.Reaching.{reaches_zero, reaches_next, reaches_all, looks_reschedule}
 use Rattle.kl1_machine.proofs.machine.Machine.reschedule_for_load.Goals as goal
 
@@ -13,7 +13,7 @@ pub returns-clause-settled : goal.returns-clause-settled
 returns-clause-settled g c = reaches_all (with_last c.args.modules.now c.args.loaded.now) c.loop-goal.number c.args.self.now c.loop-goal.self (sym c.in_default.is ∙ c.after.ensures.goal) c.loop-goal.invariant
 
 pub returns-clause-keeps : goal.returns-clause-keeps
-returns-clause-keeps g c = looks_keeps c.args.self.now c.loop-goal.self c.loop-goal.invariant.looks
+returns-clause-keeps g c = let l = c.loop-goal.invariant.looks in record { grown = l.grown; trail = ap (λ (x : Machine). trail_of x) l.rest }
 
 pub wake_beside-requires-in-Some-clause-machine : goal.wake_beside-requires-in-Some-clause-machine
 wake_beside-requires-in-Some-clause-machine g c = looks_machine c.args.self.now c.loop-goal.self c.loop-goal.invariant.looks c.requires.machine

@@ -1,4 +1,4 @@
-use Rattle.kl1_machine.proofs.Words.{map, sym, ap, ◌∙◌, subst, option_copied, on_ok_weaker, CellName, Tabled, looked_at, IsTaskIn, Schedules}
+use Rattle.kl1_machine.proofs.Words.{map, sym, ap, ◌∙◌, option_copied, on_ok_weaker, looked_at, IsTaskIn}
 use Rattle.kl1_goals.specs.Lists.{has_number}
 use Rattle.kl1_machine.proofs.Looking.{found_holds}
 use Rattle.kl1_machine.proofs.Sincing.{goals_are}
@@ -21,8 +21,7 @@ returns-clause-ok g c j next =
     let x = c.in-Some.goal.now in
     let o = c.in_ok-clause.clause in
     let may = c.may_step-is_enabled.result in
-    let W : Tabled CellName → Type 0 = λ r. Schedules p j n m (record m { store = k; goals = r }) in
     on_ok_weaker c.look.result
-    (λ is. subst W (sym (goals_are m.goals c.look.new.self (map (looked_at n o may) m.goals.goals) c.look.ensures.rest is))
+    (λ is. rw (goals_are m.goals c.look.new.self (map (looked_at n o may) m.goals.goals) c.look.ensures.rest is)
     (schedules_one p m k j n x o may next (record { order = c.lend.ensures.order; found = c.in-Some.ensures.goal; number = c.in-Some.ensures.number; held = e.held; grown = e.grown; ready = e.ready }) c.may_step-is_enabled.ensures))
     c.look.ensures.ok

@@ -1,10 +1,10 @@
 use Rattle.kl1_machine.proofs.Words.{◌≡◌, suc, ◌+◌, ap, ◌∙◌, arith, is_enabled_at, Machine}
-use Rattle.kl1_machine.proofs.Looking.{looks_machine}
-use Rattle.kl1_machine.proofs.Scheduling.{schedules_nothing, schedules_then, schedules_less}
+use Rattle.kl1_machine.proofs.Looking.{looks_same, looks_machine}
+use Rattle.kl1_machine.proofs.Scheduling.{schedules_then, schedules_less}
 use Rattle.kl1_machine.proofs.machine.Machine.schedule_new.Goals as goal
 
 pub loop-number-init : goal.loop-number-init
-loop-number-init g c = record { low = omega arith; looks = schedules_nothing c.args.calls.now.modules.now c.args.self.now c.args.self.now.begun.last_goal }
+loop-number-init g c = record { low = omega arith; looks = record { looks = looks_same c.args.self.now; settles = λ f knows all. all; flags = λ b low all. all } }
 
 pub schedule-requires-clause-machine : goal.schedule-requires-clause-machine
 schedule-requires-clause-machine g c = looks_machine c.args.self.now c.loop-number.self c.loop-number.invariant.looks.looks c.requires.machine

@@ -1,4 +1,4 @@
-use Rattle.kl1_machine.proofs.Words.{false, sym, ◌∙◌, not_false}
+use Rattle.kl1_machine.proofs.Words.{false, sym, ◌∙◌, not-true}
 use Rattle.kl1_machine.proofs.Planned.{state_in, steps_syntax, steps_nowhere, steps_by}
 use Rattle.kl1_machine.proofs.machine.Machine.steppable.Goals as goal
 
@@ -11,4 +11,4 @@ returns-in_default-clause-refused c program full all f fits s is room =
 
 pub returns-then-not-goal-clause-refused : goal.returns-then-not-goal-clause-refused
 returns-then-not-goal-clause-refused c program full all f fits s is room =
-    steps_by f s c.args.self.now c.args.number c.args.clause c.in-Some.goal false (sym c.are_numbers.ensures ∙ c.if-not-are_numbers.false) (sym c.get.ensures.goal ∙ c.in-Some.is) (not_false c.in-Some.goal.is_enabled c.if-not-goal.true) all
+    steps_by f s c.args.self.now c.args.number c.args.clause c.in-Some.goal false (sym c.are_numbers.ensures ∙ c.if-not-are_numbers.false) (sym c.get.ensures.goal ∙ c.in-Some.is) (not-true c.in-Some.goal.is_enabled c.if-not-goal.true) all

@@ -1,10 +1,10 @@
-use Rattle.kl1_machine.proofs.Words.{arith}
-use Rattle.kl1_machine.proofs.Looking.{looks_machine}
-use Rattle.kl1_machine.proofs.Waking.{wakes_nothing, wakes_more, wakes_all}
+use Rattle.kl1_machine.proofs.Words.{arith, refl}
+use Rattle.kl1_machine.proofs.Looking.{looks_same, looks_machine}
+use Rattle.kl1_machine.proofs.Waking.{wakes_more, wakes_all}
 use Rattle.kl1_machine.proofs.machine.Machine.wake_affected.Goals as goal
 
 pub loop-place-init : goal.loop-place-init
-loop-place-init g c = wakes_nothing c.args.calls.now.modules.now c.args.self.now
+loop-place-init g c = record { looks = looks_same c.args.self.now; flags = refl; settles = λ f knows q all. all }
 
 pub wake-requires-clause-machine : goal.wake-requires-clause-machine
 wake-requires-clause-machine g c = looks_machine c.args.self.now c.loop-place.self c.loop-place.invariant.looks c.requires.machine

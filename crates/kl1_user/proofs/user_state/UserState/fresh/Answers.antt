@@ -1,7 +1,5 @@
-use Rattle.std.proofs.Common.{sym, subst}
-use Rattle.kl1_atoms.specs.Names.{AreNames}
 use Rattle.kl1_atoms.specs.Knowing.{no_names}
 use Rattle.kl1_user.proofs.user_state.UserState.fresh.Goals as goal
 
 pub invariant_of-result : goal.invariant_of-result
-invariant_of-result g c = subst AreNames (sym c.in_ok-account.ensures.names) no_names
+invariant_of-result g c = rw c.in_ok-account.ensures.names no_names

@@ -1,10 +1,5 @@
-use Rattle.std.proofs.Common.{subst}
-use Rattle.kl1_atoms.specs.Names.{AreNames}
-use Rattle.kl1_user_effects.specs.Account.{Account}
 use Rattle.kl1_user_effects.specs.Fitting.{reading_of, reading_fits}
 use Rattle.kl1_user.proofs.user_state.UserState.quiet.Goals as goal
 
 pub returns-clause-some : goal.returns-clause-some
-returns-clause-some g c =
-    let names : AreNames c.args.self.now.names = subst (λ (a : Account). AreNames a.names) c.self.view_is c.self.invariant in
-    (reading_of c.args.self.now.names, reading_fits c.args.self.now.names names)
+returns-clause-some g c = rw (← c.self.view_is) (reading_of c.self.inside.account.names, reading_fits c.self.inside.account.names c.self.invariant)

@@ -1,5 +1,4 @@
-use Rattle.std.proofs.Common.{sym}
 use Rattle.kl1_user.proofs.user_state.UserState.run.Goals as goal
 
 pub returns : goal.returns
-returns g c = λ f. rw (sym c.self.view_is) (c.run.ensures f)
+returns g c = λ f. rw (← c.self.view_is) (c.run.ensures f)

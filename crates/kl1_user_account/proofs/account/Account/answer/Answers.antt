@@ -1,20 +1,18 @@
-use Rattle.kl1_user_account.proofs.Words.{◌≡◌, [], refl, sym, ap, ◌∙◌, Term, Transition, sent, with_entry, answered, State, Reading, state_of, kept_in, IsAnswerable, Coded}
-use Rattle.kl1_user_account.specs.declared.answerable.Answering.TheVariants.{Refused}
-use Rattle.kl1_user_account.proofs.Started.{answers_by, may_answer_it}
+use Rattle.kl1_user_account.proofs.Words.{◌≡◌, [], refl, sym, ap, ◌∙◌, Term, Transition, sent, with_entry, answered, State, Reading, state_of, kept_in, IsAnswerable}
+use Rattle.kl1_user_account.proofs.Started.{may_answer_it}
 use Rattle.kl1_user_account.proofs.account.Account.answer.Goals.{In-Coded}
 use Rattle.kl1_user_account.proofs.account.Account.answer.Goals as goal
 
 pub returns-in-Refused-clause-step : goal.returns-in-Refused-clause-step
-returns-in-Refused-clause-step g c = λ f fits.
-    let a = c.args.self.now in
-    answers_by (kept_in c.self.inside) a c.counted-counted.result c.args.number c.args.report c.args.goal.now c.in_ok-answering.answering (Refused c.in-Refused.refusal) c.self.view_is c.in_ok-answering.ensures c.in-Refused.is
-    f fits.reads (record (state_of f a) { goals = []; shoens = []; last_variable = 0 }) a.goals refl (c.counted-counted.ensures f)
+returns-in-Refused-clause-step g c =
+    let a = kept_in c.self.inside in
+    let refused = rw c.in-Refused.is at c.in_ok-answering.ensures in
+    rw (← c.self.view_is) (λ f fits. refused f fits.reads (record (state_of f a) { goals = []; shoens = []; last_variable = 0 }) a.goals refl (rw (← c.self.view_is) at (c.counted-counted.ensures f)))
 
 -- what is known of the goal, its code and the variable
 answerable : (g : _) (c : goal.In-Coded g) → let a = c.args.self.now in
     IsAnswerable a.rules a.held a.shoens a.names c.counted-counted.result c.args.number c.args.report c.args.goal.now c.in-Coded.code c.in-Coded.variable
-answerable g c =
-    answers_by (kept_in c.self.inside) c.args.self.now c.counted-counted.result c.args.number c.args.report c.args.goal.now c.in_ok-answering.answering (Coded c.in-Coded.code c.in-Coded.variable) c.self.view_is c.in_ok-answering.ensures c.in-Coded.is
+answerable g c = rw (← c.self.view_is) (rw c.in-Coded.is at c.in_ok-answering.ensures)
 
 pub bring-requires-clause-may : goal.bring-requires-clause-may
 bring-requires-clause-may g c =

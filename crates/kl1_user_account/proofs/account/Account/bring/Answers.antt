@@ -1,4 +1,4 @@
-use Rattle.kl1_user_account.proofs.Words.{◌≡◌, ◌≤◌, List, length, sym, ap, ap₂, ◌∙◌, subst, MOST_NAMES, with_entry, CellName, Known, with_texts, Account, texts_of, AreSpared, NameShelf, AreSmall, Machine, Trail, change_of, CanBring}
+use Rattle.kl1_user_account.proofs.Words.{◌≡◌, List, length, sym, ap, ap₂, ◌∙◌, subst, with_entry, CellName, Known, Account, AreSpared, NameShelf, Machine, Trail, change_of, CanBring}
 use Rattle.kl1_user_account.proofs.Machines.{Aside, aside_of, began, began_rested, Ends}
 use Rattle.kl1_user_account.proofs.Bringing.{IsBrought, brought_ends}
 use Rattle.kl1_user_account.proofs.account.Account.bring.Goals.{In_ok-or_back, After-note_entry}
@@ -6,9 +6,7 @@ use Rattle.kl1_user_account.proofs.account.Account.bring.Goals as goal
 
 pub bring-done-requires-clause-can : goal.bring-done-requires-clause-can
 bring-done-requires-clause-can g c =
-    let P : Machine → Type 0 = λ m. CanBring m.store.held m.counts.variables m.counts.nodes c.as_slice-spares.result.now c.args.brought.now in
-    let A : Account → Type 0 = λ a. CanBring a.held a.variables a.nodes c.as_slice-spares.result.now c.args.brought.now in
-    subst P (sym c.begin.ensures.same) (subst A (sym c.self.view_is) (c.requires.may.can c.as_slice-spares.result.now (ap length c.as_slice-spares.ensures.value ∙ c.in_ok-rows.ensures.rows.count)))
+    rw c.begin.ensures.same (rw (← c.self.view_is) at (c.requires.may.can c.as_slice-spares.result.now (ap length c.as_slice-spares.ensures.value ∙ c.in_ok-rows.ensures.rows.count)))
 
 -- ---- the account's names are those that it had, with room for these
 
@@ -25,19 +23,13 @@ pub publish_names-requires-clause-knows : goal.publish_names-requires-clause-kno
 publish_names-requires-clause-knows g c = c.requires.knows ∙ sym (known_same g (goal.at.publish_names-requires-clause-knows g c).In_ok-or_back)
 
 pub publish_names-requires-clause-few : goal.publish_names-requires-clause-few
-publish_names-requires-clause-few g c =
-    let F : List Known → Type 0 = λ ks. length (with_texts (texts_of ks) c.args.texts.now) ≤ MOST_NAMES in
-    subst F (sym (known_same g (goal.at.publish_names-requires-clause-few g c).In_ok-or_back)) c.requires.may.few
+publish_names-requires-clause-few g c = rw (known_same g (goal.at.publish_names-requires-clause-few g c).In_ok-or_back) c.requires.may.few
 
 pub publish_names-requires-clause-small : goal.publish_names-requires-clause-small
-publish_names-requires-clause-small g c =
-    let S : List Known → Type 0 = λ ks. AreSmall ks in
-    subst S (ap (λ (a : Account). a.names) c.self.view_is ∙ sym (known_same g (goal.at.publish_names-requires-clause-small g c).In_ok-or_back)) c.self.invariant.0.small
+publish_names-requires-clause-small g c = rw (known_same g (goal.at.publish_names-requires-clause-small g c).In_ok-or_back, ← c.self.view_is) c.self.invariant.0.small
 
 pub publish_names-requires-clause-room : goal.publish_names-requires-clause-room
-publish_names-requires-clause-room g c =
-    let R : NameShelf → Type 0 = λ k. length c.args.texts.now ≤ k.room in
-    subst R (sym (names_same g (goal.at.publish_names-requires-clause-room g c).In_ok-or_back)) c.in_ok-rows.ensures.room
+publish_names-requires-clause-room g c = rw (names_same g (goal.at.publish_names-requires-clause-room g c).In_ok-or_back) c.in_ok-rows.ensures.room
 
 pub publish_names-requires-clause-spares : goal.publish_names-requires-clause-spares
 publish_names-requires-clause-spares g c = ap length c.as_slice-spares.ensures.value ∙ c.in_ok-rows.ensures.rows.count

@@ -1,5 +1,5 @@
 use Rattle.kl1_user_account.proofs.Words.{refl, sym, ◌∙◌, meaning}
-use Rattle.kl1_user_account.proofs.Counting.{alive_read}
+use Rattle.kl1_user_effects.proofs.Commits.{alive_read}
 use Rattle.kl1_user_account.proofs.account.Account.counted.Goals as goal
 
 pub returns : goal.returns

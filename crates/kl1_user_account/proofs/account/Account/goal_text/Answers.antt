@@ -1,7 +1,6 @@
 use Rattle.kl1_user_account.proofs.Words.{sym, ap, ◌∙◌, Some, None, option_map, IfOk-weaker, kept_in}
 use Rattle.kl1_user_events.specs.Viewing.{text_of}
-use Rattle.kl1_user_account.proofs.Goals.{task_in}
-use Rattle.kl1_user_account.proofs.Texts.{task_named, term_read}
+use Rattle.kl1_user_account.proofs.Goals.{task_in, task_named, term_read}
 use Rattle.kl1_user_account.proofs.account.Account.goal_text.Goals as goal
 
 pub print_task-requires-clause-task : goal.print_task-requires-clause-task

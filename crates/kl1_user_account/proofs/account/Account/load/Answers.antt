@@ -1,6 +1,6 @@
-use Rattle.kl1_user_account.proofs.Words.{◌≡◌, ℕ, suc, false, List, [], ◌∷◌, ◌++◌, refl, sym, ap, ◌∙◌, subst, ◌↔◌, Module, load, loaded, Transition, step, CellName, Known, AreNames, with_texts, Numbered, ArePlaced, own_names, number_of, is_numbered, Program, with_last, placed_still, placed_more, Account, texts_of, state_of, AreNumbersOf, AllSettled, kept_in, Refused, Drafted}
+use Rattle.kl1_user_account.proofs.Words.{◌≡◌, ℕ, suc, false, List, [], ◌∷◌, ◌++◌, refl, sym, ap, ◌∙◌, ◌↔◌, Module, load, loaded, Transition, step, with_texts, Numbered, ArePlaced, own_names, number_of, is_numbered, Program, placed_still, placed_more, Account, texts_of, state_of, kept_in, Refused, Drafted}
 use Rattle.kl1_user_account.proofs.Machines.{Aside, aside_of, account_of, began, Ends}
-use Rattle.kl1_user_account.proofs.Loads.{loads_by, stands_at}
+use Rattle.kl1_user_account.proofs.Loads.{loads_by}
 use Rattle.kl1_user_account.proofs.Loaded.{IsLoaded, with_loaded, loaded_new, loaded_ends}
 use Rattle.kl1_user_account.proofs.account.Account.load.Goals.{After-reserve, After-as_slice, After-note_entry}
 use Rattle.kl1_user_account.proofs.account.Account.load.Goals as goal
@@ -10,9 +10,8 @@ use Rattle.kl1_user_account.proofs.account.Account.load.Goals as goal
 -- they stand in the source of codes as it is after the draft
 placed_now : (g : _) (c : goal.After-reserve g) → ArePlaced (g.C.CodeSource.has c.draft_module.new.codes) c.reserve.new.self.loaded
 placed_now g c =
-    let has = g.C.CodeSource.has c.draft_module.new.codes in
-    let P : List Numbered → Type 0 = λ ls. ArePlaced has ls in
-    subst P (ap (λ (a : Account). a.modules) (sym c.self.view_is) ∙ sym c.reserve.ensures.loaded) (placed_still (g.C.CodeSource.has c.args.codes.now) has c.draft_module.ensures.same c.args.self.now.modules c.requires.placed)
+    let placed = rw (← c.self.view_is) at c.requires.placed in
+    rw c.reserve.ensures.loaded (placed_still (g.C.CodeSource.has c.args.codes.now) (g.C.CodeSource.has c.draft_module.new.codes) c.draft_module.ensures.same c.self.inside.modules.loaded placed)
 
 pub over-modules-requires : goal.over-modules-requires
 over-modules-requires g c = placed_now g (goal.at.over-modules-requires g c).After-reserve
@@ -38,16 +37,13 @@ pub returns-clause-placed : goal.returns-clause-placed
 returns-clause-placed g c =
     let has = g.C.CodeSource.has c.draft_module.new.codes in
     let d = c.in-Drafted.draft in
-    let P : List Numbered → Type 0 = λ ls. ArePlaced has ls in
-    subst P (sym c.push_module.ensures.modules)
-    (placed_more has c.reserve.new.self.loaded (record d { row = c.as_slice.result.now }) (placed_now g (goal.at.returns-clause-placed g c).After-reserve) (stands_at has c.in_ok-refusal.field-0 d c.in_ok-refusal.ensures.stands c.in-Drafted.is))
+    rw c.push_module.ensures.modules
+    (placed_more has c.reserve.new.self.loaded (record d { row = c.as_slice.result.now }) (placed_now g (goal.at.returns-clause-placed g c).After-reserve) (rw c.in-Drafted.is at c.in_ok-refusal.ensures.stands))
 
 -- ---- what comes of the load
 
 pub draft_module-requires-clause-names : goal.draft_module-requires-clause-names
-draft_module-requires-clause-names g c =
-    let P : List Known → Type 0 = λ ks. AreNames ks in
-    subst P (c.requires.knows ∙ sym (ap (λ (a : Account). a.names) c.self.view_is)) (g.met.A.AtomSource.one_to_one c.args.names.now c.args.seat.now c.requires.of)
+draft_module-requires-clause-names g c = rw (c.requires.knows, ← c.self.view_is) at (g.met.A.AtomSource.one_to_one c.args.names.now c.args.seat.now c.requires.of)
 
 pub returns-in-Refused-clause-step : goal.returns-in-Refused-clause-step
 returns-in-Refused-clause-step g c = λ f fits.
@@ -70,26 +66,21 @@ came g c =
     let e = began (aside_of u) u.machine c.begin.new.self c.row_for.new.names c.args.self.now c.over-modules.result c.row_for.ensures.names c.begin.ensures.same c.begin.ensures.begun c.self.view_is (c.over-modules.ensures ∙ ap Q c.reserve.ensures.loaded) c.self.invariant in
     let did = rw (← c.in_ok-or_back.ensures.same, ← c.in_ok-or_back.ensures.ok) at c.reschedule_for_load-looked.ensures in
     let own : c.names-texts.result.now ≡ own_names d.content = c.names-texts.ensures.value ∙ ap own_names c.code.ensures in
-    let S : Numbered → Type 0 = λ k. AllSettled (with_last e.program k) r in
-    let T : List (List ℕ) → List CellName → Type 0 = λ ts cs. AreNumbersOf names.names ts cs in
-    let N : List Known → Type 0 = λ ks. AreNames ks in
     let p : IsLoaded e c.args.source.now d r names row = record {
       draft = loads_by (kept_in u) c.args.self.now c.is_full-is_full.result c.args.source.now l.field-0 (Drafted d) c.self.view_is c.is_full-is_full.ensures l.ensures.loads c.in-Drafted.is;
       looks = did.ok;
-      settled = subst S c.over-loaded.ensures did.settled;
+      settled = rw c.over-loaded.ensures at did.settled;
       flags = did.flags;
       texts = c.publish.ensures.texts ∙ ap (with_texts (texts_of r.names.names)) own;
-      numbers = subst (λ ts. T ts row) own (subst (T c.names-texts.result.now) (sym c.as_slice.ensures.value) c.publish.ensures.row);
+      numbers = rw (own, ← c.as_slice.ensures.value) at c.publish.ensures.row;
       small = c.publish.ensures.small;
       fits = c.publish.ensures.fits;
     } in
-    let one = subst N c.publish.ensures.knows (g.met.A.AtomSource.one_to_one c.publish.new.names c.publish.new.seat c.publish.ensures.keeps.of) in
+    let one = rw c.publish.ensures.knows at (g.met.A.AtomSource.one_to_one c.publish.new.names c.publish.new.seat c.publish.ensures.keeps.of) in
     (loaded_new e c.args.source.now d r names row p one, loaded_ends e c.args.source.now d r names row p)
 
 pub push_module-requires-clause-new : goal.push_module-requires-clause-new
-push_module-requires-clause-new g c =
-    let P : List Numbered → Type 0 = λ ms. is_numbered ms (number_of (record c.in-Drafted.draft { row = c.as_slice.result.now })) ≡ false in
-    subst P (sym c.reserve.ensures.loaded) (came g (goal.at.push_module-requires-clause-new g c).After-as_slice).0
+push_module-requires-clause-new g c = rw c.reserve.ensures.loaded (came g (goal.at.push_module-requires-clause-new g c).After-as_slice).0
 
 -- what an account has besides its machine, after the load
 beside : (g : _) (c : goal.After-note_entry g) → record (aside_of c.self.inside) { modules = c.push_module.new.modules.loaded; entries = c.note_entry.new.entries; run = c.note_entry.new.run } ≡ with_loaded (aside_of c.self.inside) c.in-Drafted.draft c.as_slice.result.now

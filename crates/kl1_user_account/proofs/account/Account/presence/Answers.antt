@@ -1,6 +1,5 @@
 use Rattle.kl1_user_account.proofs.Words.{sym, subst, Option, Some, None, IfOk-weaker, Term, Absent, IsPresence, kept_in}
-use Rattle.kl1_user_account.proofs.Goals.{task_in}
-use Rattle.kl1_user_account.proofs.Texts.{term_read}
+use Rattle.kl1_user_account.proofs.Goals.{task_in, term_read}
 use Rattle.kl1_user_account.proofs.account.Account.presence.Goals as goal
 
 pub presence_of-requires : goal.presence_of-requires

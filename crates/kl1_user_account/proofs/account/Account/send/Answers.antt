@@ -6,23 +6,18 @@ use Rattle.kl1_user_account.proofs.account.Account.send.Goals as goal
 pub returns-in-Some-clause-step : goal.returns-in-Some-clause-step
 returns-in-Some-clause-step g c = λ f fits.
     let u = c.self.inside in
-    let n = c.args.number in
-    let message = c.args.message in
     let e = began (aside_of u) u.machine c.begin.new.self u.machine.names c.args.self.now c.over-modules.result refl c.begin.ensures.same c.begin.ensures.begun c.self.view_is c.over-modules.ensures c.self.invariant in
     let no = rw (← c.in_ok-refused.ensures.same, ← c.in_ok-refused.ensures.ok, c.in-Some.is) at c.send-sent.ensures.ok in
-    refused_message e c.or_back.new.self n message c.in-Some.refusal no f
+    refused_message e c.or_back.new.self c.args.number c.args.message c.in-Some.refusal no f
 
 -- the message was sent, and is noted
 ends : (g : _) (c : goal.After-note_entry g) → let y : Aside = record (aside_of c.self.inside) { entries = c.note_entry.new.entries; run = c.note_entry.new.run } in
     Holds y c.or_back.new.self × ((f : Reading) → Reads built f → step (state_of f c.args.self.now) (control c.args.number c.args.message) ≡ record { state = state_of f (account_of y c.or_back.new.self); reply = sent })
 ends g c =
     let u = c.self.inside in
-    let n = c.args.number in
-    let message = c.args.message in
     let e = began (aside_of u) u.machine c.begin.new.self u.machine.names c.args.self.now c.over-modules.result refl c.begin.ensures.same c.begin.ensures.begun c.self.view_is c.over-modules.ensures c.self.invariant in
     let did = rw (← c.in_ok-refused.ensures.same, ← c.in_ok-refused.ensures.ok, c.in_default.is) at c.send-sent.ensures in
-    let y : Aside = record (aside_of u) { entries = c.note_entry.new.entries; run = c.note_entry.new.run } in
-    sent_ends e n message c.or_back.new.self y did.ok did.keeps (ap₂ (λ i k. let z : Aside = record (aside_of u) { entries = i; run = k } in z) c.note_entry.ensures.entries c.note_entry.ensures.run)
+    sent_ends e c.args.number c.args.message c.or_back.new.self did.ok did.keeps _ (ap₂ (λ i k. let z : Aside = record (aside_of u) { entries = i; run = k } in z) c.note_entry.ensures.entries c.note_entry.ensures.run)
 
 pub invariant_of-self-2 : goal.invariant_of-self-2
 invariant_of-self-2 g c = (ends g c).0

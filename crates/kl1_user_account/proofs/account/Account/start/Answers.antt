@@ -1,18 +1,17 @@
-use Rattle.kl1_user_account.proofs.Words.{◌≡◌, ℕ, suc, refl, sym, ap, ◌∙◌, arith, Term, Transition, opened, with_entry, start_goal, State, state_of, kept_in, IsStartable}
-use Rattle.kl1_user_account.specs.declared.startable.Starting.TheVariants.{Refused, Coded}
-use Rattle.kl1_user_account.proofs.Started.{starts_by, may_start_it}
+use Rattle.kl1_user_account.proofs.Words.{◌≡◌, ℕ, suc, refl, sym, ap, ◌∙◌, arith, Term, Transition, opened, with_entry, start_goal, State, state_of, IsStartable, HasNames, step, start, refuse, refusal_of}
+use Rattle.kl1_user_account.proofs.Started.{may_start_it}
 use Rattle.kl1_user_account.proofs.account.Account.start.Goals.{In-Coded}
 use Rattle.kl1_user_account.proofs.account.Account.start.Goals as goal
 
 pub returns-in-Refused-clause-step : goal.returns-in-Refused-clause-step
 returns-in-Refused-clause-step g c = λ f fits.
-    starts_by (kept_in c.self.inside) c.args.self.now c.counted-counted.result c.args.allowance c.args.low c.args.high c.args.goal.now c.in_ok-refusal.field-0 (Refused c.in-Refused.refusal) c.self.view_is c.in_ok-refusal.ensures c.in-Refused.is
-    (state_of f c.args.self.now) (c.counted-counted.ensures f)
+    let refused : (s : State) → HasNames s c.args.self.now.names c.counted-counted.result → step s (start c.args.allowance c.args.low c.args.high c.args.goal.now) ≡ refuse s (refusal_of c.in-Refused.refusal) =
+    rw (← c.self.view_is) (rw c.in-Refused.is at c.in_ok-refusal.ensures) in
+    refused (state_of f c.args.self.now) (c.counted-counted.ensures f)
 
 -- what is known of the goal and its code
 startable : (g : _) (c : goal.In-Coded g) → IsStartable c.args.self.now.names c.counted-counted.result c.args.allowance c.args.low c.args.high c.args.goal.now c.in-Coded.code
-startable g c =
-    starts_by (kept_in c.self.inside) c.args.self.now c.counted-counted.result c.args.allowance c.args.low c.args.high c.args.goal.now c.in_ok-refusal.field-0 (Coded c.in-Coded.code) c.self.view_is c.in_ok-refusal.ensures c.in-Coded.is
+startable g c = rw (← c.self.view_is) (rw c.in-Coded.is at c.in_ok-refusal.ensures)
 
 pub bring-requires-clause-may : goal.bring-requires-clause-may
 bring-requires-clause-may g c =

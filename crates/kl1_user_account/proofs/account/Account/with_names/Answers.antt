@@ -1,11 +1,9 @@
-use Rattle.kl1_user_account.proofs.Words.{ℕ, ◌≤◌, List, length, sym, ap, ◌∙◌, subst, MOST_NAMES, fresh_with, state_of}
+use Rattle.kl1_user_account.proofs.Words.{ℕ, List, ap, ◌∙◌, fresh_with, state_of}
 use Rattle.kl1_user_account.proofs.GivenNames.{put_to_none}
 use Rattle.kl1_user_account.proofs.account.Account.with_names.Goals as goal
 
 pub publish-requires-clause-few : goal.publish-requires-clause-few
-publish-requires-clause-few g c =
-    let few = c.requires.few in
-    subst (λ (ts : List (List ℕ)). length ts ≤ MOST_NAMES) (sym (put_to_none c.reserve.new.self.names c.args.texts.now (c.reserve.ensures.names ∙ c.new-known.ensures) c.requires.list)) few
+publish-requires-clause-few g c = rw (put_to_none c.reserve.new.self.names c.args.texts.now (c.reserve.ensures.names ∙ c.new-known.ensures) c.requires.list) c.requires.few
 
 pub returns-clause-fresh : goal.returns-clause-fresh
 returns-clause-fresh g c = λ f.

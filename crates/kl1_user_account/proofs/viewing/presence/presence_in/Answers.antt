@@ -7,14 +7,11 @@ loop-left-init c =
     looking_begins c.args.store.now.held c.args.cell c.args.variable c.args.most c.push.new.self.items (c.requires, tt)
     (c.in_ok-push.ensures.items ∙ ap (λ (xs : List (Cell CellName)). xs ++ c.args.cell ∷ []) c.new-stack.ensures.items)
 
-pub next_top-requires : goal.next_top-requires
-next_top-requires c = c.loop-left.invariant.inside
-
 pub returns-in_default : goal.returns-in_default
 returns-in_default c = is_absent c.loop-left.invariant (rw c.in_default.is at c.in_ok-top.ensures)
 
 pub returns-then-is_variable : goal.returns-then-is_variable
-returns-then-is_variable c = is_present c.in-Some.top c.loop-left-test.true c.loop-left.invariant (rw c.in-Some.is at c.in_ok-top.ensures) (sym c.is_variable.ensures ∙ c.if-is_variable.true)
+returns-then-is_variable c = is_present c.in-Some.top c.loop-left.invariant (rw c.in-Some.is at c.in_ok-top.ensures) (sym c.is_variable.ensures ∙ c.if-is_variable.true)
 
 pub loop-left-preserved : goal.loop-left-preserved
 loop-left-preserved c = looking_on c.in-Some.top c.loop-left-test.true c.loop-left.invariant (rw c.in-Some.is at c.in_ok-top.ensures) (sym c.is_variable.ensures ∙ c.if-is_variable.false)

@@ -1,6 +1,5 @@
 use Rattle.kl1_user_effects.proofs.Words.{ℕ, not, ◌+◌, ◌≡◌, length, take, sym, ap, ◌∙◌, subst, arith, with_texts, texts_of}
-use Rattle.kl1_user_effects.proofs.KnownNames.{found_some, found_none}
-use Rattle.kl1_user_effects.proofs.KnownTexts.{counted_first, counted_new, counted_known}
+use Rattle.kl1_user_effects.proofs.KnownTexts.{found_some, found_none, counted_first, counted_new, counted_known}
 use Rattle.kl1_user_effects.proofs.names.AccountNames.count_new.Goals as goal
 use Rattle.kl1_user_effects.proofs.names.AccountNames.count_new.Goals.{then-is_none, else-is_none}
 

@@ -1,5 +1,5 @@
 use Rattle.kl1_user_effects.proofs.Words.{sym, ap, ◌∙◌}
-use Rattle.kl1_user_effects.proofs.KnownNames.{found_none, put_known, put_names}
+use Rattle.kl1_user_effects.proofs.KnownTexts.{found_none, put_known, put_names}
 use Rattle.kl1_user_effects.proofs.names.AccountNames.learn.Goals as goal
 
 pub invariant_of-self : goal.invariant_of-self

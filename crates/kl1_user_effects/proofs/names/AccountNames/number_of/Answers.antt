@@ -1,6 +1,6 @@
 use Rattle.kl1_user_effects.proofs.Words.{ℕ, sym, ap, ◌∙◌}
 use Rattle.std.proofs.Common.{Some, None}
-use Rattle.kl1_user_effects.proofs.KnownNames.{number_is}
+use Rattle.kl1_user_effects.proofs.KnownTexts.{number_is}
 use Rattle.kl1_user_effects.proofs.names.AccountNames.number_of.Goals as goal
 
 pub returns-in-Some-get : goal.returns-in-Some-get
