@@ -1,5 +1,0 @@
-pub mod Lines
-pub mod Starts
-pub mod Runs
-pub mod Reductions
-pub mod Rooms

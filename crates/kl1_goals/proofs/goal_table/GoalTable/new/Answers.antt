@@ -1,8 +1,0 @@
-use Rattle.std.proofs.Common.{refl}
-use Rattle.kl1_goals.proofs.Restoring.{no_tables}
-use Rattle.kl1_goals.proofs.goal_table.GoalTable.new.Goals as goal
-
-pub invariant_of-result : goal.invariant_of-result
-invariant_of-result g c =
-    rw (c.new.ensures.items, c.new-2.ensures.ranks, c.new-3.ensures.items)
-    (no_tables {N = g.row.N.Denot} _ (record { slots = c.new-4.ensures.items; places = refl; empty = refl; tallies = c.new-5.ensures.items; shoens = refl; alive = refl; last = refl }))

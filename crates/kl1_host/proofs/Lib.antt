@@ -1,3 +1,0 @@
-pub mod Cutting
-pub mod Doors
-pub mod FilesOfKeys

@@ -1,4 +1,0 @@
-pub mod Asks
-pub mod Ends
-pub mod Repairs
-pub mod Setups

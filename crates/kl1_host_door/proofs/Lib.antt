@@ -1,4 +1,0 @@
-pub mod Names
-pub mod BookPlaces
-pub mod Copies
-pub mod Texts

@@ -1,4 +1,0 @@
-pub mod Resting
-pub mod Opens
-pub mod LinkedFiles
-pub mod Noting

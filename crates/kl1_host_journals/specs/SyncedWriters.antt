@@ -1,7 +1,0 @@
--- What a writer that waits shows.
-use Rattle.kl1_host_journals.specs.Gates.{writer_behind}
-use Rattle.kl1_host_journals.specs.declared.synced_writer.SyncedWriter.{SyncedWriter}
-
--- the writer to which it writes
-abbrev pub writer_of : {T R : Type 0} → SyncedWriter T R → T
-writer_of w = writer_behind w.gate

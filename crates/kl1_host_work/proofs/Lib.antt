@@ -1,4 +1,0 @@
-pub mod NamesInOrder
-pub mod OpenedByName
-pub mod Restarts
-pub mod UsedNames

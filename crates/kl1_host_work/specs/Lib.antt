@@ -1,5 +1,0 @@
-pub mod AccountFiles
-pub mod Fronts
-pub mod Linkages
-pub mod Overruns
-pub mod Restarts

@@ -1,3 +1,0 @@
-pub mod Changing
-pub mod Keeps
-pub mod NameLists

@@ -1,6 +1,0 @@
-pub mod Lined
-pub mod Codes
-pub mod Slots
-pub mod Shown
-pub mod Reading
-pub mod Found

@@ -1,5 +1,0 @@
-use Rattle.kl1_machine.proofs.Words.{nobody_lets}
-use Rattle.kl1_machine.proofs.machine.Machine.shoen_that_lets.Goals as goal
-
-pub returns-then-self : goal.returns-then-self
-returns-then-self c = nobody_lets c.args.self.now.shoens.shoens c.args.self.now.shoens.work

@@ -1,5 +1,0 @@
-mod Parts
-mod Pendings
-mod Outcomes
-mod Sides
-mod OfTwo

@@ -1,2 +1,0 @@
--- Variables of a store that tests wait for.
-pub use Rattle.kl1_store.specs.Unbound.{IsUnbound}

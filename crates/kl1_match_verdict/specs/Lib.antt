@@ -1,4 +1,0 @@
-pub mod Rising
-pub mod Outcomes
-pub mod Choices
-pub mod Candidates

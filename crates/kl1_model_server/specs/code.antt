@@ -1,2 +1,0 @@
--- Words of contracts of code; no promise speaks of them.
-pub mod Streams

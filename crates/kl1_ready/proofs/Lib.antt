@@ -1,4 +1,0 @@
-pub mod Ready
-pub mod SettledStays
-pub mod Plans
-pub mod Words

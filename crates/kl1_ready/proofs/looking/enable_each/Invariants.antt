@@ -1,9 +1,0 @@
--- after the shifts that are left the goals are as after all
-use Rattle.kl1_ready.proofs.Words.{◌≡◌, drop, shifted_by}
-use Rattle.kl1_ready.proofs.looking.enable_each.Given as goal
-
-abbrev pub invariant-loop-shift : goal.invariant-loop-shift
-invariant-loop-shift l = record {
-  goals : shifted_by (drop l.shift-index l.shifts) l.goals.goals ≡ shifted_by l.shifts l.initial.goals.goals;
-  rest : l.goals ≡ record l.initial.goals { goals = l.goals.goals };
-}

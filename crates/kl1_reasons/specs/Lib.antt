@@ -1,4 +1,0 @@
-pub mod Reasons
-pub mod Judged
-pub mod Told
-pub mod Refused

@@ -1,6 +1,0 @@
-pub mod Accounts
-pub mod Alone
-pub mod Scripts
-pub mod Replays
-pub mod Steps
-pub mod Names

@@ -1,4 +1,0 @@
-pub mod Shoens
-pub mod Changes
-pub mod Shifts
-pub mod Meaning

@@ -1,3 +1,0 @@
-pub mod Tracked
-pub mod Paths
-pub mod Below

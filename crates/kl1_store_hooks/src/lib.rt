@@ -1,6 +1,0 @@
-//! Numbers that hang on the variables that they wait for.
-#![tactic(auto)]
-
-mod hanging;
-
-pub use hanging::hang_on;

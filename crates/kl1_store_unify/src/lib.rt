@@ -1,6 +1,0 @@
-//! Unification on a store, all or nothing.
-#![tactic(auto)]
-
-mod unification;
-
-pub use unification::unify;

@@ -1,7 +1,0 @@
-pub mod Sums
-pub mod Numbers
-pub mod Steps
-pub mod Making
-pub mod Raising
-pub mod Adding
-pub mod AddingUp

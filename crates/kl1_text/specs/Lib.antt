@@ -1,3 +1,0 @@
-pub mod BuiltIns
-pub mod Reading
-pub mod Words

@@ -1,9 +1,0 @@
-use Rattle.kl1_user_account.proofs.Words.{length, sym, arith, le-leb, start_line, MOST_LINE_BYTES}
-use Rattle.kl1_user_account.proofs.PrintLengths.{start_short}
-use Rattle.kl1_user_account.proofs.line_length.fits_start.Goals as goal
-
-pub returns-then-is_short : goal.returns-then-is_short
-returns-then-is_short c =
-    let a = c.args.allowance in
-    let t = c.args.goal.now in
-    sym (le-leb (length (start_line a c.args.low c.args.high t)) MOST_LINE_BYTES (start_short a c.args.low c.args.high t (omega arith) (omega arith) (omega arith) (c.is_short.ensures c.if-is_short.true)))

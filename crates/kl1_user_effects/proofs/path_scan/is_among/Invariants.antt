@@ -1,6 +1,0 @@
-use Rattle.kl1_user_effects.proofs.Words.{◌≡◌, drop, is_among}
-use Rattle.kl1_user_effects.proofs.path_scan.is_among.Given as goal
-
--- the number is among those that are left as among all
-abbrev pub invariant-loop-other : goal.invariant-loop-other
-invariant-loop-other l = is_among l.number (drop l.other-index l.numbers) ≡ is_among l.number l.numbers

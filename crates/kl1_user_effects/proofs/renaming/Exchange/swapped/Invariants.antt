@@ -1,6 +1,0 @@
-use Rattle.kl1_user_effects.proofs.Words.{◌≡◌, take, swapped_all}
-use Rattle.kl1_user_effects.proofs.renaming.Exchange.swapped.Given as goal
-
--- the name after the exchanges so far
-abbrev pub invariant-loop-place : goal.invariant-loop-place
-invariant-loop-place l = l.now ≡ swapped_all (take l.place l.self.spares.now) (take l.place l.self.numbers.now) l.fn.name

@@ -1,4 +1,0 @@
-pub mod Seated
-pub mod Steps
-pub mod Runs
-pub mod Makes

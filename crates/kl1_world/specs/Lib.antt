@@ -1,2 +1,0 @@
-pub mod Seating
-pub mod Worlds

@@ -1,1 +1,0 @@
-autocmd BufNewFile,BufRead *.kl1 setfiletype kl1

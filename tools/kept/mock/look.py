@@ -1,0 +1,20 @@
+import sys; sys.path.insert(0,"/tmp/mock")
+from cdp import Browser
+b=Browser(); b.send("Page.enable"); b.send("Runtime.enable"); b.send("Log.enable"); b.send("Network.enable")
+b.send("Page.navigate",url="http://127.0.0.1:7999/")
+b.wait("!document.getElementById('login-page').hidden")
+b.shot("/tmp/mock/login.png",400,700)
+b.js("document.querySelector('#login [name=name]').value='alice';document.querySelector('#login [name=key]').value='bad';document.querySelector('#login button').click()")
+b.wait("document.getElementById('notice').textContent.includes('wrong')")
+b.js("document.querySelector('#login [name=name]').value='alice';document.querySelector('#login [name=key]').value='k1';document.querySelector('#login button').click()")
+b.wait("!document.getElementById('main').hidden && document.querySelectorAll('#shoens li').length==4 && document.querySelectorAll('#reports li').length==3")
+b.js("document.getElementById('source').value=':- module m.\\nbad\\n';document.getElementById('source').dispatchEvent(new Event('input'));document.querySelector('#module button').click()")
+b.wait("document.querySelectorAll('#reasons li').length==1")
+b.js("document.querySelector('#line [name=line]').value='status 1';document.querySelector('#line button').click()")
+b.wait("document.querySelectorAll('#console li').length==2")
+for w,h in ((1400,1000),(400,800)):
+    for d in (False,True): b.shot(f"/tmp/mock/page-{w}-{'dark' if d else 'light'}.png",w,h,d)
+for e in b.events:
+    if e["method"] in ("Runtime.exceptionThrown","Log.entryAdded"): print(str(e)[:300])
+    if e["method"]=="Network.requestWillBeSent" and "127.0.0.1:7999" not in e["params"]["request"]["url"]: print("request to", e["params"]["request"]["url"])
+b.close()
