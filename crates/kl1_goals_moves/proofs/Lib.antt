@@ -4,5 +4,6 @@ pub mod Looks
 pub mod CodeLists
 pub mod Candidates
 pub mod Taking
+pub mod Bodies
 pub mod Hooked
 pub mod Substituting

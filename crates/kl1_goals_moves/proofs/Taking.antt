@@ -1,13 +1,12 @@
 -- What a call can do by a clause's number, by cells.
-use Rattle.std.proofs.Common.{◌≡◌, ℕ, zero, suc, ◌+◌, ◌-◌, ◌<◌, ◌≤◌, Bool, true, false, List, [], ◌∷◌, ◌++◌, length, map, drop, get_or, refl, sym, ap, ◌∙◌, subst, arith, append-nil}
-use Rattle.std.specs.Prelude.{Option, Some, None, slice_get, slice_index_or}
-use Rattle.std.proofs.lemmas.List.{length-map}
+use Rattle.std.proofs.Common.{◌≡◌, ℕ, zero, suc, ◌-◌, ◌<◌, ◌≤◌, Bool, true, false, List, [], ◌∷◌, ◌++◌, length, map, drop, get_or, refl, sym, ap, ◌∙◌, subst, arith, append-nil}
+use Rattle.std.specs.Prelude.{Option, Some, None, slice_get}
 use Rattle.kl1_model.specs.declared.built_in.BuiltIn.{BuiltIn}
+use Rattle.kl1_model.specs.declared.built_in.BuiltIn.TheVariants.{Failure}
 use Rattle.kl1_model.specs.Term.{Term}
 use Rattle.kl1_model.specs.Module.{Clause, Module}
 use Rattle.kl1_model.specs.Match as model
 use Rattle.kl1_model.specs.Match.{call_of, clauses_of, Candidate}
-use Rattle.kl1_model.specs.Instance.{body_instance, body_priorities}
 use Rattle.kl1_model.specs.declared.number.Number.{Number}
 use Rattle.kl1_model.specs.declared.number.Number.TheVariants.{Value, Overflow, ZeroDivisor}
 use Rattle.kl1_model.specs.Text.{text_of}
@@ -17,11 +16,10 @@ use Rattle.kl1_model.specs.declared.rules.Rules.{Rules}
 use Rattle.kl1_model.specs.State.{most_spelled}
 use Rattle.kl1_model.specs.Reduction as model_moves
 use Rattle.kl1_model.specs.Reduction.{raises, unifies, goes, illegal_input, built_in_move}
-use Rattle.kl1_model.specs.code.Waits.{move_by, awaited_by_term, awaited_by_call, awaited_by_clauses, awaited_at_head, awaited_by_built_in}
+use Rattle.kl1_model.specs.code.Waits.{move_by, term_clause, least_clause, awaited_by_term, awaited_by_call, awaited_by_clauses, awaited_at_head, awaited_by_built_in}
 use Rattle.kl1_model.proofs.LeastClause.{term_clause-call, term_clause-built_in, term_clause-none}
 use Rattle.kl1_text.specs.Reading.{Reads}
 use Rattle.kl1_store.specs.declared.cell.Cell.{Cell}
-use Rattle.kl1_store.specs.declared.qualified.Qualified.{Qualified}
 use Rattle.kl1_store.specs.declared.cell.Cell.TheVariants.{Integer}
 use Rattle.kl1_store.specs.Held.{Held}
 use Rattle.kl1_store.specs.Meaning.{term_of}
@@ -30,10 +28,10 @@ use Rattle.kl1_clause.specs.declared.predicate.Predicate.{Predicate}
 use Rattle.kl1_clause.specs.Clauses.{IsCompiled, AreCompiled}
 use Rattle.kl1_clause.specs.Predicates.{AreSome}
 use Rattle.kl1_match.specs.declared.place.Place.{Place}
-use Rattle.kl1_match.specs.Instances.{IsClause, replacements_of, IsInstance}
+use Rattle.kl1_match.specs.Instances.{IsClause, replacements_of}
 use Rattle.kl1_match.specs.Verdicts.{arguments_of_goal}
 use Rattle.kl1_match_verdict.specs.Choices.{AreClauses, Chooses, IsChoice}
-use Rattle.kl1_match_verdict.specs.Candidates.{TakenAs, Takes}
+use Rattle.kl1_match_verdict.specs.Candidates.{IsTaken, TakenAs, Takes, TakesLeast}
 use Rattle.kl1_match.specs.Waiting.{AreSame}
 use Rattle.kl1_match.proofs.Cells.{at_integer}
 use Rattle.kl1_match.proofs.Naming.{same_as_itself}
@@ -58,9 +56,8 @@ use Rattle.kl1_goals_moves.specs.Spellings.{spelling_of}
 use Rattle.kl1_goals_moves.specs.declared.order.ExecuteArguments.{ExecuteArguments}
 use Rattle.kl1_goals_moves.specs.Orders.{order_at, IsOrder}
 use Rattle.kl1_goals_moves.specs.Kinds.{IsKind, IsCall, IsUnification, IsAssignment, IsSpelling, IsExecution, IsTrueGoal}
-use Rattle.kl1_goals_moves.specs.Moves.{HasPredicate, FailsAs, candidate_at, IsCandidate, CommitsAs, MovesAs}
+use Rattle.kl1_goals_moves.specs.Moves.{HasPredicate, FailsAs, candidate_at, CommitsAs, MovesAs}
 use Rattle.kl1_goals_moves.specs.Standing.{StandsAs}
-use Rattle.kl1_goals_moves.specs.Bodies.{IsBody, AreNeeds}
 use Rattle.kl1_goals_moves.proofs.Candidates.{none_behind, fails_by, goes_on_by, commits_by, by_zero}
 use Rattle.kl1_model.specs.code.Awaited.{awaited_by_found}
 
@@ -124,11 +121,19 @@ taken_by f h c p cs number place places true e a t =
 taken_by f h c p cs number place places false e a t = ap (candidate_at f h c cs) (sym e) ∙ t
 
 -- whether a clause is a candidate decides the move by its number
-pub judged : {N : Type 0} (built : BuiltIn → N) (f : N → List ℕ) (h : Held N) (c : Call N) (p : Predicate N) (cs : List Clause) (number : ℕ) (goal : Cell N) (places : List (Place N)) (answer : Bool) → Reads built f → 0 < number → goal ≡ cell_of c →
+pub tried : {N : Type 0} (built : BuiltIn → N) (f : N → List ℕ) (h : Held N) (c : Call N) (p : Predicate N) (cs : List Clause) (number : ℕ) (goal : Cell N) (places : List (Place N)) (answer : Bool) → Reads built f → 0 < number → goal ≡ cell_of c →
     AreCompiled (map f p.names.now) p.clauses.now cs → Takes built p.names.now p.clauses.now (number - 1) h goal places answer → CommitsAs f h c p cs number places (by_answer (number - 1) answer)
-judged {N = N} built f h c p cs number goal places answer r some own a t =
+tried {N = N} built f h c p cs number goal places answer r some own a t =
     let P : Cell N → Type 0 = λ x. TakenAs f h p.clauses.now (map f p.names.now) cs (arguments_of_goal (term_of f h x)) (number - 1) places answer in
     taken_by f h c p cs number (number - 1) places answer (omega (arith, some)) a (subst P own (t.taken f r cs a))
+
+-- the clause that is known to be the least that accepts is one
+pub judged : {N : Type 0} (built : BuiltIn → N) (f : N → List ℕ) (h : Held N) (c : Call N) (p : Predicate N) (cs : List Clause) (number : ℕ) (goal : Cell N) (places : List (Place N)) → Reads built f → 0 < number → goal ≡ cell_of c → AreCompiled (map f p.names.now) p.clauses.now cs →
+    TakesLeast built p.names.now p.clauses.now (number - 1) h goal places → least_clause cs (arguments_at f h c) ≡ Some number → CommitsAs f h c p cs number places (Some (move.Commits (number - 1)))
+judged {N = N} built f h c p cs number goal places r some own a t least =
+    let P : Cell N → Type 0 = λ x. least_clause cs (arguments_of_goal (term_of f h x)) ≡ Some (suc (number - 1)) → IsTaken f h p.clauses.now (map f p.names.now) cs (arguments_of_goal (term_of f h x)) (number - 1) places in
+    let next : suc (number - 1) ≡ number = omega (arith, some) in
+    taken_by f h c p cs number (number - 1) places true next a (subst P own (t.taken f r cs a) (least ∙ ap (λ n. Some n) (sym next)))
 
 -- ---- moves of terms
 
@@ -316,11 +321,22 @@ call_fails_as {N = N} f h rules modules t k c n p places text found e z fails is
     fails_as f h rules modules t c n p places text found (subst P e is) z (fails (clauses_of modules (call_at f h c)) (subst Q e has))
 
 pub call_commits_as : {N : Type 0} (f : N → List ℕ) (h : Held N) (rules : Rules) (modules : List Module) (t : Term) (k : Kind N) (c : Call N) (n : ℕ) (p : Predicate N) (places : List (Place N)) (text : List ℕ) (found : Option (Move N)) → k ≡ kind.Calls c → (n ≡ 0 → ⊥) →
-    ((cs : List Clause) → AreCompiled (map f p.names.now) p.clauses.now cs → CommitsAs f h c p cs n places found) → IsKind f h t k → HasPredicate f h modules k p → MovesAs f h rules modules t n p places text found
+    (AreCompiled (map f p.names.now) p.clauses.now (clauses_of modules (call_at f h c)) → CommitsAs f h c p (clauses_of modules (call_at f h c)) n places found) → IsKind f h t k → HasPredicate f h modules k p → MovesAs f h rules modules t n p places text found
 call_commits_as {N = N} f h rules modules t k c n p places text found e z takes is has =
     let P : Kind N → Type 0 = λ x. IsKind f h t x in
     let Q : Kind N → Type 0 = λ x. HasPredicate f h modules x p in
-    commits_as f h rules modules t c n p places text found (subst P e is) (positive n z) (takes (clauses_of modules (call_at f h c)) (subst Q e has))
+    commits_as f h rules modules t c n p places text found (subst P e is) (positive n z) (takes (subst Q e has))
+
+-- by which clause a call steps is the least that accepts
+pub least_of : {N : Type 0} (f : N → List ℕ) (h : Held N) (rules : Rules) (modules : List Module) (t : Term) (k : Kind N) (c : Call N) (o : Option ℕ) → k ≡ kind.Calls c → IsKind f h t k → term_clause rules modules t ≡ o → least_clause (clauses_of modules (call_at f h c)) (arguments_at f h c) ≡ o
+least_of {N = N} f h rules modules t k c o e is judged =
+    let P : Kind N → Type 0 = λ x. IsKind f h t x in
+    sym (term_clause-call rules modules t (call_at f h c) (subst P e is).is) ∙ judged
+
+pub judged_fails : {N : Type 0} (f : N → List ℕ) (h : Held N) (rules : Rules) (modules : List Module) (t : Term) (k : Kind N) (c : Call N) (n : ℕ) → k ≡ kind.Calls c → n ≡ 0 → IsKind f h t k → term_clause rules modules t ≡ Some n → move_by rules modules t n ≡ Some (raises (text_of Failure))
+judged_fails {N = N} f h rules modules t k c n e z is judged =
+    let P : Kind N → Type 0 = λ x. IsKind f h t x in
+    fails_by rules modules t (call_at f h c) n (subst P e is).is z (least_of f h rules modules t k c (Some 0) e is (judged ∙ ap (λ m. Some m) z))
 
 pub goal_assigns_as : {N : Type 0} (f : N → List ℕ) (h : Held N) (rules : Rules) (modules : List Module) (t : Term) (k : Kind N) (a b : Cell N) (x : Evaluated ℕ) (n : ℕ) (p : Predicate N) (places : List (Place N)) (text : List ℕ) (found : Option (Move N)) → k ≡ kind.Assigns a b → n ≡ 0 → found ≡ assigning.assigned a x →
     evaluated_of (λ v. v) x ≡ evaluated (term_of f h b) → IsKind f h t k → MovesAs f h rules modules t n p places text found
@@ -356,40 +372,3 @@ kind_stands {N = N} built f h rules modules t k c goal p before after choice r e
     let P : Kind N → Type 0 = λ x. IsKind f h t x in
     let Q : Kind N → Type 0 = λ x. HasPredicate f h modules x p in
     call_stands f h rules modules t c goal chosen.named after choice (subst P e is) own (chosen.awaited ∙ ap (λ l. l ++ chosen.named) empty) (chosen.chooses f r (clauses_of modules (call_at f h c)) (subst Q e has))
-
--- ---- bodies
-
-at_place : (cs : List CompiledClause) (place : ℕ) (x y : CompiledClause) → slice_get cs place ≡ Some y → get_or cs place x ≡ y
-at_place [] place x y e = absurd (cc)
-at_place (c ∷ cs) zero x y e = cc
-at_place (c ∷ cs) (suc place) x y e = at_place cs place x y e
-
-pub body_of : {N : Type 0} (built : BuiltIn → N) (f : N → List ℕ) (p : Predicate N) (place : ℕ) (compiled : CompiledClause) (places at : List (Place N)) (old new : Held N) (goals : List (Qualified N)) (k : Candidate) → Reads built f →
-    compiled ≡ slice_index_or p.clauses.now place compiled → at ≡ places → IsInstance built p.names.now compiled at old new goals → IsCandidate f old p place places k → IsBody f k old new goals
-body_of {N = N} built f p place compiled places at old new goals k r here same i is =
-    let found : is.compiled ≡ compiled = sym (here ∙ at_place p.clauses.now place compiled is.compiled is.at) in
-    let P : CompiledClause → Type 0 = λ x. IsCompiled (map f p.names.now) x k.clause in
-    let Q : List (Place N) → Type 0 = λ l. IsInstance built p.names.now compiled l old new goals in
-    let c = subst P found is.is in
-    let j = subst Q same i in
-    let b = j.goals_are f r k.clause c in
-    record {
-      terms = b.terms ∙ ap (λ rs. body_instance k.clause rs (old.variables - 1)) is.places_are;
-      variables = j.variables ∙ ap (λ n. old.variables + n) c.fresh_variables;
-      kept = b.kept;
-    }
-
--- the clause at a place is the candidate's
-candidate_there : {N : Type 0} (f : N → List ℕ) (h : Held N) (p : Predicate N) (place : ℕ) (places : List (Place N)) (x : CompiledClause) (k : Candidate) → x ≡ slice_index_or p.clauses.now place x → IsCandidate f h p place places k → IsCompiled (map f p.names.now) x k.clause
-candidate_there {N = N} f h p place places x k here is =
-    let P : CompiledClause → Type 0 = λ c. IsCompiled (map f p.names.now) c k.clause in
-    subst P (sym (here ∙ at_place p.clauses.now place x is.compiled is.at)) is.is
-
-pub priorities_there : {N : Type 0} (f : N → List ℕ) (h : Held N) (p : Predicate N) (place : ℕ) (places : List (Place N)) (x : CompiledClause) (k : Candidate) (found : List (Option ℕ)) → x ≡ slice_index_or p.clauses.now place x → found ≡ x.priorities.items → IsCandidate f h p place places k → found ≡ body_priorities k.clause
-priorities_there f h p place places x k found here own is = own ∙ (candidate_there f h p place places x k here is).priorities
-
-pub needs_there : {N : Type 0} (f : N → List ℕ) (h : Held N) (p : Predicate N) (place : ℕ) (places : List (Place N)) (x : CompiledClause) (k : Candidate) (goals : ℕ) → x ≡ slice_index_or p.clauses.now place x → goals ≡ length x.priorities.items → IsCandidate f h p place places k →
-    AreNeeds k.clause (record { goals = goals; variables = x.fresh_variables; nodes = x.nodes })
-needs_there f h p place places x k goals here own is =
-    let c = candidate_there f h p place places x k here is in
-    record { goals = own ∙ ap length c.priorities ∙ length-map k.clause.body (λ g. g.priority); variables = c.fresh_variables; nodes = c.nodes }

@@ -1,5 +1,5 @@
 -- Which reductions are refused.
-use Rattle.kl1_machine.proofs.Words.{◌≡◌, ℕ, ◌==◌, ◌&&◌, ◌||◌, if◌then◌else◌, Bool, true, false, List, map, refl, sym, ap, ◌∙◌, Option, Some, None, option_map, find, AllByRecursion, State, is_enabled, is_enabled_in, reduce, refuse, syntax, step_refused, journal_full, reduced, is_number, is_full, needs_entry, with_reduction, is_in_run, step, Action, reads, moves, acted, task_action, reduce_goal, reduced_by, CellName, Held, control_as, Place, Goal, is_monitor, Shoen, Has, enabled_is, Program, Step, Journal, Reading, Fits, Means, meaning, task_with, goal_with, shoen_with, aim, IsEnabled, AreEnabled, Knows, worked, Machine, made, Plan, IsPlan, DoesNothing, IsSteppable, Refuses}
+use Rattle.kl1_machine.proofs.Words.{◌≡◌, ℕ, ◌==◌, ◌&&◌, ◌||◌, if◌then◌else◌, Bool, true, false, List, map, refl, sym, ap, ◌∙◌, Option, Some, None, option_map, find, AllByRecursion, State, is_enabled, is_enabled_in, reduce, refuse, syntax, step_refused, journal_full, reduced, is_number, is_full, needs_entry, with_reduction, is_in_run, step, Action, reads, moves, acted, task_action, reduce_goal, reduced_by, CellName, Held, control_as, Place, Task, Goal, is_monitor, Shoen, Has, enabled_is, contents, Program, Step, Journal, Reading, Fits, Means, meaning, task_with, goal_with, shoen_with, aim, task_clause, control_with, IsSettled, IsEnabled, AreEnabled, worked, Machine, made, Plan, Judges, IsPlan, DoesNothing, IsRested, IsSteppable, Refuses}
 use Rattle.kl1_model.specs.State.{goal_at}
 use Rattle.kl1_goals.specs.Lists.{has_number}
 use Rattle.kl1_ready.specs.declared.planning.Plan.TheVariants as plan
@@ -65,23 +65,34 @@ steps_some f s m n c g x full is all e room =
     steps_by f s m n c g true is.numbers is.found is.enabled all ∙ ap (reduced_by z in_run k) e
     ∙ ap (λ b. if b then refuse z journal_full else record { state = acted k x (with_reduction in_run z); reply = reduced }) room
 
--- goal `n` may step, and readings that fit the names of a machine read the modules
+-- ---- which are refused
+
+-- a reading that fits the names of a machine at rest reads the modules, and by it each goal was judged
+pub rested_judges : (program : Program) (m : Machine) (n : ℕ) (g : Goal CellName) (f : Reading) → IsRested program m → find (has_number n) m.goals.goals ≡ Some g → Fits m.names.names f → Judges program m.store.held g f
+rested_judges program m n g f rested found fits =
+    let t = meaning f m.store.held in
+    let settled = found_holds (IsSettled f m.store.hooks m.store.held program m.shoens.shoens) n m.goals.goals g (rested.settled f fits) found in
+    record {
+      knows = record { reads = fits.reads; rows = rested.rows f fits };
+      judged = λ x c task stands. ap (λ (k : Task CellName). task_clause program.rules (contents program.loaded) (control_with t m.shoens.shoens g.shoen) (task_with t k)) (sym task) ∙ sym settled.standing ∙ stands;
+    }
+
+-- goal `n` of a machine at rest may step
 pub record MayStep (program : Program) (m : Machine) (n c : ℕ) (g : Goal CellName) : Type 0 where
-  pub enabled : AreEnabled m.shoens.shoens m.shoens.work m.goals.goals
+  pub rested : IsRested program m
   pub steppable : IsSteppable m.goals.goals n c g
-  pub knows : (f : Reading) → Fits m.names.names f → Knows program.loaded f
 
 -- a goal that can do nothing is refused
 pub nothing_refused : (program : Program) (full : Bool) (m : Machine) (n c : ℕ) (g : Goal CellName) → MayStep program m n c g → DoesNothing program m.store.held (made m) g c → Refuses program full n c m Step
 nothing_refused program full m n c g may does = λ f fits s is room.
     let z = state_in f s m in
     let can = may.steppable in
-    steps_by f s m n c g true can.numbers can.found can.enabled may.enabled
-    ∙ ap (reduced_by z (is_in_run z n c) (goal_with (meaning f m.store.held) g)) (does f (may.knows f fits) s is)
+    steps_by f s m n c g true can.numbers can.found can.enabled may.rested.enabled
+    ∙ ap (reduced_by z (is_in_run z n c) (goal_with (meaning f m.store.held) g)) (does f (rested_judges program m n g f may.rested can.found fits) s is)
 
 -- what a goal can do is refused if it needs an entry and the journal is full
 pub full_refused : (program : Program) (full : Bool) (m : Machine) (n c : ℕ) (g : Goal CellName) (places : List (Place CellName)) (text : List ℕ) (p : Plan) → MayStep program m n c g → full ≡ true → IsPlan program m.store.held (made m) g c places text p → Refuses program full n c m Journal
 full_refused program full m n c g places text (plan.Reads control) may full_is p = λ f fits s is room.
-    steps_some f s m n c g (reads (control_as f m.store.held control)) true may.steppable may.enabled (p.does f (may.knows f fits) s is) (room ∙ full_is)
+    steps_some f s m n c g (reads (control_as f m.store.held control)) true may.steppable may.rested.enabled (p.does f (rested_judges program m n g f may.rested may.steppable.found fits) s is) (room ∙ full_is)
 full_refused program full m n c g places text (plan.Moves a) may full_is p = λ f fits s is room.
-    steps_some f s m n c g (moves (aim f m.store.held a.cell) (p.move f)) true may.steppable may.enabled (p.does f (may.knows f fits) s is) (room ∙ full_is)
+    steps_some f s m n c g (moves (aim f m.store.held a.cell) (p.move f)) true may.steppable may.rested.enabled (p.does f (rested_judges program m n g f may.rested may.steppable.found fits) s is) (room ∙ full_is)

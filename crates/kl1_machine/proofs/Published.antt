@@ -1,12 +1,12 @@
 -- What a reduction has left when its name is published.
-use Rattle.kl1_machine.proofs.Words.{◌≡◌, ℕ, ◌&&◌, false, List, refl, sym, ap, ◌∙◌, subst, Option, Some, None, State, is_in_run, reduce, reduced, Transition, is_full, needs_entry, with_reduction, step, Action, acted, CellName, Known, number_by, Cell, Atom, Binding, Held, IsIn, with_binding, contents, Program, Spelled, Reading, Fits, meaning, goal_with, texts_of, names_with, NameShelf, AreSmall, spare, IsNewName, AreSettled, Made, IsMadeIn, worked, Machine, made, Trail, Keeps, IsRested, IsBoundLast, HoldsSpare, Patches, CanPublish, IsNamed, Publishes, exchanged, ReadsAlike, goals_in_by, shoens_in_by, with_spare, spare_texts, spare_fits, spare_reads, exchanged_fits, settled_alike, inl, inr}
+use Rattle.kl1_machine.proofs.Words.{◌≡◌, ℕ, ◌&&◌, false, List, refl, sym, ap, ◌∙◌, subst, Option, Some, None, State, is_in_run, reduce, reduced, Transition, is_full, needs_entry, with_reduction, step, Action, acted, CellName, Known, number_by, Cell, Atom, Binding, Held, IsIn, with_binding, contents, Program, Spelled, Reading, Fits, meaning, goal_with, texts_of, names_with, NameShelf, AreSmall, spare, IsNewName, AreSettled, Made, IsMadeIn, worked, Machine, made, Trail, Keeps, IsRested, IsBoundLast, HoldsSpare, Patches, CanPublish, IsNamed, Publishes, Judges, exchanged, ReadsAlike, goals_in_by, shoens_in_by, with_spare, spare_texts, spare_fits, spare_reads, exchanged_fits, settled_alike, inl, inr}
 use Rattle.std.proofs.lemmas.List.{same_from_push}
 use Rattle.kl1_model.specs.State as model
 use Rattle.kl1_atoms.specs.Knowing.{option_cases}
 use Rattle.kl1_machine.specs.Reducing.{Reduces as HasReduced}
-use Rattle.kl1_machine.proofs.Planned.{state_in, steps_some}
+use Rattle.kl1_machine.proofs.Planned.{state_in, steps_some, rested_judges}
 use Rattle.kl1_machine.proofs.Publishing.{published_made}
-use Rattle.kl1_machine.proofs.Stepped.{rested_knows, ReadBoth, bare, same_goal, same_action}
+use Rattle.kl1_machine.proofs.Stepped.{ReadBoth, bare, same_goal, same_action}
 
 -- ---- cells of a store whose last binding is to another cell
 
@@ -51,6 +51,10 @@ record Comes (program : Program) (n c : ℕ) (m u v : Machine) : Type 0 where
   published : Publishes u v
 
 module _ (program : Program) (n c : ℕ) (m u v : Machine) (q : Comes program n c m u v) where
+  -- the goal was judged by readings of the names
+  judged : (f : Reading) → Fits m.names.names f → Judges program m.store.held q.reduces.goal f
+  judged f fits = rested_judges program m n q.reduces.goal f q.rested q.reduces.steppable.found fits
+
   -- two readings, of names that have numbers in two ways, read the same state
   same_states : (more less : List Known) (last first : Held CellName) → Numbers m u more last → Numbers m u less first → (f g : Reading) → Fits more f → Fits less g → (s : State) → worked f s last (made u) ≡ worked g s first (made u)
   same_states more less last first a b f g one two s =
@@ -59,7 +63,7 @@ module _ (program : Program) (n c : ℕ) (m u v : Machine) (q : Comes program n 
       let k = q.reduces.goal in
       let was : Reading → State = λ q. state_in q s m in
       let both : ReadBoth m n k f g = record { alike = q.alike; found = q.reduces.steppable.found; first = fits; second = other } in
-      let same : q.reduces.action f ≡ q.reduces.action g = same_action program m n c k f g both (q.reduces.action f) (q.reduces.action g) (q.reduces.does f (rested_knows program m f q.rested fits)) (q.reduces.does g (rested_knows program m g q.rested other)) in
+      let same : q.reduces.action f ≡ q.reduces.action g = same_action program m n c k f g both (q.reduces.action f) (q.reduces.action g) (q.reduces.does f (judged f fits)) (q.reduces.does g (judged g other)) in
       sym (q.reduces.acts more a.number last a.named a.patches f one s)
       ∙ ap (λ (x : model.Goal). acted x (q.reduces.action f) (was f)) (same_goal program m n k f g both)
       ∙ ap (λ (x : Action). acted (goal_with (meaning g m.store.held) k) x (was f)) same
@@ -139,7 +143,7 @@ module _ (program : Program) (n c : ℕ) (m u v : Machine) (q : Comes program n 
       let a = published in
       let in_run = is_in_run (state_in f s m) n c in
       let z = with_reduction in_run s in
-      steps_some f s m n c q.reduces.goal (q.reduces.action f) false q.reduces.steppable q.rested.enabled (q.reduces.does f (rested_knows program m f q.rested (a.named.fits f fits)) s is) room
+      steps_some f s m n c q.reduces.goal (q.reduces.action f) false q.reduces.steppable q.rested.enabled (q.reduces.does f (judged f (a.named.fits f fits)) s is) room
       ∙ ap (λ (x : State). let y : Transition = record { state = x; reply = reduced } in y)
       (q.reduces.acts v.names.names a.number v.store.held a.named a.patches f fits z ∙ ap (worked f z v.store.held) (sym (published_made u v q.published)))
 

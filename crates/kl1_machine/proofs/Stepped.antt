@@ -1,5 +1,5 @@
 -- Reductions by which goals make moves.
-use Rattle.kl1_machine.proofs.Words.{◌≡◌, ℕ, ◌<◌, ◌||◌, true, List, [], ◌∷◌, ◌++◌, length, map, refl, sym, ap, ◌∙◌, subst, find, AllByRecursion, Term, atom, State, charge, after_reduction, Action, moves, moved, names, task_action, CellName, Known, number_by, Cell, Held, IsFormed, Predicate, Place, Move, MoveIn, Goal, is_other, is_enabled_at, Numbered, contents, Program, Reading, Fits, Means, meaning, task_with, goal_with, aim, IsEnabled, IsOwned, AreSmall, keeps_names, name_of, IsNewName, name_for, Knows, worked, others_read, Machine, PlannedMove, made, having_goals, IsRested, Making, ReadsText, ReadsAll, CanPublish, ReadsNew, IsNamed, StepsAs, Reschedules, CanDo, MovesBy, IsSteppable, ReadsAlike, IsAtomAt, atom_at, otherwise, otherwise_fits, otherwise_other, both_read, first_read, second_read, as_modules, fits_modules, modules_fit, same_text, inl, inr}
+use Rattle.kl1_machine.proofs.Words.{◌≡◌, ℕ, ◌<◌, ◌||◌, true, List, [], ◌∷◌, ◌++◌, length, map, refl, sym, ap, ◌∙◌, subst, find, AllByRecursion, Term, atom, State, charge, after_reduction, Action, moves, moved, names, task_action, CellName, Known, number_by, Cell, Held, IsFormed, Predicate, Place, Move, MoveIn, Goal, is_other, is_enabled_at, Numbered, contents, Program, Reading, Fits, Means, meaning, task_with, goal_with, aim, IsEnabled, IsOwned, AreSmall, keeps_names, name_of, IsNewName, name_for, Knows, worked, others_read, Machine, PlannedMove, made, having_goals, IsRested, Making, ReadsText, ReadsAll, CanPublish, ReadsNew, IsNamed, StepsAs, Reschedules, Judges, CanDo, MovesBy, IsSteppable, ReadsAlike, IsAtomAt, atom_at, otherwise, otherwise_fits, otherwise_other, both_read, second_read, as_modules, fits_modules, modules_fit, same_text, inl, inr}
 use Rattle.std.proofs.Common.{Option, Some, None}
 use Rattle.std.proofs.lemmas.Bool.{cases_Bool}
 use Rattle.std.specs.Prelude.{filter}
@@ -10,14 +10,8 @@ use Rattle.kl1_model.specs.Reduction as reduction
 use Rattle.kl1_goals_moves.specs.declared.moves.Move.TheVariants as made_move
 use Rattle.kl1_goals.specs.Lists.{has_number}
 use Rattle.kl1_machine.specs.Reducing.{Reduces}
-use Rattle.kl1_machine.proofs.Planned.{found_holds}
+use Rattle.kl1_machine.proofs.Planned.{found_holds, rested_judges}
 use Rattle.kl1_machine.proofs.Resting.{looked_state}
-
--- ---- what a machine knows
-
--- a reading that fits the names reads the modules
-pub rested_knows : (program : Program) (m : Machine) (f : Reading) → IsRested program m → Fits m.names.names f → Knows program.loaded f
-rested_knows program m f rested fits = record { reads = fits.reads; rows = rested.rows f fits }
 
 -- ---- what a goal is for two readings
 
@@ -85,14 +79,18 @@ abbrev pub making : (program : Program) (m : Machine) (n c : ℕ) → IsChosen p
 making program m n c p = record { predicate = p.planned.predicate; move = p.planned.made; places = p.places; text = p.text }
 
 module _ (program : Program) (m : Machine) (n c : ℕ) (p : IsChosen program m n c) where
-  -- it makes the same move for readings of the names
+  -- it was judged by readings of the names
+  judged : (f : Reading) → Fits m.names.names f → Judges program m.store.held p.goal f
+  judged f fits = rested_judges program m n p.goal f p.rested p.steppable.found fits
+
+  -- it makes the same move for these
   same_move : (f h : Reading) → Fits m.names.names f → Fits m.names.names h → p.makes.move f ≡ p.makes.move h
   same_move f h fits other =
       let one = aim f m.store.held p.planned.cell in
       let two = aim h m.store.held p.planned.cell in
       let q = p.makes in
       move_same one two (q.move f) (q.move h)
-      (same_action program m n c p.goal f h (record { alike = p.alike; found = p.steppable.found; first = fits; second = other }) (moves one (q.move f)) (moves two (q.move h)) (q.does f (rested_knows program m f p.rested fits)) (q.does h (rested_knows program m h p.rested other)))
+      (same_action program m n c p.goal f h (record { alike = p.alike; found = p.steppable.found; first = fits; second = other }) (moves one (q.move f)) (moves two (q.move h)) (q.does f (judged f fits)) (q.does h (judged h other)))
 
   -- a cell that it may unify with a name that is new isn't this name
   not_yet : (y : Cell CellName) (f : Reading) → p.planned.made ≡ made_move.Names y → Fits m.names.names f → number_by m.names.names p.text ≡ None → meaning f m.store.held y ≡ atom p.text → ⊥
@@ -104,8 +102,8 @@ module _ (program : Program) (m : Machine) (n c : ℕ) (p : IsChosen program m n
       let other : Fits known h = otherwise_fits known text f none fits in
       let uses = rw is at q.runnable.inside in
       let at : IsAtomAt m.store.held y f text = atom_at f m.store.held y text p.formed uses.1 e in
-      let one = rw is at (q.is f (rested_knows program m f p.rested fits)) in
-      let two = rw is at (q.is h (rested_knows program m h p.rested other)) in
+      let one = rw is at (q.is f (judged f fits)) in
+      let two = rw is at (q.is h (judged h other)) in
       let same : meaning f m.store.held y ≡ meaning h m.store.held y = named_same (q.move f) (q.move h) text text (meaning f m.store.held y) (meaning h m.store.held y) (same_move f h fits other) one two in
       otherwise_other known text f at.number at.read (same_text (h at.number) text (sym (at.means h) ∙ sym same ∙ e))
 
@@ -135,16 +133,14 @@ moved_reduces program m u v n c p steps r = record {
       let g = p.goal in
       let ms = program.loaded ++ as_modules more in
       let fit : (q : Reading) → Knows ms q → Fits more q = λ q k. modules_fit q more k.reads (second_read q program.loaded (as_modules more) k.rows) in
-      let old : (q : Reading) → Knows ms q → Knows program.loaded q = λ q k. record { reads = k.reads; rows = first_read q program.loaded (as_modules more) k.rows } in
-      let own = rested_knows program m f p.rested (named.fits f fits) in
-      let knows : Knows ms f = record { reads = fits.reads; rows = both_read f program.loaded (as_modules more) own.rows (fits_modules f more fits) } in
+      let knows : Knows ms f = record { reads = fits.reads; rows = both_read f program.loaded (as_modules more) (p.rested.rows f (named.fits f fits)) (fits_modules f more fits) } in
       let name : v.name ≡ name_for p.planned.made m.names.names p.text = ap (λ (x : Machine). x.name) r.rest ∙ steps.name in
       let spelled : v.spelled ≡ u.spelled = ap (λ (x : Machine). x.spelled) r.rest in
       let so = rw (spelled, r.held) at patches in
       let reads = names_read program m n c p ms more key v.name fit named name in
       let change : State → State = λ z. after_reduction g.shoen (moved (goal_with (meaning f m.store.held) g) (aim f m.store.held p.planned.cell) (p.makes.move f) (charge g.shoen z)) in
       ap (λ (gs : List model.Goal). change (let z : State = record (worked f s m.store.held (made m)) { goals = gs } in z)) (others_read (meaning f m.store.held) g.number m.goals.goals)
-      ∙ (steps.turns ms p.makes.move key last reads so (λ q k. p.makes.is q (old q k))).states f knows s ∙ looked_state f s last u v r;
+      ∙ (steps.turns ms p.makes.move key last reads so (λ q k. p.makes.is q (judged program m n c p q (named.fits q (fit q k))))).states f knows s ∙ looked_state f s last u v r;
   spare_last = (let spelled : v.spelled ≡ u.spelled = ap (λ (x : Machine). x.spelled) r.rest in rw (spelled, r.held) steps.spare_last);
 }
 

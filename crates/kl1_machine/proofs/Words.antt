@@ -84,7 +84,7 @@ pub use Rattle.kl1_user_effects.proofs.LateFree.{closed_free, free_same, free_th
 pub use Rattle.kl1_user_effects.proofs.LateName.{settles_late, settles_early}
 pub use Rattle.kl1_user_effects.proofs.Lists.{all_append, all_filter, all_of, all_then, held_by, maps_as, maps_both}
 pub use Rattle.kl1_user_effects.proofs.Messages.{origin_in}
-pub use Rattle.kl1_user_effects.proofs.NameReadings.{IsAtomAt, as_modules, atom_at, both_read, first_read, fits_modules, modules_fit, otherwise, otherwise_fits, otherwise_other, same_text, second_read}
+pub use Rattle.kl1_user_effects.proofs.NameReadings.{IsAtomAt, as_modules, atom_at, both_read, fits_modules, modules_fit, otherwise, otherwise_fits, otherwise_other, same_text, second_read}
 pub use Rattle.kl1_user_effects.proofs.Publishing.{adds_to, fits_less, keeps_same}
 pub use Rattle.kl1_user_effects.proofs.Spares.{ReadsSpares, names_once, numbers_short, reads_spares}
 pub use Rattle.kl1_user_effects.proofs.States.{changed_count, changed_in, goals_in_by, in_grown, replaced_state, same_state, shoen_in_by, shoens_changed, shoens_in_by}
@@ -106,7 +106,7 @@ pub use Rattle.kl1_user_effects.specs.declared.spelled.Spelled.{Spelled}
 pub use Rattle.kl1_ready.proofs.Plans.{plan_moves, plan_reads}
 pub use Rattle.kl1_ready.proofs.Ready.{nobody_lets}
 pub use Rattle.kl1_ready.proofs.SettledStays.{HangsOnNone, StaysAlone, settled_more, stays_settled}
-pub use Rattle.kl1_ready.proofs.Words.{AreNames, AreShoensIn, Bool, CanDo, Cell, CellName, Contains, Control, DoesNothing, ExecuteArguments, Goal, Grown, Held, Hook, IsFormed, IsIn, IsMove, IsOrder, IsPlan, IsReadyAt, IsSettled, IsTaskIn, Knows, List, Made, MatchOption, Monitor, Move, MoveIn, MovesBy, None, Numbered, Option, Place, Predicate, Program, Qualified, Reading, Reads, ReadsBy, Reduces, Replacement, Shoen, Some, Substitutes, Task, Term, Variable, [], aim, among_contains, and_parts, ap, arith, breaks_off, built, contents, control_as, control_at, drop, eq-eqb, eqb-true, false, found_in, found_shoen_in, get_or, if◌then◌else◌, is_among, is_enabled_at, is_monitor, is_monitor_task, length, map, meaning, moves, ne_eqb, option_copied, option_map, order_at, reading_fits, reading_of, reads, refl, rules, shifted_by, shoen_with, subst, substituted, suc, sym, taken_places, task_action, task_with, tells, tells_other, text_of, true, whole, with_last, worked, ℕ, ◌&&◌, ◌++◌, ◌==◌, ◌||◌, ◌∙◌, ◌∷◌, ◌≡◌}
+pub use Rattle.kl1_ready.proofs.Words.{AreNames, AreShoensIn, Bool, CanDo, Cell, CellName, Contains, Control, DoesNothing, ExecuteArguments, Goal, Grown, Held, Hook, IsFormed, IsIn, IsMove, IsOrder, IsPlan, IsReadyAt, IsSettled, IsTaskIn, Judges, Knows, List, Made, MatchOption, Monitor, Move, MoveIn, MovesBy, None, Numbered, Option, Place, Predicate, Program, Qualified, Reading, Reads, ReadsBy, Reduces, Replacement, Shoen, Some, Substitutes, Task, Term, Variable, [], aim, among_contains, and_parts, ap, arith, breaks_off, built, contents, control_as, control_at, control_with, drop, eq-eqb, eqb-true, false, found_in, found_shoen_in, get_or, if◌then◌else◌, is_among, is_enabled_at, is_monitor, is_monitor_task, length, map, meaning, moves, ne_eqb, option_copied, option_map, order_at, reading_fits, reading_of, reads, refl, rules, shifted_by, shoen_with, subst, substituted, suc, sym, taken_places, task_action, task_clause, task_with, tells, tells_other, text_of, true, whole, with_last, worked, ℕ, ◌&&◌, ◌++◌, ◌==◌, ◌||◌, ◌∙◌, ◌∷◌, ◌≡◌}
 unfoldable pub use Rattle.kl1_ready.proofs.Words.{path_within}
 pub use Rattle.kl1_ready.specs.Ready.{ready_at}
 pub use Rattle.kl1_machine.specs.Bringing.{Brings, CanAnswer, CanStart, IsPublished, change_of, goal_of}

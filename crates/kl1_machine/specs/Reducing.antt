@@ -16,11 +16,11 @@ use Rattle.kl1_user_events.specs.declared.refusal.Refusal.{Refusal}
 use Rattle.kl1_user_events.specs.Views.{refusal_of}
 use Rattle.kl1_user_effects.specs.Fitting.{Reading, Fits}
 use Rattle.kl1_user_effects.specs.Account.{meaning, goal_with}
-use Rattle.kl1_user_effects.specs.Works.{Knows, worked}
+use Rattle.kl1_user_effects.specs.Works.{worked}
 use Rattle.kl1_machine.specs.declared.machine.Machine.{Machine}
 use Rattle.kl1_machine.specs.Machines.{made}
 use Rattle.kl1_machine.specs.Naming.{HoldsSpare, IsNamed, Patches}
-use Rattle.kl1_ready.specs.Plans.{CanDo}
+use Rattle.kl1_ready.specs.Plans.{Judges, CanDo}
 
 -- goal `n` is there and may step, and a command may have these numbers
 pub record IsSteppable (goals : List (Goal CellName)) (n c : ℕ) (g : Goal CellName) : Type 0 where
@@ -44,7 +44,7 @@ pub record Reduces (program : Program) (n c : ℕ) (m u : Machine) : Type 0 wher
   pub goal : Goal CellName
   pub steppable : IsSteppable m.goals.goals n c goal
   pub action : Reading → Action
-  pub does : (f : Reading) → Knows program.loaded f → CanDo program m.store.held (made m) goal c f (Some (action f))
+  pub does : (f : Reading) → Judges program m.store.held goal f → CanDo program m.store.held (made m) goal c f (Some (action f))
   pub acts : (more : List Known) (k : CellName) (last : Held CellName) → IsNamed m.names.names more u.name k → Patches u.spelled k u.store.held last → (f : Reading) → Fits more f → (s : State) →
       acted (goal_with (meaning f m.store.held) goal) (action f) (worked f s m.store.held (made m)) ≡ worked f s last (made u)
   pub spare_last : HoldsSpare u.spelled u.store.held

@@ -1,7 +1,7 @@
 //! What verdicts are made of, the match of a clause's head and its tests, and instances of bodies, over cells.
 #![tactic(auto)]
 
-mod accepting;
+mod agreeing;
 mod arguments;
 mod at_once;
 mod building;
@@ -24,7 +24,7 @@ mod testing;
 mod variables;
 mod verdict;
 
-pub use accepting::accepts_in_order;
+pub use agreeing::agrees_with_in_order;
 pub use at_once::known_at_once;
 pub use goal_cells::{put_goal, put_goal_variables, reserve_goal, reserve_goal_beside};
 pub use heads::{find_match, judge_plain};

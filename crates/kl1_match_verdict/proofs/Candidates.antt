@@ -26,23 +26,23 @@ use Rattle.kl1_match_verdict.proofs.Choosing.{there, as_many}
 -- ---- numbers
 
 -- the first of candidates
-abbrev first_of : List Candidate → Option Candidate
+abbrev pub first_of : List Candidate → Option Candidate
 first_of [] = None
 first_of (k ∷ ks) = Some k
 
-none_numbered : (j n : ℕ) (ks : List Candidate) → j < n → AreFrom n ks → numbered j ks ≡ None
+pub none_numbered : (j n : ℕ) (ks : List Candidate) → j < n → AreFrom n ks → numbered j ks ≡ None
 none_numbered j n [] lt a = refl
 none_numbered j n (k ∷ ks) lt a =
     let le = a.0 in
     cond-false (k.number == j) (Some k) (numbered j ks) (ne_eqb k.number j (λ e. absurd (omega (arith, le, lt, e)))) ∙ none_numbered j n ks lt a.1
 
-at_front : (j n : ℕ) (c : Clause) (ps : List Replacement) (ks : List Candidate) (v : Answer) → j ≡ n → AreFrom (suc n) ks → numbered j (candidate_by n c ps v ++ ks) ≡ first_of (candidate_by j c ps v)
+pub at_front : (j n : ℕ) (c : Clause) (ps : List Replacement) (ks : List Candidate) (v : Answer) → j ≡ n → AreFrom (suc n) ks → numbered j (candidate_by n c ps v ++ ks) ≡ first_of (candidate_by j c ps v)
 at_front j n c ps ks yes e a =
     cond-true (n == j) (Some (record { number = n; clause = c; places = ps })) (numbered j ks) (eq-eqb n j (sym e)) ∙ ap (λ k. first_of (candidate_by k c ps yes)) (sym e)
 at_front j n c ps ks no e a = none_numbered j (suc n) ks (omega (arith, e)) a
 at_front j n c ps ks wait e a = none_numbered j (suc n) ks (omega (arith, e)) a
 
-behind_front : (j n : ℕ) (c : Clause) (ps : List Replacement) (ks : List Candidate) (v : Answer) → n < j → numbered j (candidate_by n c ps v ++ ks) ≡ numbered j ks
+pub behind_front : (j n : ℕ) (c : Clause) (ps : List Replacement) (ks : List Candidate) (v : Answer) → n < j → numbered j (candidate_by n c ps v ++ ks) ≡ numbered j ks
 behind_front j n c ps ks yes lt = cond-false (n == j) (Some (record { number = n; clause = c; places = ps })) (numbered j ks) (ne_eqb n j (λ e. absurd (omega (arith, lt, e))))
 behind_front j n c ps ks no lt = refl
 behind_front j n c ps ks wait lt = refl
@@ -63,7 +63,7 @@ sections_drop zero cs = refl
 sections_drop (suc n) [] = refl
 sections_drop (suc n) (c ∷ cs) = sections_drop n cs
 
-same_first : {A : Type 0} {x y : A} {xs ys : List A} → x ∷ xs ≡ y ∷ ys → x ≡ y
+pub same_first : {A : Type 0} {x y : A} {xs ys : List A} → x ∷ xs ≡ y ∷ ys → x ≡ y
 same_first e = cc
 
 -- in a run of one section the candidate with a number is its clause, if that accepts

@@ -4,3 +4,4 @@ pub mod Rising
 pub mod Judging
 pub mod Choosing
 pub mod Candidates
+pub mod Least

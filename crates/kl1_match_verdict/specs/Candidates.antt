@@ -5,6 +5,7 @@ use Rattle.kl1_model.specs.Term.{Terms}
 use Rattle.kl1_model.specs.Module.{Clause}
 use Rattle.kl1_model.specs.Match.{Candidate}
 use Rattle.kl1_model.specs.code.Sections.{candidates_from, candidates_within}
+use Rattle.kl1_model.specs.code.Waits.{least_clause}
 use Rattle.kl1_text.specs.Reading.{Reads}
 use Rattle.kl1_store.specs.declared.cell.Cell.{Cell}
 use Rattle.kl1_store.specs.Held.{Held}
@@ -12,7 +13,9 @@ use Rattle.kl1_store.specs.Meaning.{term_of}
 use Rattle.kl1_clause.specs.declared.compiled_clause.CompiledClause.{CompiledClause}
 use Rattle.kl1_clause.specs.Clauses.{AreCompiled}
 use Rattle.kl1_match.specs.declared.place.Place.{Place}
+use Rattle.kl1_match.specs.declared.scratch.Scratch.{Scratch}
 use Rattle.kl1_match.specs.Instances.{AreThere, replacements_of}
+use Rattle.kl1_match.specs.Kept.{kept_places}
 use Rattle.kl1_match.specs.Verdicts.{arguments_of_goal}
 
 -- the section of the clause at a place
@@ -43,6 +46,17 @@ TakenAs f h clauses names cs ts place places false = numbered (suc place) (candi
 pub record Takes {N : Type 0} (built : BuiltIn → N) (names : List N) (clauses : List CompiledClause) (place : ℕ) (h : Held N) (goal : Cell N) (places : List (Place N)) (answer : Bool) : Type 0 where
   pub inside : answer ≡ true → AreThere h places
   pub taken : (f : N → List ℕ) → Reads built f → (cs : List Clause) → AreCompiled (map f names) clauses cs → TakenAs f h clauses (map f names) cs (arguments_of_goal (term_of f h goal)) place places answer
+
+-- if it is the least clause that accepts the goal, for a reading of the names, the clause at a place is a candidate with these terms at the
+-- places of its head's variables
+pub record TakesLeast {N : Type 0} (built : BuiltIn → N) (names : List N) (clauses : List CompiledClause) (place : ℕ) (h : Held N) (goal : Cell N) (places : List (Place N)) : Type 0 where
+  pub taken : (f : N → List ℕ) → Reads built f → (cs : List Clause) → AreCompiled (map f names) clauses cs → least_clause cs (arguments_of_goal (term_of f h goal)) ≡ Some (suc place) →
+      IsTaken f h clauses (map f names) cs (arguments_of_goal (term_of f h goal)) place places
+
+-- the places that the scratch keeps, or those in a list
+abbrev pub found_places : {N : Type 0} → Bool → Scratch N → List (Place N) → List (Place N)
+found_places true scratch places = kept_places scratch
+found_places false scratch places = places
 
 -- the first `count` clauses reject, and the candidates are those from there on
 abbrev pub AllReject : {N : Type 0} → (BuiltIn → N) → List N → List CompiledClause → Held N → Cell N → ℕ → Type 0

@@ -3,9 +3,11 @@
 
 mod alike;
 mod choice;
+mod finding;
 mod taking;
 mod verdicts;
 
 pub use choice::choose;
-pub use taking::{is_candidate, takes_in_order};
+pub use finding::find_places;
+pub use taking::is_candidate;
 pub use verdicts::verdict_on;

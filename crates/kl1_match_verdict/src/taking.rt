@@ -1,16 +1,15 @@
 // Whether a goal can commit to one clause of its predicate.
 
-ghost use Rattle.std.specs.Prelude.{◌≡◌, ◌<◌, ◌≤◌, ◌-◌, true, length, IfOk, OnOk, IsTrue};
+ghost use Rattle.std.specs.Prelude.{◌≡◌, ◌<◌, ◌≤◌, ◌-◌, length, IfOk, OnOk};
 ghost use Rattle.kl1_store.specs.Held.{IsIn};
 ghost use Rattle.kl1_store.specs.Remembers.{Remembers};
-ghost use Rattle.kl1_match.specs.Kept.{kept_places};
 ghost use Rattle.kl1_match_verdict.specs.Choices.{AreClauses};
 ghost use Rattle.kl1_match_verdict.specs.Candidates.{section_at, IsRun, RejectAs, Takes};
 
 use crate::choice::nth;
 use crate::verdicts::judge;
 use kl1_clause::CompiledClause;
-use kl1_match::{Place, Scratch, Verdict, accepts_in_order, is_rejection};
+use kl1_match::{Place, Scratch, Verdict, is_rejection};
 use kl1_store::{Cell, Store};
 use kl1_text::NameValue;
 use std::alloc::AllocError;
@@ -117,27 +116,4 @@ pub fn is_candidate<N: NameValue>(
         Verdict::Rejects => Ok(false),
         Verdict::Suspends => Ok(false),
     }
-}
-
-/// Whether a goal can commit to the clause at a place among those of its predicate, from 0, which stands in the first section and
-/// has no tests, and the variables of its head stand in order of their numbers, each once. Then the scratch keeps the cells at
-/// their places until it is used for something else than an instance of this clause. If not, nothing is said of the clause.
-#[inline]
-pub fn takes_in_order<N: NameValue>(
-    store: &Store<N>,
-    names: &[N],
-    clauses: &[CompiledClause],
-    place: usize,
-    goal: Cell<N>,
-    scratch: &mut Scratch<N>,
-) -> Result<bool, AllocError>
-    requires clauses { AreClauses names.now clauses.now }
-    requires place { place < length clauses.now }
-    requires goal { IsIn store.now.held goal }
-    ensures { IfOk result (λ takes. IsTrue takes → Takes N.built names.now clauses.now place store.now.held goal (kept_places scratch.new) true) }
-{
-    if start_of(clauses, place) > 0 {
-        return Ok(false);
-    }
-    accepts_in_order(store, names, nth(clauses, place), goal, scratch)
 }

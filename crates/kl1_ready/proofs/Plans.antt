@@ -1,5 +1,5 @@
 -- What goals are to do: moves that are found are those of the definitions.
-use Rattle.kl1_ready.proofs.Words.{◌≡◌, ℕ, ◌==◌, if◌then◌else◌, Bool, true, false, List, [], length, get_or, refl, sym, ap, ◌∙◌, arith, subst, Option, Some, None, MatchOption, option_map, eq-eqb, ne_eqb, MatchOption-at_some, slice_get-get_or, text_of, Term, Module, goal_look, Rules, reads, moves, read_action, task_action, substitute_move, monitor_action, move_by, Reads, CellName, no_names, Cell, Variable, Qualified, Held, IsIn, arguments_of, Control, Awaits, control_as, Predicate, AreSome, Place, Move, ExecuteArguments, order_at, IsOrder, IsMove, MoveIn, move_by_clause, substitute_move_of, SubstituteMoves, Monitor, Reduces, Substitutes, Goal, is_monitor, Shoen, shoen_in, contents, Program, Reading, built, reading_of, reading_fits, meaning, task_with, shoen_with, aim, whole, worked, Made, Knows, found_in, Plan, PlannedMove, Serves, CanDo, ReadsBy, MovesBy, IsPlan, DoesNothing, is_read, move_or_go}
+use Rattle.kl1_ready.proofs.Words.{◌≡◌, ℕ, ◌==◌, if◌then◌else◌, Bool, true, false, List, [], length, get_or, refl, sym, ap, ◌∙◌, arith, subst, Option, Some, None, MatchOption, option_map, eq-eqb, ne_eqb, MatchOption-at_some, slice_get-get_or, text_of, Term, Module, goal_look, Rules, reads, moves, read_action, task_action, substitute_move, monitor_action, move_by, term_clause, Reads, CellName, no_names, Cell, Variable, Qualified, Held, IsIn, arguments_of, Control, Awaits, control_as, Predicate, AreSome, Place, Move, ExecuteArguments, order_at, IsOrder, IsMove, MoveIn, IsJudged, move_by_clause, substitute_move_of, SubstituteMoves, Monitor, Reduces, Substitutes, Goal, is_monitor, Shoen, shoen_in, contents, Program, Reading, built, reading_of, reading_fits, meaning, task_with, shoen_with, aim, whole, worked, Made, found_in, Plan, PlannedMove, Serves, Judges, CanDo, ReadsBy, MovesBy, IsPlan, DoesNothing, is_read, move_or_go}
 use Rattle.kl1_model.specs.Control as model_control
 use Rattle.kl1_model.specs.State as model
 use Rattle.kl1_model.specs.Reduction as reduction
@@ -39,6 +39,10 @@ goal_does program h w c g f x rules task s is =
     ap (λ k. task_action (worked f s h w) g.shoen (task_with (meaning f h) k) c) task
     ∙ ap (λ (ms : List Module). option_map (moves (aim f h x)) (move_by w.rules ms (aim f h x) c)) is
     ∙ ap (λ (r : Rules). option_map (moves (aim f h x)) (move_by r (contents program.loaded) (aim f h x) c)) rules
+
+-- it was judged by rules which are the account's, if it has the clause
+pub judged_by : {program : Program} {h : Held CellName} {g : Goal CellName} {f : Reading} {r : Rules} (x : Qualified CellName) (c : ℕ) (b : Bool) → r ≡ program.rules → g.task ≡ Reduces x → (b ≡ true → g.standing ≡ Some c) → Judges program h g f → IsJudged r (contents program.loaded) (aim f h x) c b
+judged_by {program = program} {h = h} {f = f} x c b rules task stands judges is = subst (λ (r : Rules). term_clause r (contents program.loaded) (aim f h x) ≡ Some c) (sym rules) (judges.judged x c task (stands is))
 
 -- a substitute makes the move of what its variable is, if there is one
 pub substitute_does : (program : Program) (h : Held CellName) (w : Made) (c : ℕ) (g : Goal CellName) (f : Reading) (y : Cell CellName) → g.task ≡ Substitutes y → CanDo program h w g c f (option_map (moves (aim f h (whole y))) (move_by_clause (meaning f h y) c))
@@ -100,21 +104,21 @@ pub record IsFound (program : Program) (h : Held CellName) (w : Made) (g : Goal 
   pub cell : IsIn h x.cell
   pub inside : MoveIn h p places text o
   pub move : Reading → Option reduction.Move
-  pub is : (f : Reading) → Knows program.loaded f → IsMove f h (move f) p places text o
-  pub does : (f : Reading) → Knows program.loaded f → CanDo program h w g c f (option_map (moves (aim f h x)) (move f))
+  pub is : (f : Reading) → Judges program h g f → IsMove f h (move f) p places text o
+  pub does : (f : Reading) → Judges program h g f → CanDo program h w g c f (option_map (moves (aim f h x)) (move f))
 
 -- if one was found, it is what the goal is to do, if its predicate has these clauses
 pub move_found : {program : Program} {h : Held CellName} {w : Made} {g : Goal CellName} {c : ℕ} {places : List (Place CellName)} {text : List ℕ} {o : Option (Move CellName)} (a : PlannedMove) → o ≡ Some a.made → IsFound program h w g c places text a.cell a.predicate o → AreSome a.predicate.names.now a.predicate.clauses.now →
     Serves program.loaded a.kind a.predicate → MovesBy program h w g c places text a
-move_found {program = program} {h = h} {places = places} {text = text} a e i some serves =
+move_found {program = program} {h = h} {g = g} {places = places} {text = text} a e i some serves =
     let inside = subst (MoveIn h a.predicate places text) e i.inside in
-    let is : (f : Reading) → Knows program.loaded f → IsMove f h (i.move f) a.predicate places text (Some a.made) = λ f knows. subst (IsMove f h (i.move f) a.predicate places text) e (i.is f knows) in
-    let there : (f : Reading) → Knows program.loaded f → i.move f ≡ Some (move_or_go (i.move f)) = λ f knows. allowed f h (i.move f) a.predicate places text a.made inside (is f knows) in
+    let is : (f : Reading) → Judges program h g f → IsMove f h (i.move f) a.predicate places text (Some a.made) = λ f judges. subst (IsMove f h (i.move f) a.predicate places text) e (i.is f judges) in
+    let there : (f : Reading) → Judges program h g f → i.move f ≡ Some (move_or_go (i.move f)) = λ f judges. allowed f h (i.move f) a.predicate places text a.made inside (is f judges) in
     record {
       runnable = record { reduces = i.reduces; cell = i.cell; some = some; serves = serves; inside = inside };
       move = λ f. move_or_go (i.move f);
-      is = λ f knows. subst (λ q. IsMove f h q a.predicate places text (Some a.made)) (there f knows) (is f knows);
-      does = λ f knows s is. i.does f knows s is ∙ ap (option_map (moves (aim f h a.cell))) (there f knows);
+      is = λ f judges. subst (λ q. IsMove f h q a.predicate places text (Some a.made)) (there f judges) (is f judges);
+      does = λ f judges s is. i.does f judges s is ∙ ap (option_map (moves (aim f h a.cell))) (there f judges);
     }
 
 -- a plan that was found to read

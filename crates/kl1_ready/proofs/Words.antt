@@ -40,7 +40,7 @@ pub use Rattle.kl1_shoen.specs.Shoens.{is_enabled_at}
 pub use Rattle.kl1_match.specs.declared.place.Place.{Place}
 pub use Rattle.kl1_goals_moves.proofs.Hooked.{hangs_on_same}
 pub use Rattle.kl1_goals_moves.specs.Calls.{call_at}
-pub use Rattle.kl1_goals_moves.specs.Moves.{HasPredicate, IsMove, MoveIn, MovesAs, taken_places}
+pub use Rattle.kl1_goals_moves.specs.Moves.{HasPredicate, IsJudged, IsMove, MoveIn, MovesAs, taken_places}
 pub use Rattle.kl1_goals_moves.specs.Orders.{order_at}
 pub use Rattle.kl1_goals_moves.specs.Standing.{StandsAs}
 pub use Rattle.kl1_goals_moves.specs.Substitutes.{SubstituteMoves, SubstituteStands, move_by_clause, substitute_move_of}
@@ -55,7 +55,7 @@ unfoldable pub use Rattle.kl1_user_effects.proofs.Words.{path_within, term_of}
 pub use Rattle.kl1_user_effects.specs.Account.{whole}
 pub use Rattle.kl1_user_effects.specs.Installing.{shifted_by}
 pub use Rattle.kl1_user_effects.specs.Settled.{awaited_by_monitor, control_at, control_clause, front_with, monitor_clause}
-pub use Rattle.kl1_ready.specs.Plans.{CanDo, DoesNothing, IsPlan, MovesBy, ReadsBy, is_read, move_or_go}
+pub use Rattle.kl1_ready.specs.Plans.{CanDo, DoesNothing, IsPlan, Judges, MovesBy, ReadsBy, is_read, move_or_go}
 pub use Rattle.kl1_ready.specs.Ready.{IsHeardAt, IsReadyAt, IsReadyBy}
 pub use Rattle.kl1_ready.specs.Serving.{Serves, calls_same}
 pub use Rattle.kl1_ready.specs.declared.planning.Plan.{Plan}

@@ -1,9 +1,11 @@
 -- What goals are to do.
 use Rattle.std.specs.Prelude.{◌≡◌, ℕ, Bool, true, false, List, Option, Some, None}
 use Rattle.kl1_model.specs.State.{State}
+use Rattle.kl1_model.specs.code.Waits.{term_clause}
 use Rattle.kl1_model.specs.Reduction as reduction
 use Rattle.kl1_model.specs.Reduction.{Action, reads, moves, goes, task_action}
 use Rattle.kl1_text.specs.declared.cell_name.CellName.{CellName}
+use Rattle.kl1_store.specs.declared.qualified.Qualified.{Qualified}
 use Rattle.kl1_store.specs.Held.{Held, IsIn}
 use Rattle.kl1_stream.specs.declared.control.Control.{Control}
 use Rattle.kl1_stream.specs.declared.control.Control.TheVariants.{Awaits, Tells, TellsOther, Ends, BreaksOff}
@@ -11,7 +13,7 @@ use Rattle.kl1_stream.specs.Controls.{control_as, ControlIn}
 use Rattle.kl1_clause.specs.Predicates.{AreSome}
 use Rattle.kl1_match.specs.declared.place.Place.{Place}
 use Rattle.kl1_goals_moves.specs.Moves.{IsMove, MoveIn}
-use Rattle.kl1_goals.specs.declared.task.Task.TheVariants.{Monitor}
+use Rattle.kl1_goals.specs.declared.task.Task.TheVariants.{Monitor, Reduces}
 use Rattle.kl1_goals.specs.declared.goal.Goal.{Goal}
 use Rattle.kl1_goals.specs.Lists.{is_monitor}
 use Rattle.kl1_codes.specs.Finding.{contents}
@@ -41,11 +43,16 @@ move_or_go (Some m) = m
 abbrev pub CanDo : Program → Held CellName → Made → Goal CellName → ℕ → Reading → Option Action → Type 0
 CanDo program h w g c f o = (s : State) → s.modules ≡ contents program.loaded → task_action (worked f s h w) g.shoen (task_with (meaning f h) g.task) c ≡ o
 
+-- a reading of the names knows the modules, and by it a goal that has a clause by which it can step can step by that
+pub record Judges (program : Program) (h : Held CellName) (g : Goal CellName) (f : Reading) : Type 0 where
+  pub knows : Knows program.loaded f
+  pub judged : (x : Qualified CellName) (c : ℕ) → g.task ≡ Reduces x → g.standing ≡ Some c → term_clause program.rules (contents program.loaded) (aim f h x) ≡ Some c
+
 -- a monitor reads this
 pub record ReadsBy (program : Program) (h : Held CellName) (w : Made) (g : Goal CellName) (c : ℕ) (control : Control CellName) : Type 0 where
   pub monitor : g.task ≡ Monitor
   pub inside : ControlIn h control
-  pub does : (f : Reading) → Knows program.loaded f → CanDo program h w g c f (Some (reads (control_as f h control)))
+  pub does : (f : Reading) → Judges program h g f → CanDo program h w g c f (Some (reads (control_as f h control)))
 
 -- a goal that is no monitor can run this move, with what the variables of a clause's head are and the text that it uses as a name: the
 -- cells are the store's, and the clauses those of the predicate that goals of its kind call
@@ -60,8 +67,8 @@ pub record IsRunnable (program : Program) (h : Held CellName) (g : Goal CellName
 pub record MovesBy (program : Program) (h : Held CellName) (w : Made) (g : Goal CellName) (c : ℕ) (places : List (Place CellName)) (text : List ℕ) (a : PlannedMove) : Type 0 where
   pub runnable : IsRunnable program h g places text a
   pub move : Reading → reduction.Move
-  pub is : (f : Reading) → Knows program.loaded f → IsMove f h (Some (move f)) a.predicate places text (Some a.made)
-  pub does : (f : Reading) → Knows program.loaded f → CanDo program h w g c f (Some (moves (aim f h a.cell) (move f)))
+  pub is : (f : Reading) → Judges program h g f → IsMove f h (Some (move f)) a.predicate places text (Some a.made)
+  pub does : (f : Reading) → Judges program h g f → CanDo program h w g c f (Some (moves (aim f h a.cell) (move f)))
 
 -- what a goal is to do
 abbrev pub IsPlan : Program → Held CellName → Made → Goal CellName → ℕ → List (Place CellName) → List ℕ → Plan → Type 0
@@ -70,4 +77,4 @@ IsPlan program h w g c places text (plan.Moves a) = MovesBy program h w g c plac
 
 -- a goal can do nothing by clause `c`
 abbrev pub DoesNothing : Program → Held CellName → Made → Goal CellName → ℕ → Type 0
-DoesNothing program h w g c = (f : Reading) → Knows program.loaded f → CanDo program h w g c f None
+DoesNothing program h w g c = (f : Reading) → Judges program h g f → CanDo program h w g c f None

@@ -1,6 +1,6 @@
 // What goals are to do.
 
-ghost use Rattle.std.specs.Prelude.{◌≡◌, ℕ, List, IfOk, MatchOption};
+ghost use Rattle.std.specs.Prelude.{◌≡◌, ℕ, true, List, Some, IfOk, MatchOption};
 ghost use Rattle.kl1_text.specs.declared.cell_name.CellName.{CellName};
 ghost use Rattle.kl1_store.specs.Held.{IsIn};
 ghost use Rattle.kl1_match.specs.declared.place.Place.{Place};
@@ -75,6 +75,16 @@ fn plan_reading<'a>(
     Some(Plan::Reads(control))
 }
 
+/// Whether a goal has this clause by which it can step.
+fn stands_by(goal: Goal<CellName>, clause: u64) -> bool
+    ensures { result ≡ true → goal.standing ≡ Some clause }
+{
+    match goal.standing {
+        None => false,
+        Some(own) => own == clause,
+    }
+}
+
 /// What a goal for a cell is to do by a clause of its predicate; nothing if it can do nothing by it.
 fn plan_move<'a, C: CodeSource>(
     store: &Store<CellName>,
@@ -90,7 +100,9 @@ fn plan_move<'a, C: CodeSource>(
 {
     let kind = kind_of_qualified(store, cell);
     let predicate = predicate_of(modules, kind);
-    let Some(made) = move_of(store, modules.rules(), kind, predicate, clause, trial)? else {
+    let rules = modules.rules();
+    let is_judged = stands_by(goal, clause);
+    let Some(made) = move_of(store, rules, kind, predicate, clause, is_judged, trial)? else {
         return Ok(None);
     };
     Ok(Some(Plan::Moves(PlannedMove {

@@ -81,10 +81,6 @@ pub both_read : (f : Reading) (xs ys : List Numbered) → AreRead f xs → AreRe
 both_read f [] ys a b = b
 both_read f (x ∷ xs) ys a b = (a.0, both_read f xs ys a.1 b)
 
-pub first_read : (f : Reading) (xs ys : List Numbered) → AreRead f (xs ++ ys) → AreRead f xs
-first_read f [] ys a = tt
-first_read f (x ∷ xs) ys a = (a.0, first_read f xs ys a.1)
-
 pub second_read : (f : Reading) (xs ys : List Numbered) → AreRead f (xs ++ ys) → AreRead f ys
 second_read f [] ys a = a
 second_read f (x ∷ xs) ys a = second_read f xs ys a.1

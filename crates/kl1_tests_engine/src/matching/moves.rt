@@ -18,7 +18,15 @@ use kl1_tests_rows::Text;
 use kl1_text::{AtomText, NameValue, put_atom};
 use std::alloc::AllocError;
 
-/// Puts what each argument of the goal after the colon of a goal can do, as a goal, by rules, in a new store.
+/// By which rules goals are tried, and whether they count as judged: each is asked for by the least clause by which it can step.
+#[derive(Clone, Copy)]
+struct How {
+    rules: Rules,
+    is_judged: bool,
+}
+
+/// Puts what each argument of the goal after the colon of a goal can do, as a goal, by rules, in a new store. They are tried as goals
+/// that weren't judged, and again as judged ones, which has to come to the same.
 pub fn put_moves(
     answer: &mut Text,
     store: &mut Store<AtomText>,
@@ -28,11 +36,25 @@ pub fn put_moves(
 ) {
     match read_goal(answer.alloc, text) {
         Ok(goal) => {
-            let done = put_each(answer, store, code, rules, &goal);
+            let is_judged = false;
+            let done = put_each(answer, store, code, How { rules, is_judged }, &goal);
             answer.note(done);
+            let mut judged = Text::new(answer.alloc);
+            put_judged(&mut judged, code, rules, &goal);
+            if judged.has_failed | (judged.bytes.as_slice() != answer.bytes.as_slice()) {
+                answer.fail();
+            }
         }
         Err(_fault) => answer.fail(),
     }
+}
+
+/// Puts what each argument of the goal after the colon of a goal can do, as a goal that was judged.
+fn put_judged(answer: &mut Text, code: &Code, rules: Rules, goal: &Term) {
+    let mut store = Store::new(answer.alloc);
+    let is_judged = true;
+    let done = put_each(answer, &mut store, code, How { rules, is_judged }, goal);
+    answer.note(done);
 }
 
 /// Puts what each argument of the goal after the colon of a goal can do, in a new store.
@@ -40,7 +62,7 @@ fn put_each(
     answer: &mut Text,
     store: &mut Store<AtomText>,
     code: &Code,
-    rules: Rules,
+    how: How,
     goal: &Term,
 ) -> Result<(), AllocError> {
     let _zero = store.fresh()?;
@@ -51,7 +73,7 @@ fn put_each(
     let mut goals = Vec::new(answer.alloc);
     push_arguments(store, structure, &mut goals)?;
     goals.reverse();
-    put_all(answer, store, code, rules, goals.as_slice())
+    put_all(answer, store, code, how, goals.as_slice())
 }
 
 /// Puts what each of some cells can do, as a goal.
@@ -59,11 +81,11 @@ fn put_all(
     answer: &mut Text,
     store: &mut Store<AtomText>,
     code: &Code,
-    rules: Rules,
+    how: How,
     goals: &[Cell<AtomText>],
 ) -> Result<(), AllocError> {
     for goal in goals {
-        put_move(answer, store, code, rules, *goal)?;
+        put_move(answer, store, code, how, *goal)?;
     }
     Ok(())
 }
@@ -111,11 +133,11 @@ fn put_move(
     answer: &mut Text,
     store: &mut Store<AtomText>,
     code: &Code,
-    rules: Rules,
+    how: How,
     goal: Cell<AtomText>,
 ) -> Result<(), AllocError> {
     match kind_in(store, goal) {
-        Some(kind) => put_of_kind(answer, store, code, rules, &kind),
+        Some(kind) => put_of_kind(answer, store, code, how, &kind),
         None => Err(AllocError),
     }
 }
@@ -125,7 +147,7 @@ fn put_of_kind(
     answer: &mut Text,
     store: &mut Store<AtomText>,
     code: &Code,
-    rules: Rules,
+    how: How,
     kind: &Kind<AtomText>,
 ) -> Result<(), AllocError>
     requires { KindIn store.old.held kind.now }
@@ -135,7 +157,7 @@ fn put_of_kind(
     put_tried(
         answer,
         store,
-        rules,
+        how,
         kind,
         predicate_of(code, kind),
         &mut trial,
@@ -146,7 +168,7 @@ fn put_of_kind(
 fn put_tried(
     answer: &mut Text,
     store: &mut Store<AtomText>,
-    rules: Rules,
+    how: How,
     kind: &Kind<AtomText>,
     predicate: Predicate<'_, AtomText>,
     trial: &mut Trial<AtomText>,
@@ -155,10 +177,10 @@ fn put_tried(
     requires predicate { AreSome predicate.names.now predicate.clauses.now }
 {
     let tried = *kind;
-    match standing_of(store, rules, tried, predicate, trial)? {
+    match standing_of(store, how.rules, tried, predicate, trial)? {
         Some(clause) => {
             let moved = *kind;
-            put_done(answer, store, rules, moved, predicate, clause, trial)
+            put_done(answer, store, how, moved, predicate, clause, trial)
         }
         None => {
             answer.put(b" waits");
@@ -205,7 +227,7 @@ fn put_opened(
 fn put_done(
     answer: &mut Text,
     store: &mut Store<AtomText>,
-    rules: Rules,
+    how: How,
     kind: Kind<AtomText>,
     predicate: Predicate<'_, AtomText>,
     clause: u64,
@@ -214,7 +236,8 @@ fn put_done(
     requires kind { KindIn store.old.held kind }
     requires predicate { AreSome predicate.names.now predicate.clauses.now }
 {
-    match move_of(store, rules, kind, predicate, clause, trial)? {
+    let How { rules, is_judged } = how;
+    match move_of(store, rules, kind, predicate, clause, is_judged, trial)? {
         None => answer.fail(),
         Some(Move::Raises(kind)) => put_raised(answer, kind)?,
         Some(Move::Goes) => answer.put(b" goes"),

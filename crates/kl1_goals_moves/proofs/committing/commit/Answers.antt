@@ -5,7 +5,8 @@ use Rattle.kl1_clause.specs.declared.compiled_clause.CompiledClause.{CompiledCla
 use Rattle.kl1_match.specs.Instances.{IsClause, AreThere}
 use Rattle.kl1_match.specs.Kept.{kept_places}
 use Rattle.kl1_goals_moves.specs.Moves.{IsCandidate}
-use Rattle.kl1_goals_moves.proofs.Taking.{are_clauses, clause_at, body_of}
+use Rattle.kl1_goals_moves.proofs.Taking.{are_clauses, clause_at}
+use Rattle.kl1_goals_moves.proofs.Bodies.{body_of}
 use Rattle.kl1_goals_moves.proofs.committing.commit.Goals as goal
 
 chosen : {A : Type 0} (b : Bool) (x y : A) → b ≡ true → (if b then x else y) ≡ x

@@ -4,7 +4,7 @@ use Rattle.kl1_machine.proofs.Planned.{MayStep, found_holds, nothing_refused, fu
 use Rattle.kl1_machine.proofs.Reduced.{IsHeard, only_monitor, heard_reduces, charged_by}
 use Rattle.kl1_machine.proofs.Resting.{still_lets}
 use Rattle.kl1_machine.proofs.Sincing.{since_same, kept_after}
-use Rattle.kl1_machine.proofs.Stepped.{IsChosen, rested_knows, moved_reduces, owned_by, let_by, stepped_publishes}
+use Rattle.kl1_machine.proofs.Stepped.{IsChosen, moved_reduces, owned_by, let_by, stepped_publishes}
 use Rattle.kl1_machine.proofs.machine.Machine.reduce.Given as given
 use Rattle.kl1_machine.proofs.machine.Machine.reduce.Goals as goal
 use Rattle.kl1_machine.proofs.machine.Machine.reduce.Goals.{In-Reads, In-Moves, In_ok-step_goal-in-Moves}
@@ -22,7 +22,7 @@ returns-in_default-clause-ok g c =
     let m = c.args.self.now in
     let program = c.args.modules.now in
     let x = c.in-Ok.goal in
-    let may : MayStep program m c.args.number c.args.clause x = record { enabled = c.requires.rested.enabled; steppable = c.in-Ok.ensures.found; knows = λ f fits. rested_knows program m f c.requires.rested fits } in
+    let may : MayStep program m c.args.number c.args.clause x = record { rested = c.requires.rested; steppable = c.in-Ok.ensures.found } in
     (nothing_refused program c.args.is_full m c.args.number c.args.clause x may (rw c.in_default.is at (c.in_ok-plan.ensures (made m) (sym c.requires.rested.rules) refl)), refl)
 
 pub returns-then-is_full-clause-ok : goal.returns-then-is_full-clause-ok
@@ -32,7 +32,7 @@ returns-then-is_full-clause-ok g c =
     let x = c.in-Ok.goal in
     let places = taken_places c.plan_of.new.trial in
     let text = c.plan_of.new.trial.text in
-    let may : MayStep program m c.args.number c.args.clause x = record { enabled = c.requires.rested.enabled; steppable = c.in-Ok.ensures.found; knows = λ f fits. rested_knows program m f c.requires.rested fits } in
+    let may : MayStep program m c.args.number c.args.clause x = record { rested = c.requires.rested; steppable = c.in-Ok.ensures.found } in
     (full_refused program c.args.is_full m c.args.number c.args.clause x places text c.in-Some.plan may c.if-is_full.true (rw c.in-Some.is at (c.in_ok-plan.ensures (made m) (sym c.requires.rested.rules) refl)), refl)
 
 -- ---- a monitor that reads

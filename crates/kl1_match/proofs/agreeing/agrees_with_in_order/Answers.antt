@@ -6,11 +6,11 @@ use Rattle.kl1_store.specs.declared.cell.Cell.TheVariants.{Atom}
 use Rattle.kl1_match.specs.declared.met.Met.TheVariants.{Agrees}
 use Rattle.kl1_match.specs.Spans.{cells_left}
 use Rattle.kl1_match.specs.Matching.{MeetsFirst}
-use Rattle.kl1_match.specs.Verdicts.{IsVerdict}
+use Rattle.kl1_match.specs.Verdicts.{IsTried}
 use Rattle.kl1_match.specs.Kept.{places_behind}
 use Rattle.kl1_match.proofs.Whole.{named_at}
-use Rattle.kl1_match.proofs.Trying.{none_behind, starts_kept, agrees_kept, accepted_kept, accepts_kept, of_places}
-use Rattle.kl1_match.proofs.accepting.plain_accepts_in_order.Goals as goal
+use Rattle.kl1_match.proofs.Trying.{none_behind, starts_kept, agrees_kept, accepted_kept, of_places}
+use Rattle.kl1_match.proofs.agreeing.agrees_with_in_order.Goals as goal
 
 pub loop-at-init : goal.loop-at-init
 loop-at-init g c =
@@ -65,7 +65,6 @@ returns g c = λ yes.
     let left = cells_left h c.is_left-2.new.span c.is_left-2.new.behind.items in
     let empty : left ≡ [] = c.is_left-2.ensures.none (search rules) in
     let places = places_behind c.loop-at.cells.items in
-    of_places places (λ ps. IsVerdict g.N.NameValue.built c.args.names.now c.args.clause.now h c.args.goal ps [] [] _)
-    (accepts_kept g.N.NameValue.built c.args.names.now c.args.clause.now h c.args.goal true places [] [] c.requires.plain
+    of_places places (λ ps. IsTried g.N.NameValue.built c.args.names.now c.args.clause.now h c.args.goal ps [] [] _)
     (accepted_kept g.N.NameValue.built c.args.names.now c.args.clause.now h c.args.goal c.loop-at.at true (cells_left h c.loop-at.span c.loop-at.behind.items) left places [] []
-    le c.is_left-2.ensures.same empty refl c.loop-at.invariant.gives))
+    le c.is_left-2.ensures.same empty refl c.loop-at.invariant.gives)

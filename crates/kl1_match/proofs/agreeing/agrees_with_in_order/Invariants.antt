@@ -2,9 +2,9 @@ use Rattle.std.proofs.Common.{◌≤◌, ◌+◌, ◌<◌, [], true, length, ◌
 use Rattle.kl1_match.specs.Spans.{cells_left, IsSpan, AreSpans}
 use Rattle.kl1_match.specs.Kept.{places_behind}
 use Rattle.kl1_match.proofs.Trying.{GivesKept}
-use Rattle.kl1_match.proofs.accepting.plain_accepts_in_order.Given as goal
+use Rattle.kl1_match.proofs.agreeing.agrees_with_in_order.Given as goal
 
--- what is left of the row and of the cells gives the verdict, if nothing is waited for, and there is room for what the rest of
+-- what is left of the row and of the cells gives the outcome, if nothing is waited for, and there is room for what the rest of
 -- the row can put
 abbrev pub invariant-loop-at : goal.invariant-loop-at
 invariant-loop-at g l = record {

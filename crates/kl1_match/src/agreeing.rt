@@ -1,15 +1,14 @@
-// Clauses that accept a goal, with the cells of their heads' variables kept in order.
+// Clauses that agree with a goal, with the cells of their heads' variables kept in order.
 
 ghost use Rattle.std.specs.Prelude.{◌≡◌, ◌<◌, ◌≤◌, ◌+◌, [], true, length, IfOk, IsTrue, vec_len, vec_capacity};
 ghost use Rattle.kl1_store.specs.Held.{IsIn};
 ghost use Rattle.kl1_clause.specs.Instructions.{IsNamed};
-ghost use Rattle.kl1_clause.specs.Plain.{IsPlain};
 ghost use Rattle.kl1_match.specs.Instances.{IsClause};
 ghost use Rattle.kl1_match.specs.declared.met.Met.TheVariants.{Agrees};
 ghost use Rattle.kl1_match.specs.declared.verdict.Verdict.TheVariants.{Accepts};
 ghost use Rattle.kl1_match.specs.Spans.{cells_left, IsSpan, AreSpans};
 ghost use Rattle.kl1_match.specs.Matching.{MeetsFirst};
-ghost use Rattle.kl1_match.specs.Verdicts.{IsVerdict};
+ghost use Rattle.kl1_match.specs.Verdicts.{IsTried};
 ghost use Rattle.kl1_match.specs.Kept.{places_behind, kept_places};
 
 use crate::arguments::{is_left, span_of, take_cell};
@@ -67,8 +66,10 @@ fn agrees_in_order<N: NameValue>(
     }
 }
 
-/// Whether a plain clause accepts a goal, as `accepts_in_order` says of any.
-fn plain_accepts_in_order<N: NameValue>(
+/// Whether a clause agrees with a goal, whatever its tests say, and the variables of its head stand in order of their numbers, each once,
+/// if the names of the clause's code are these. Then the scratch keeps the cells at their places until it is used for something else
+/// than an instance of this clause. If not, nothing is said of the clause.
+pub fn agrees_with_in_order<N: NameValue>(
     store: &Store<N>,
     names: &[N],
     clause: &CompiledClause,
@@ -76,9 +77,8 @@ fn plain_accepts_in_order<N: NameValue>(
     scratch: &mut Scratch<N>,
 ) -> Result<bool, AllocError>
     requires clause { IsClause names.now clause.now }
-    requires plain { IsPlain clause.now.patterns.items clause.now.tests.items }
     requires goal { IsIn store.now.held goal }
-    ensures { IfOk result (λ accepts. IsTrue accepts → IsVerdict N.built names.now clause.now store.now.held goal (kept_places scratch.new) [] [] Accepts) }
+    ensures { IfOk result (λ agrees. IsTrue agrees → IsTried N.built names.now clause.now store.now.held goal (kept_places scratch.new) [] [] Accepts) }
 {
     let row = clause.patterns.as_slice();
     let behind = &mut scratch.spans;
@@ -102,25 +102,4 @@ fn plain_accepts_in_order<N: NameValue>(
         at += 1;
     }
     Ok(!is_left(store, &mut span, behind))
-}
-
-/// Whether a clause without tests but `true` accepts a goal, and the variables of its head stand in order of their numbers, each once, if
-/// the names of the clause's code are these. Then the scratch keeps the cells at their places until it is used for something else
-/// than an instance of this clause. If not, nothing is said of the clause.
-#[inline]
-pub fn accepts_in_order<N: NameValue>(
-    store: &Store<N>,
-    names: &[N],
-    clause: &CompiledClause,
-    goal: Cell<N>,
-    scratch: &mut Scratch<N>,
-) -> Result<bool, AllocError>
-    requires clause { IsClause names.now clause.now }
-    requires goal { IsIn store.now.held goal }
-    ensures { IfOk result (λ accepts. IsTrue accepts → IsVerdict N.built names.now clause.now store.now.held goal (kept_places scratch.new) [] [] Accepts) }
-{
-    if !clause.is_plain {
-        return Ok(false);
-    }
-    plain_accepts_in_order(store, names, clause, goal, scratch)
 }

@@ -6,7 +6,7 @@ use Rattle.kl1_match.specs.Kept.{places_behind}
 use Rattle.kl1_match.specs.declared.met.Met.TheVariants.{Agrees}
 use Rattle.kl1_match.proofs.Beside.{variable_meets}
 use Rattle.kl1_match.proofs.Kept.{behind_more}
-use Rattle.kl1_match.proofs.accepting.agrees_in_order.Goals as goal
+use Rattle.kl1_match.proofs.agreeing.agrees_in_order.Goals as goal
 
 pub returns-in-Variable-clause-agrees : goal.returns-in-Variable-clause-agrees
 returns-in-Variable-clause-agrees g c = λ yes.
