@@ -195,9 +195,13 @@ pub(crate) fn look_at<N: NameValue>(
 {
     note_slot(begun, slots, place)?;
     let slot = &mut slots[place];
+    let was = slot.goal.is_enabled && slot.goal.standing.is_some();
+    let is = is_enabled && standing.is_some();
     slot.goal.standing = standing;
     slot.goal.is_enabled = is_enabled;
-    slot.rank(queue, place);
+    if was != is {
+        slot.rank(queue, place);
+    }
     Ok(())
 }
 

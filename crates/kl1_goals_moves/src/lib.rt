@@ -31,6 +31,6 @@ pub use needs::{Needs, needs_of, priorities_of};
 pub use order::{ExecuteArguments, look_at_order, number_at, order_at};
 pub use predicates::or_none;
 pub use spelling::{Spelling, spell};
-pub use standing::standing_of;
+pub use standing::{judge_of, standing_of};
 pub use substitute::{substitute_move, substitute_standing};
 pub use trial::Trial;

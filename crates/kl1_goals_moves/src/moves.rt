@@ -20,7 +20,7 @@ use crate::spelling::spell;
 use crate::trial::Trial;
 use kl1_clause::Predicate;
 use kl1_match_guard::evaluate_cell;
-use kl1_match_verdict::{choose, is_candidate, takes_in_order};
+use kl1_match_verdict::{choose, is_candidate};
 use kl1_model::{BuiltIn, Rules};
 use kl1_store::{Cell, Store};
 use kl1_text::NameValue;
@@ -182,16 +182,5 @@ fn committing<N: NameValue>(
     if place >= predicate.clauses.len() {
         return Ok(None);
     }
-    if !takes_in_order(
-        store,
-        predicate.names,
-        predicate.clauses,
-        place,
-        call.cell(),
-        &mut trial.scratch,
-    )? {
-        return committing_by_places(store, call, predicate, number, trial);
-    }
-    trial.is_in_order = true;
-    Ok(Some(Move::Commits(place)))
+    committing_by_places(store, call, predicate, number, trial)
 }

@@ -25,6 +25,7 @@ use crate::counts::Counts;
 pub use answering::Answer;
 pub use bringing::Brought;
 use kl1_goals::{GoalTable, Rules};
+use kl1_ready::Judged;
 use kl1_shoen::ShoenTree;
 use kl1_store::{Point, Store};
 use kl1_text::{AtomText, CellName};
@@ -50,4 +51,5 @@ pub struct Machine {
     pub told: Vec<u64>,
     /// Whether goals may be let or held back other than when the event began.
     pub shifts: bool,
+    pub judged: Judged,
 }

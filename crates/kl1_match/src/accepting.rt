@@ -124,3 +124,15 @@ pub fn accepts_in_order<N: NameValue>(
     }
     plain_accepts_in_order(store, names, clause, goal, scratch)
 }
+
+/// In order, tests aside.
+#[inline(always)]
+pub fn matches_in_order<N: NameValue>(
+    store: &Store<N>,
+    names: &[N],
+    clause: &CompiledClause,
+    goal: Cell<N>,
+    scratch: &mut Scratch<N>,
+) -> Result<bool, AllocError> {
+    plain_accepts_in_order(store, names, clause, goal, scratch)
+}

@@ -24,7 +24,7 @@ mod testing;
 mod variables;
 mod verdict;
 
-pub use accepting::accepts_in_order;
+pub use accepting::{accepts_in_order, matches_in_order};
 pub use at_once::known_at_once;
 pub use goal_cells::{put_goal, put_goal_variables, reserve_goal, reserve_goal_beside};
 pub use heads::{find_match, judge_plain};

@@ -34,6 +34,7 @@ impl Machine {
         self.shoens.back();
         self.counts = self.begun;
         self.name = None;
+        self.judged.number = 0;
         self.spelled = None;
         self.told.clear();
         self.shifts = false;

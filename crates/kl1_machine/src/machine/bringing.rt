@@ -60,6 +60,7 @@ impl Machine {
         ensures rested { OnOk result (IsRested modules.now self.new) }
         ensures keeps { Keeps self.old self.new }
     {
+        self.judged.number = 0;
         self.put_brought(scratch, brought, numbers)?;
         self.reschedule_anew(modules, trial)
     }

@@ -47,8 +47,8 @@ impl Machine {
             task,
             shoen,
             priority,
-            standing: None,
-            is_enabled: false,
+            standing: Some(crate::machine::rescheduling::UNJUDGED),
+            is_enabled: true,
         })?;
         self.counts.last_goal = number;
         Ok(())

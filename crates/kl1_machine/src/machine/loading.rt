@@ -57,6 +57,7 @@ impl Machine {
         ensures flags { OnOk result (map unready self.new.goals.goals ≡ map unready self.old.goals.goals) }
         ensures keeps { Keeps self.old self.new }
     {
+        self.judged.number = 0;
         self.wake_beside(modules, loaded, trial, 0)?;
         let mut number = 0;
         while let Some(goal) = self.goals.after(number) {

@@ -84,6 +84,7 @@ impl Machine {
             return;
         };
         let spelled = self.spelled;
+        self.judged.number = 0;
         self.name = None;
         self.spelled = None;
         text.shows_text();

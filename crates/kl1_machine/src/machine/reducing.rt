@@ -19,7 +19,7 @@ use crate::machine::Machine;
 use kl1_codes::{CodeSource, CodedModules};
 use kl1_goals::Goal;
 use kl1_goals_moves::Trial;
-use kl1_ready::{CallCache, Plan, PlannedMove, plan_of};
+use kl1_ready::{CallCache, Plan, PlannedMove, plan_of, predicate_of};
 use kl1_store::Qualified;
 use kl1_stream::Control;
 use kl1_text::CellName;
@@ -28,6 +28,23 @@ use kl1_user_events::Refusal;
 use std::alloc::AllocError;
 
 impl Machine {
+    #[inline(always)]
+    fn planned<'a, C: CodeSource>(&self, modules: &'a CodedModules<'_, C>, number: u64, clause: u64) -> Option<Plan<'a>> {
+        let judged = &self.judged;
+        if judged.number != number || judged.clause != clause {
+            return None;
+        }
+        if let Some(control) = judged.reads {
+            return Some(Plan::Reads(control));
+        }
+        Some(Plan::Moves(PlannedMove {
+            cell: judged.cell,
+            kind: judged.kind,
+            predicate: predicate_of(modules, judged.kind),
+            made: judged.made,
+        }))
+    }
+
     /// Goal `number`, which may step, if a command may have these numbers; or why its reduction by clause `clause` is refused.
     pub(crate) fn steppable(&self, number: u64, clause: u64) -> Result<Goal<CellName>, Refusal>
         ensures refused { IfErr result (λ r. (program : Program) (full : Bool) → AreEnabled self.now.shoens.shoens self.now.shoens.work self.now.goals.goals → Refuses program full number clause self.now r) }
@@ -75,9 +92,14 @@ impl Machine {
             Err(refusal) => return Ok(Some(refusal)),
             Ok(goal) => goal,
         };
-        let Some(plan) = plan_of(&self.store, &self.shoens, modules, trial, goal, clause)? else {
-            return Ok(Some(Refusal::Step));
+        let plan = match self.planned(modules, number, clause) {
+            Some(plan) => plan,
+            None => match plan_of(&self.store, &self.shoens, modules, trial, goal, clause)? {
+                None => return Ok(Some(Refusal::Step)),
+                Some(plan) => plan,
+            },
         };
+        self.judged.number = 0;
         if is_full {
             return Ok(Some(Refusal::Journal));
         }

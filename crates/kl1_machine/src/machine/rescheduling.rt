@@ -14,9 +14,11 @@ ghost use Rattle.kl1_machine.specs.Rescheduling.{Wakes, Schedules, Shifts, all_t
 use crate::machine::Machine;
 use kl1_codes::{CodeSource, CodedModules};
 use kl1_goals_moves::{Kind, Trial};
-use kl1_ready::{CallCache, enable_each, may_step, predicate_of, put_in_order, ready_clause};
+use kl1_ready::{CallCache, enable_each, judge, may_step, predicate_of, put_in_order};
 use kl1_text::CellName;
 use std::alloc::AllocError;
+
+pub const UNJUDGED: u64 = 0xffff_ffff_ffff_ffff;
 
 impl Machine {
     /// Tells the numbers that hang on variables which were bound since the event began. All that are told stand in order, each once.
@@ -45,11 +47,7 @@ impl Machine {
         ensures ok { OnOk result (Wakes calls.now.modules.now (number ∷ []) self.old self.new) }
         ensures keeps { (b : Machine) → Keeps b self.old → Keeps b self.new }
     {
-        let Some(goal) = self.goals.lend(number) else {
-            return Ok(());
-        };
-        let clause = ready_clause(&mut self.store, &self.shoens, calls, trial, goal)?;
-        self.goals.set_standing(number, clause)
+        self.goals.set_standing(number, Some(UNJUDGED))
     }
 
     /// Looks at the goals that are told, monitors too.
@@ -88,9 +86,8 @@ impl Machine {
         let Some(goal) = self.goals.lend(number) else {
             return Ok(());
         };
-        let clause = ready_clause(&mut self.store, &self.shoens, calls, trial, goal)?;
         let is_enabled = may_step(&self.shoens, running, goal);
-        self.goals.look(number, clause, is_enabled)
+        self.goals.look(number, Some(UNJUDGED), is_enabled)
     }
 
     /// Looks at the goals that came since the event began, up to goal `last`: each gets the clause by which it can step, and may step if its
@@ -159,8 +156,33 @@ impl Machine {
         self.tell_bound()?;
         self.wake_affected(calls, trial)?;
         let last = self.counts.last_goal;
-        self.schedule_new(calls, trial, lets, last)?;
-        self.shift()
+        if self.shifts { self.schedule_new(calls, trial, lets, last)?; }
+        self.shift()?;
+        self.judge_first(calls, trial)
+    }
+
+    /// Judges the first.
+    fn judge_first<C: CodeSource>(
+        &mut self,
+        calls: &CallCache<'_, '_, C>,
+        trial: &mut Trial<CellName>,
+    ) -> Result<(), AllocError> {
+        while let Some((number, clause)) = self.goals.pick() {
+            if clause != UNJUDGED {
+                return Ok(());
+            }
+            let Some(goal) = self.goals.lend(number) else {
+                return Ok(());
+            };
+            let by = judge(&mut self.store, &self.shoens, calls, trial, goal, &mut self.judged)?;
+            self.goals.set_standing(number, by)?;
+            if let Some(by) = by {
+                self.judged.number = number;
+                self.judged.clause = by;
+                return Ok(());
+            }
+        }
+        Ok(())
     }
 
     /// Ends an event as `reschedule` does, with no clauses looked up before, and no shoen known that lets its goals step.

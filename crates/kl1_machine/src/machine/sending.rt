@@ -78,6 +78,7 @@ impl Machine {
             Ok(origin) => origin,
             Err(refusal) => return Ok(Some(refusal)),
         };
+        self.judged.number = 0;
         self.put_message(number, origin.control, message)?;
         self.reschedule_anew(modules, trial)?;
         Ok(None)

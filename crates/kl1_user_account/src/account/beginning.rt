@@ -20,7 +20,9 @@ use kl1_goals_moves::Trial;
 use kl1_machine::{Counts, Machine};
 use kl1_match::Scratch;
 use kl1_shoen::ShoenTree;
-use kl1_store::Store;
+use kl1_goals_moves::{Kind, Move};
+use kl1_ready::Judged;
+use kl1_store::{Cell, Qualified, Store};
 use kl1_text::{AtomText, CellName};
 use kl1_user_effects::{AccountNames, PathScan, publish};
 use std::alloc::{AllocError, Global};
@@ -125,6 +127,7 @@ impl<C: CodeSource> Account<C> {
             names,
             name: None,
             spelled: None,
+            judged: Judged { number: 0, clause: 0, reads: None, cell: Qualified { module_name: None, cell: Cell::Integer(0) }, kind: Kind::Nothing, made: Move::Goes },
             counts,
             mark,
             begun: counts,
