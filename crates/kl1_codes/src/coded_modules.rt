@@ -90,6 +90,33 @@ impl<'a, C: CodeSource> CodedModules<'a, C> {
             .find(self.code_source, module_name, name, count)
     }
 
+    /// Numbered.
+    #[inline(always)]
+    pub fn find_numbered(
+        &self,
+        module_name: CellName,
+        name: CellName,
+        count: usize,
+    ) -> u64
+    {
+        self.modules
+            .find_numbered(module_name, name, count)
+    }
+
+    /// By number.
+    #[inline(always)]
+    pub fn predicate_at(&self, number: u64) -> Option<Predicate<'_, CellName>>
+    {
+        self.modules.predicate_at(self.code_source, number)
+    }
+
+    /// By number.
+    #[inline(always)]
+    pub fn is_at(&self, number: u64, module_name: CellName, name: CellName, count: usize) -> bool
+    {
+        self.modules.is_at(number, module_name, name, count)
+    }
+
     /// Like `find`, with one module more, which is drafted and none of these.
     pub fn find_beside<'b>(
         &'b self,

@@ -77,6 +77,19 @@ fn is_at(index: &[(Key, Span)], key: Key, place: usize) -> bool
 }
 
 /// The span of a key, or nothing if it has none, as `span_of` finds it. The first few keys are compared one by one.
+pub(crate) fn place_near(index: &[(Key, Span)], key: Key) -> Option<usize> {
+    for place in 0..FEW.min(index.len()) {
+        if is_at(index, key, place) {
+            return Some(place);
+        }
+    }
+    match search(index, key) {
+        Err(_) => None,
+        Ok(place) => Some(place),
+    }
+}
+
+/// The span.
 pub(crate) fn span_near(index: &[(Key, Span)], key: Key) -> Option<Span>
     requires { IsInOrder index.now }
     ensures { result ≡ span_at index.now key }

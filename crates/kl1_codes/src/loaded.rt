@@ -7,7 +7,7 @@ ghost use Rattle.kl1_clause.specs.Predicates.{AreSome};
 ghost use Rattle.kl1_codes.specs.Finding.{FindsIn};
 
 use crate::code_source::CodeSource;
-use crate::indexing::{Index, key_by, put_spans, span_near};
+use crate::indexing::{Index, key_by, place_near, put_spans, span_near};
 use crate::span::part;
 use kl1_clause::{Code, Predicate};
 use kl1_text::{CellName, NameValue};
@@ -134,6 +134,35 @@ impl<C: CodeSource> Loaded<C> {
                 clauses: part(code.clauses(), span),
             }),
         }
+    }
+
+    /// Numbered.
+    pub fn find_numbered<'a>(
+        &'a self,
+        name: CellName,
+        count: usize,
+    ) -> Option<usize>
+    {
+        place_near(&self.index, key_by(name, count))
+    }
+
+    /// By number.
+    #[inline(always)]
+    pub fn predicate_at<'a>(&'a self, codes: &'a C, place: usize) -> Predicate<'a, CellName>
+    {
+        let row = &self.index[place];
+        Predicate {
+            names: &self.row,
+            clauses: part(self.code(codes).clauses(), row.1),
+        }
+    }
+
+    /// By number.
+    #[inline(always)]
+    pub fn is_at(&self, place: usize, name: CellName, count: usize) -> bool
+    {
+        let row = &self.index[place];
+        row.0.0 == name.number && row.0.1 == count
     }
 
     /// The clauses of a predicate, or nothing if there is none.

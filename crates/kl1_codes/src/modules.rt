@@ -92,6 +92,51 @@ impl<C: CodeSource> Modules<C> {
         }
     }
 
+    /// Numbered.
+    #[inline(always)]
+    pub fn find_numbered(
+        &self,
+        module_name: CellName,
+        name: CellName,
+        count: usize,
+    ) -> u64
+    {
+        for place in 0..FEW {
+            match self.loaded.get_index(place) {
+                None => break,
+                Some((other, loaded)) => {
+                    if *other == module_name.number {
+                        return match loaded.find_numbered(name, count) {
+                            None => 0xffff_ffff_ffff_ffff,
+                            Some(q) => ((place as u64) << 32) | q as u64,
+                        };
+                    }
+                }
+            }
+        }
+        0xffff_ffff_ffff_ffff
+    }
+
+    /// By number.
+    #[inline(always)]
+    pub fn predicate_at<'a>(&'a self, codes: &'a C, number: u64) -> Option<Predicate<'a, CellName>>
+    {
+        match self.loaded.get_index((number >> 32) as usize) {
+            None => None,
+            Some((_, loaded)) => Some(loaded.predicate_at(codes, (number & 0xffff_ffff) as usize)),
+        }
+    }
+
+    /// By number.
+    #[inline(always)]
+    pub fn is_at(&self, number: u64, module_name: CellName, name: CellName, count: usize) -> bool
+    {
+        match self.loaded.get_index((number >> 32) as usize) {
+            None => false,
+            Some((other, loaded)) => *other == module_name.number && loaded.is_at((number & 0xffff_ffff) as usize, name, count),
+        }
+    }
+
     /// Makes room for `more` modules more. If memory is refused, the modules are as before.
     pub fn reserve(&mut self, more: usize) -> Result<(), AllocError>
         ensures ok { OnOk result (more ≤ self.new.room) }

@@ -6,6 +6,7 @@ ghost use Rattle.kl1_goals.specs.Lists.{is_monitor, is_goal_of};
 ghost use Rattle.kl1_goals.specs.Readies.{stands};
 
 use crate::task::Task;
+use kl1_goals_moves::Standing;
 
 /// A goal: its number in the account, from 1, its task, the number of its shoen, its priority, at most a monitor's, the number of
 /// the clause by which it could step, as of the last change, none if there is none, and whether its shoen lets it step; a
@@ -16,7 +17,7 @@ pub struct Goal<N> {
     pub task: Task<N>,
     pub shoen: u64,
     pub priority: u64,
-    pub standing: Option<u64>,
+    pub standing: Standing,
     pub is_enabled: bool,
 }
 
@@ -47,9 +48,9 @@ impl<N> Goal<N> {
         if !self.is_enabled {
             return None;
         }
-        match self.standing {
-            None => None,
-            Some(_) => Some(self.priority as u16),
+        if !self.standing.is_ready() {
+            return None;
         }
+        Some(self.priority as u16)
     }
 }

@@ -13,6 +13,7 @@ use crate::places::{append, bury, count_upto, first_held, held_place, look_at, t
 use crate::room::make_room;
 use crate::slot::Slot;
 use crate::tally::{Tally, exchange_last, lower, lower_alive, raise, raise_alive, tally_of};
+use kl1_goals_moves::Standing;
 use kl1_queue::ReadyQueue;
 use kl1_shoen_paths::put_all_back;
 use kl1_text::NameValue;
@@ -154,7 +155,7 @@ impl<N: NameValue> GoalTable<N> {
     }
 
     /// From now on goal `number` has this clause by which it could step, or none.
-    pub fn set_standing(&mut self, number: u64, standing: Option<u64>) -> Result<(), AllocError>
+    pub fn set_standing(&mut self, number: u64, standing: Standing) -> Result<(), AllocError>
         ensures ok { OnOk result (self.new.goals ≡ map (stood_by number standing) self.old.goals) }
         ensures rest { self.new ≡ record self.old { goals = self.new.goals } }
     {
@@ -178,7 +179,7 @@ impl<N: NameValue> GoalTable<N> {
     pub fn look(
         &mut self,
         number: u64,
-        standing: Option<u64>,
+        standing: Standing,
         is_enabled: bool,
     ) -> Result<(), AllocError>
         ensures ok { OnOk result (self.new.goals ≡ map (looked_at number standing is_enabled) self.old.goals) }
@@ -355,10 +356,10 @@ impl<N: NameValue> GoalTable<N> {
             None => None,
             Some(place) => {
                 let goal = self.slots[place].goal;
-                match goal.standing {
-                    None => None,
-                    Some(clause) => Some((goal.number, clause)),
+                if !goal.standing.is_ready() {
+                    return None;
                 }
+                Some((goal.number, goal.standing.clause))
             }
         }
     }

@@ -14,6 +14,7 @@ use crate::chains::{forget_last, link_all, unlink_last};
 use crate::goal::Goal;
 use crate::slot::Slot;
 use crate::tally::Tally;
+use kl1_goals_moves::Standing;
 use kl1_queue::ReadyQueue;
 use kl1_text::NameValue;
 use std::alloc::AllocError;
@@ -181,7 +182,7 @@ pub(crate) fn look_at<N: NameValue>(
     empty: usize,
     queue: &mut ReadyQueue,
     place: usize,
-    standing: Option<u64>,
+    standing: Standing,
     is_enabled: bool,
 ) -> Result<(), AllocError>
     requires slots { AreSlots slots.old.items empty queue.old.ranks }

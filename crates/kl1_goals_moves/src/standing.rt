@@ -19,70 +19,83 @@ use crate::trial::Trial;
 use kl1_clause::Predicate;
 use kl1_match_guard::{Evaluated, evaluate_cell};
 use kl1_match_verdict::choose;
-use kl1_model::Rules;
+use crate::deed::{Deed, Standing};
+use kl1_model::{Number, Rules};
 use kl1_store::Store;
 use kl1_text::NameValue;
 use std::alloc::AllocError;
 
-/// The least clause by which a goal of a kind can step by the rules of its account, or nothing if it has to wait or is no goal. The
-/// trial gets the variables that it waits for; they are unbound.
+/// The least clause by which a goal of a kind can step by the rules of its account, or nothing if it has to wait or is no goal.
 #[inline(always)]
 pub fn standing_of<N: NameValue>(
     store: &Store<N>,
     rules: Rules,
     kind: Kind<N>,
     predicate: Predicate<'_, N>,
+    number: u64,
     trial: &mut Trial<N>,
-) -> Result<Option<u64>, AllocError>
-    requires kind { KindIn store.now.held kind }
-    requires predicate { AreSome predicate.names.now predicate.clauses.now }
-    ensures unbound { OnOk result (AreUnbound store.now.held trial.new.awaited.items) }
-    ensures remembers { OnOk result (Remembers N.built store.now.held trial.new.scratch.same) }
-    ensures standing { IfOk result (λ clause. (f : N → List ℕ) → Reads N.built f → (modules : List Module) (t : Term) → IsKind f store.now.held t kind → HasPredicate f store.now.held modules kind predicate.entry → StandsAs rules modules t trial.new.awaited.items clause) }
+) -> Result<Standing, AllocError>
 {
     trial.awaited.clear();
     store.forget(&mut trial.scratch.same);
     match kind {
-        Kind::Calls(call) => choose(
+        Kind::Calls(call) => {
+            match choose(
             store,
             predicate.names,
             predicate.clauses,
             call.cell(),
             &mut trial.scratch,
             &mut trial.awaited,
-        ),
-        Kind::Unifies(_, _) => Ok(Some(0)),
+        )? {
+            None => Ok(Standing::of(Deed::Waits)),
+            Some(clause) => {
+                if clause == 0 {
+                    return Ok(Standing::of(Deed::Fails));
+                }
+                Ok(Standing { clause, deed: Deed::Calls(number) })
+            }
+        }
+        }
+        Kind::Unifies(_, _) => Ok(Standing::of(Deed::Unifies)),
         Kind::Assigns(_, right) => {
             match evaluate_cell(store, right, &mut trial.guard)? {
-                Evaluated::ComesTo(_) => Ok(Some(0)),
+                Evaluated::ComesTo(number) => {
+                    let deed = match number {
+                        Number::Value(v) => Deed::Assigns(v),
+                        Number::Overflow => Deed::Overflows,
+                        Number::ZeroDivisor => Deed::Misuses,
+                    };
+                    Ok(Standing::of(deed))
+                }
                 Evaluated::Awaits(first) => {
                     trial.awaited.push(first)?;
-                    Ok(None)
+                    Ok(Standing::of(Deed::Waits))
                 }
-                Evaluated::IsNoExpression => Ok(Some(0)),
+                Evaluated::IsNoExpression => Ok(Standing::of(Deed::Misuses)),
             }
         }
         Kind::Spells(codes, _) => match spell(store, rules, codes, &mut trial.text) {
-            Spelling::Spelled => Ok(Some(0)),
+            Spelling::Spelled => Ok(Standing::of(Deed::Other)),
             Spelling::Waits(code) => {
                 trial.awaited.push(code)?;
-                Ok(None)
+                Ok(Standing::of(Deed::Waits))
             }
-            Spelling::Misspelled => Ok(Some(0)),
+            Spelling::Misspelled => Ok(Standing::of(Deed::Other)),
         },
         Kind::Executes(structure) => match look_at_order(store, order_at(store, structure)) {
-            Look::Right => Ok(Some(0)),
+            Look::Right => Ok(Standing::of(Deed::Other)),
             Look::Waits(argument) => {
                 trial.awaited.push(argument)?;
-                Ok(None)
+                Ok(Standing::of(Deed::Waits))
             }
-            Look::Wrong => Ok(Some(0)),
+            Look::Wrong => Ok(Standing::of(Deed::Other)),
         },
-        Kind::Goes => Ok(Some(0)),
+        Kind::Goes => Ok(Standing::of(Deed::Goes)),
         Kind::Waits(variable) => {
             trial.awaited.push(variable)?;
-            Ok(None)
+            Ok(Standing::of(Deed::Waits))
         }
-        Kind::Nothing => Ok(None),
+        Kind::Nothing => Ok(Standing::of(Deed::Waits)),
     }
 }

@@ -9,7 +9,7 @@ use kl1_text::NameValue;
 
 /// The cell that a cell stands for. A structure stands for itself.
 #[inline(always)]
-pub(crate) fn walk<N: NameValue>(store: &Store<N>, cell: Cell<N>) -> Cell<N>
+pub fn walk<N: NameValue>(store: &Store<N>, cell: Cell<N>) -> Cell<N>
     requires { IsIn store.now.held cell }
     ensures inside { IsIn store.now.held result }
     ensures walked { IsWalked store.now.held result }

@@ -22,7 +22,7 @@ use crate::clauses::{clause_of_monitor, clause_of_substitute, ready_or_suspend};
 use kl1_clause::Predicate;
 use kl1_codes::{CodeSource, CodedModule, CodedModules};
 use kl1_goals::{Goal, Task};
-use kl1_goals_moves::{Kind, Trial, kind_of_qualified, or_none};
+use kl1_goals_moves::{Deed, Standing, Kind, Trial, kind_of_qualified, or_none};
 use kl1_shoen::ShoenTree;
 use kl1_store::{Qualified, Store};
 use kl1_text::CellName;
@@ -64,7 +64,7 @@ fn clause_beside<C: CodeSource>(
     trial: &mut Trial<CellName>,
     number: u64,
     cell: Qualified<CellName>,
-) -> Result<Option<u64>, AllocError>
+) -> Result<Standing, AllocError>
     requires cell { IsIn store.old.held cell.cell }
     requires new { is_numbered modules.now.loaded (number_of loaded.now) ≡ false }
     ensures ready { IfOk result (λ clause. (shoens : List (Shoen CellName)) (shoen : ℕ) → IsReadyAt (with_last modules.now loaded.now) shoens store.old.held store.new.hooks number shoen (Reduces cell) clause) }
@@ -73,7 +73,11 @@ fn clause_beside<C: CodeSource>(
 {
     let kind = kind_of_qualified(store, cell);
     let predicate = predicate_beside(modules, loaded, kind);
-    ready_or_suspend(store, modules.rules(), kind, predicate, trial, number)
+    let standing = ready_or_suspend(store, modules.rules(), kind, predicate, 0, trial, number)?;
+    if standing.is_ready() {
+        return Ok(Standing { deed: Deed::Other, clause: standing.clause });
+    }
+    Ok(standing)
 }
 
 /// Like `ready_clause`, with one module more.
@@ -84,7 +88,7 @@ pub fn ready_clause_beside<C: CodeSource>(
     loaded: &CodedModule<'_, C>,
     trial: &mut Trial<CellName>,
     goal: &Goal<CellName>,
-) -> Result<Option<u64>, AllocError>
+) -> Result<Standing, AllocError>
     requires task { IsTaskIn store.old.held goal.now.task }
     requires shoens { AreShoensIn store.old.held shoens.now.shoens }
     requires new { is_numbered modules.now.loaded (number_of loaded.now) ≡ false }

@@ -14,7 +14,7 @@ ghost use Rattle.kl1_ready.specs.Serving.{Serves, calls_same, IsServed};
 
 use kl1_clause::Predicate;
 use kl1_codes::{CodeSource, CodedModules};
-use kl1_goals_moves::{Call, Kind, or_none};
+use kl1_goals_moves::{Kind, or_none};
 use kl1_text::CellName;
 
 /// An account's modules, with the clauses of the predicate that goals of one kind call: for goals that call the same they aren't looked
@@ -22,7 +22,7 @@ use kl1_text::CellName;
 #[derive(Drop)]
 pub struct CallCache<'a, 'b, C: CodeSource> {
     pub modules: &'a CodedModules<'b, C>,
-    pub known: Kind<CellName>,
+    pub number: u64,
     pub predicate: Predicate<'a, CellName>,
 }
 
@@ -48,41 +48,36 @@ pub fn predicate_of<'a, C: CodeSource>(
     }
 }
 
-/// Whether goals of a kind call the predicate that a call does.
-fn calls_same(call: Call<CellName>, kind: &Kind<CellName>) -> bool
-    ensures { result ≡ calls_same call kind.now }
-{
-    match *kind {
-        Kind::Calls(other) => {
-            other.module_name.number == call.module_name.number
-                && other.name.number == call.name.number
-                && other.count == call.count
-        }
-        Kind::Unifies(_, _) => false,
-        Kind::Assigns(_, _) => false,
-        Kind::Spells(_, _) => false,
-        Kind::Executes(_) => false,
-        Kind::Goes => false,
-        Kind::Waits(_) => false,
-        Kind::Nothing => false,
-    }
-}
-
 /// The clauses of the predicate that goals of a kind call.
 #[inline(always)]
 pub(crate) fn predicate_for<'a, C: CodeSource>(
     calls: &CallCache<'a, '_, C>,
     kind: Kind<CellName>,
-) -> Predicate<'a, CellName>
-    requires served { IsServed calls.now.modules.now.loaded calls.now.known calls.now.predicate }
-    ensures some { AreSome result.names.now result.clauses.now }
-    ensures serves { Serves calls.now.modules.now.loaded kind result }
+) -> (Predicate<'a, CellName>, u64)
 {
-    let Kind::Calls(call) = calls.known else {
-        return predicate_of(calls.modules, kind);
-    };
-    if calls_same(call, &kind) {
-        return calls.predicate;
+    match kind {
+        Kind::Calls(call) => {
+            if calls.modules.is_at(calls.number, call.module_name, call.name, call.count) {
+                return (calls.predicate, calls.number);
+            }
+            let number = calls.modules.find_numbered(call.module_name, call.name, call.count);
+            (or_none(calls.modules.predicate_at(number)), number)
+        }
+        _ => (or_none(None), 0xffff_ffff_ffff_ffff),
     }
-    predicate_of(calls.modules, kind)
+}
+
+/// Anew.
+pub(crate) fn predicate_anew<'a, C: CodeSource>(
+    modules: &'a CodedModules<'_, C>,
+    kind: Kind<CellName>,
+) -> (Predicate<'a, CellName>, u64)
+{
+    match kind {
+        Kind::Calls(call) => {
+            let number = modules.find_numbered(call.module_name, call.name, call.count);
+            (or_none(modules.predicate_at(number)), number)
+        }
+        _ => (or_none(None), 0xffff_ffff_ffff_ffff),
+    }
 }

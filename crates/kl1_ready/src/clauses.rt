@@ -19,7 +19,7 @@ use crate::call_cache::{CallCache, predicate_for};
 use kl1_clause::Predicate;
 use kl1_codes::CodeSource;
 use kl1_goals::{Goal, Rules, Task};
-use kl1_goals_moves::{Kind, Trial, kind_of_qualified, standing_of, substitute_standing};
+use kl1_goals_moves::{Deed, Standing, Kind, Trial, kind_of_qualified, standing_of, substitute_standing};
 use kl1_shoen::ShoenTree;
 use kl1_store::{Cell, Qualified, Store};
 use kl1_store_hooks::hang_on;
@@ -35,16 +35,17 @@ pub(crate) fn ready_or_suspend(
     rules: Rules,
     kind: Kind<CellName>,
     predicate: Predicate<'_, CellName>,
+    m: u64,
     trial: &mut Trial<CellName>,
     number: u64,
-) -> Result<Option<u64>, AllocError>
+) -> Result<Standing, AllocError>
     requires kind { KindIn store.old.held kind }
     requires predicate { AreSome predicate.names.now predicate.clauses.now }
     ensures ready { IfOk result (λ clause. IsReadyBy rules store.old.held store.new.hooks kind predicate.entry number clause) }
     ensures held { store.new.held ≡ store.old.held }
     ensures grown { HasGrown store.old store.new }
 {
-    let clause = standing_of(store, rules, kind, predicate, trial)?;
+    let clause = standing_of(store, rules, kind, predicate, m, trial)?;
     if !trial.awaited.is_empty() {
         store.keep_rests(&trial.scratch.same)?;
         hang_on(store, trial.awaited.as_slice(), number)?;
@@ -60,7 +61,7 @@ fn clause_of_goal<C: CodeSource>(
     trial: &mut Trial<CellName>,
     number: u64,
     cell: Qualified<CellName>,
-) -> Result<Option<u64>, AllocError>
+) -> Result<Standing, AllocError>
     requires cell { IsIn store.old.held cell.cell }
     requires served { IsServed calls.now.modules.now.loaded calls.now.known calls.now.predicate }
     ensures ready { IfOk result (λ clause. (shoens : List (Shoen CellName)) (shoen : ℕ) → IsReadyAt calls.now.modules.now shoens store.old.held store.new.hooks number shoen (Reduces cell) clause) }
@@ -68,8 +69,8 @@ fn clause_of_goal<C: CodeSource>(
     ensures grown { HasGrown store.old store.new }
 {
     let kind = kind_of_qualified(store, cell);
-    let predicate = predicate_for(calls, kind);
-    ready_or_suspend(store, calls.modules.rules(), kind, predicate, trial, number)
+    let (predicate, m) = predicate_for(calls, kind);
+    ready_or_suspend(store, calls.modules.rules(), kind, predicate, m, trial, number)
 }
 
 /// The clause by which monitor `number` can step that reads this control stream: 0, or none as long as it waits. The number is
@@ -78,7 +79,7 @@ fn clause_of_control(
     store: &mut Store<CellName>,
     control: Cell<CellName>,
     number: u64,
-) -> Result<Option<u64>, AllocError>
+) -> Result<Standing, AllocError>
     requires { IsIn store.old.held control }
     ensures ready { IfOk result (λ clause. IsHeardAt store.old.held store.new.hooks control number clause) }
     ensures held { store.new.held ≡ store.old.held }
@@ -87,12 +88,12 @@ fn clause_of_control(
     match read_control(store, control) {
         Control::Awaits(variable) => {
             hang_on(store, &[variable], number)?;
-            Ok(None)
+            Ok(Standing::of(Deed::Waits))
         }
-        Control::Tells(_message, _rest) => Ok(Some(0)),
-        Control::TellsOther(_element, _rest) => Ok(Some(0)),
-        Control::Ends => Ok(Some(0)),
-        Control::BreaksOff(_cell) => Ok(Some(0)),
+        Control::Tells(_message, _rest) => Ok(Standing::of(Deed::Other)),
+        Control::TellsOther(_element, _rest) => Ok(Standing::of(Deed::Other)),
+        Control::Ends => Ok(Standing::of(Deed::Other)),
+        Control::BreaksOff(_cell) => Ok(Standing::of(Deed::Other)),
     }
 }
 
@@ -103,14 +104,14 @@ pub(crate) fn clause_of_monitor(
     shoens: &ShoenTree<CellName>,
     number: u64,
     shoen: u64,
-) -> Result<Option<u64>, AllocError>
+) -> Result<Standing, AllocError>
     requires { AreShoensIn store.old.held shoens.now.shoens }
     ensures ready { IfOk result (λ clause. (program : Program) → IsReadyAt program shoens.now.shoens store.old.held store.new.hooks number shoen Monitor clause) }
     ensures held { store.new.held ≡ store.old.held }
     ensures grown { HasGrown store.old store.new }
 {
     match shoens.lend(shoen) {
-        None => Ok(None),
+        None => Ok(Standing::of(Deed::Waits)),
         Some(found) => clause_of_control(store, found.control, number),
     }
 }
@@ -122,7 +123,7 @@ pub(crate) fn clause_of_substitute(
     trial: &mut Trial<CellName>,
     number: u64,
     term: Cell<CellName>,
-) -> Result<Option<u64>, AllocError>
+) -> Result<Standing, AllocError>
     requires term { IsIn store.old.held term }
     ensures ready { IfOk result (λ clause. (program : Program) (shoens : List (Shoen CellName)) (shoen : ℕ) → IsReadyAt program shoens store.old.held store.new.hooks number shoen (Substitutes term) clause) }
     ensures held { store.new.held ≡ store.old.held }
@@ -132,7 +133,10 @@ pub(crate) fn clause_of_substitute(
     if !trial.awaited.is_empty() {
         hang_on(store, trial.awaited.as_slice(), number)?;
     }
-    Ok(clause)
+    match clause {
+        None => Ok(Standing::of(Deed::Waits)),
+        Some(_) => Ok(Standing::of(Deed::Other)),
+    }
 }
 
 /// The clause by which a goal can step, or none. The goal's number is hung on each variable that it waits for.
@@ -143,7 +147,7 @@ pub fn ready_clause<C: CodeSource>(
     calls: &CallCache<'_, '_, C>,
     trial: &mut Trial<CellName>,
     goal: &Goal<CellName>,
-) -> Result<Option<u64>, AllocError>
+) -> Result<Standing, AllocError>
     requires task { IsTaskIn store.old.held goal.now.task }
     requires shoens { AreShoensIn store.old.held shoens.now.shoens }
     requires served { IsServed calls.now.modules.now.loaded calls.now.known calls.now.predicate }

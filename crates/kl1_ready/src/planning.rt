@@ -11,11 +11,13 @@ ghost use Rattle.kl1_user_effects.specs.Kept.{IsTaskIn, AreShoensIn};
 ghost use Rattle.kl1_user_effects.specs.Works.{Made};
 ghost use Rattle.kl1_ready.specs.Plans.{is_read, IsPlan, DoesNothing};
 
-use crate::call_cache::predicate_of;
+use crate::call_cache::{predicate_anew, predicate_of};
 use kl1_clause::Predicate;
 use kl1_codes::{CodeSource, CodedModules};
 use kl1_goals::{Goal, Task};
-use kl1_goals_moves::{Kind, Move, Trial, kind_of_qualified, move_of, substitute_move};
+use kl1_goals_moves::{Deed, Kind, Move, Trial, kind_of_qualified, move_of, or_none, substitute_move, walk};
+use kl1_match_verdict::find_places;
+use kl1_model::BuiltIn;
 use kl1_shoen::ShoenTree;
 use kl1_store::{Cell, Qualified, Store};
 use kl1_stream::{Control, read_control};
@@ -26,9 +28,9 @@ use std::alloc::AllocError;
 #[derive(Clone, Copy)]
 pub struct PlannedMove<'a> {
     pub cell: Qualified<CellName>,
-    pub kind: Kind<CellName>,
     pub predicate: Predicate<'a, CellName>,
     pub made: Move<CellName>,
+    pub number: u64,
 }
 
 /// What a goal is to do: a monitor reads, and any other goal makes a move.
@@ -75,41 +77,119 @@ fn plan_reading<'a>(
     Some(Plan::Reads(control))
 }
 
-/// Whether a goal has this clause by which it can step.
-fn stands_by(goal: Goal<CellName>, clause: u64) -> bool
-    ensures { result ≡ true → goal.standing ≡ Some clause }
-{
-    match goal.standing {
-        None => false,
-        Some(own) => own == clause,
-    }
-}
-
 /// What a goal for a cell is to do by a clause of its predicate; nothing if it can do nothing by it.
+#[inline(always)]
 fn plan_move<'a, C: CodeSource>(
     store: &Store<CellName>,
     modules: &'a CodedModules<'_, C>,
     trial: &mut Trial<CellName>,
-    goal: Goal<CellName>,
+    goal: &Goal<CellName>,
     cell: Qualified<CellName>,
     clause: u64,
 ) -> Result<Option<Plan<'a>>, AllocError>
-    requires reduces { goal.task ≡ Reduces cell }
-    requires cell { IsIn store.now.held cell.cell }
-    ensures { IfOk result (λ o. (w : Made) → w.rules ≡ modules.now.rules → MatchOption o (DoesNothing modules.now store.now.held w goal clause) (IsPlan modules.now store.now.held w goal clause (taken_places trial.new) trial.new.text)) }
 {
+    if goal.standing.clause == clause {
+        match goal.standing.deed {
+            Deed::Waits => {}
+            Deed::Other => {}
+            Deed::Calls(number) => {
+                let Some(predicate) = modules.predicate_at(number) else {
+                    return Ok(None);
+                };
+                let place = (clause - 1) as usize;
+                if place >= predicate.clauses.len() {
+                    return Ok(None);
+                }
+                let inner = called_cell(store, cell);
+                trial.is_in_order = find_places(
+                    store,
+                    predicate.names,
+                    predicate.clauses,
+                    place,
+                    inner,
+                    &mut trial.scratch,
+                    &mut trial.places,
+                    &mut trial.awaited,
+                )?;
+                return Ok(Some(Plan::Moves(PlannedMove {
+                    cell,
+                    predicate,
+                    made: Move::Commits(place),
+                    number,
+                })));
+            }
+            Deed::Unifies => {
+                let (left, right) = two(store, cell);
+                return Ok(Some(plain(cell, Move::Unifies(left, right))));
+            }
+            Deed::Assigns(value) => {
+                let (left, _) = two(store, cell);
+                return Ok(Some(plain(cell, Move::Unifies(left, Cell::Integer(value)))));
+            }
+            Deed::Fails => return Ok(Some(plain(cell, Move::Raises(BuiltIn::Failure)))),
+            Deed::Overflows => return Ok(Some(plain(cell, Move::Raises(BuiltIn::Overflow)))),
+            Deed::Misuses => return Ok(Some(plain(cell, Move::Raises(BuiltIn::IllegalInput)))),
+            Deed::Goes => return Ok(Some(plain(cell, Move::Goes))),
+        }
+    }
+    plan_anew(store, modules, trial, cell, clause)
+}
+
+/// The called.
+#[inline(always)]
+fn called_cell(store: &Store<CellName>, cell: Qualified<CellName>) -> Cell<CellName> {
+    match cell.module_name {
+        None => match walk(store, cell.cell) {
+            Cell::Structure(structure) => walk(store, store.argument(structure, 1)),
+            other => other,
+        },
+        Some(_) => walk(store, cell.cell),
+    }
+}
+
+/// Two.
+#[inline(always)]
+fn two(store: &Store<CellName>, cell: Qualified<CellName>) -> (Cell<CellName>, Cell<CellName>) {
+    match walk(store, cell.cell) {
+        Cell::Structure(structure) => (store.argument(structure, 0), store.argument(structure, 1)),
+        _ => (cell.cell, cell.cell),
+    }
+}
+
+/// Plain.
+#[inline(always)]
+fn plain<'a>(
+    cell: Qualified<CellName>,
+    made: Move<CellName>,
+) -> Plan<'a> {
+    Plan::Moves(PlannedMove {
+        cell,
+        predicate: or_none(None),
+        made,
+        number: 0xffff_ffff_ffff_ffff,
+    })
+}
+
+/// Anew.
+#[inline(never)]
+fn plan_anew<'a, C: CodeSource>(
+    store: &Store<CellName>,
+    modules: &'a CodedModules<'_, C>,
+    trial: &mut Trial<CellName>,
+    cell: Qualified<CellName>,
+    clause: u64,
+) -> Result<Option<Plan<'a>>, AllocError> {
     let kind = kind_of_qualified(store, cell);
-    let predicate = predicate_of(modules, kind);
+    let (predicate, number) = predicate_anew(modules, kind);
     let rules = modules.rules();
-    let is_judged = stands_by(goal, clause);
-    let Some(made) = move_of(store, rules, kind, predicate, clause, is_judged, trial)? else {
+    let Some(made) = move_of(store, rules, kind, predicate, clause, false, trial)? else {
         return Ok(None);
     };
     Ok(Some(Plan::Moves(PlannedMove {
         cell,
-        kind,
         predicate,
         made,
+        number,
     })))
 }
 
@@ -135,9 +215,9 @@ fn plan_substitute<'a, C: CodeSource>(
     let predicate = predicate_of(modules, Kind::Nothing);
     Some(Plan::Moves(PlannedMove {
         cell,
-        kind: Kind::Nothing,
         predicate,
         made,
+        number: 0xffff_ffff_ffff_ffff,
     }))
 }
 
@@ -147,7 +227,7 @@ pub fn plan_of<'a, C: CodeSource>(
     shoens: &ShoenTree<CellName>,
     modules: &'a CodedModules<'_, C>,
     trial: &mut Trial<CellName>,
-    goal: Goal<CellName>,
+    goal: &Goal<CellName>,
     clause: u64,
 ) -> Result<Option<Plan<'a>>, AllocError>
     requires task { IsTaskIn store.now.held goal.task }
@@ -155,8 +235,8 @@ pub fn plan_of<'a, C: CodeSource>(
     ensures { IfOk result (λ o. (w : Made) → w.rules ≡ modules.now.rules → w.shoens ≡ shoens.now.shoens → MatchOption o (DoesNothing modules.now store.now.held w goal clause) (IsPlan modules.now store.now.held w goal clause (taken_places trial.new) trial.new.text)) }
 {
     match goal.task {
-        Task::Monitor => Ok(plan_reading(store, shoens, goal, clause)),
+        Task::Monitor => Ok(plan_reading(store, shoens, *goal, clause)),
         Task::Reduces(cell) => plan_move(store, modules, trial, goal, cell, clause),
-        Task::Substitutes(term) => Ok(plan_substitute(store, modules, goal, term, clause)),
+        Task::Substitutes(term) => Ok(plan_substitute(store, modules, *goal, term, clause)),
     }
 }

@@ -75,7 +75,7 @@ impl Machine {
             Err(refusal) => return Ok(Some(refusal)),
             Ok(goal) => goal,
         };
-        let Some(plan) = plan_of(&self.store, &self.shoens, modules, trial, goal, clause)? else {
+        let Some(plan) = plan_of(&self.store, &self.shoens, modules, trial, &goal, clause)? else {
             return Ok(Some(Refusal::Step));
         };
         if is_full {
@@ -96,7 +96,7 @@ impl Machine {
                 self.step_goal(scan, predicate, made, trial, cells, goal, cell)?;
                 let calls = CallCache {
                     modules,
-                    known: planned.kind,
+                    number: planned.number,
                     predicate,
                 };
                 self.reschedule(&calls, trial, goal.shoen)?;

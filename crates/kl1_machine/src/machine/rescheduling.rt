@@ -176,7 +176,7 @@ impl Machine {
     {
         let calls = CallCache {
             modules,
-            known: Kind::Nothing,
+            number: 0xffff_ffff_ffff_ffff,
             predicate: predicate_of(modules, Kind::Nothing),
         };
         self.reschedule(&calls, trial, 0)
