@@ -99,7 +99,7 @@ impl<C: CodeSource> Modules<C> {
         module_name: CellName,
         name: CellName,
         count: usize,
-    ) -> u64
+    ) -> (u64, u64, u64)
     {
         for place in 0..FEW {
             match self.loaded.get_index(place) {
@@ -107,33 +107,23 @@ impl<C: CodeSource> Modules<C> {
                 Some((other, loaded)) => {
                     if *other == module_name.number {
                         return match loaded.find_numbered(name, count) {
-                            None => 0xffff_ffff_ffff_ffff,
-                            Some(q) => ((place as u64) << 32) | q as u64,
+                            None => (0xffff_ffff_ffff_ffff, 0, 0),
+                            Some((q, r)) => (place as u64, q, r),
                         };
                     }
                 }
             }
         }
-        0xffff_ffff_ffff_ffff
+        (0xffff_ffff_ffff_ffff, 0, 0)
     }
 
     /// By number.
     #[inline(always)]
-    pub fn predicate_at<'a>(&'a self, codes: &'a C, number: u64) -> Option<Predicate<'a, CellName>>
+    pub fn predicate_at<'a>(&'a self, codes: &'a C, m: u64, start: u64, end: u64) -> Option<Predicate<'a, CellName>>
     {
-        match self.loaded.get_index((number >> 32) as usize) {
+        match self.loaded.get_index(m as usize) {
             None => None,
-            Some((_, loaded)) => Some(loaded.predicate_at(codes, (number & 0xffff_ffff) as usize)),
-        }
-    }
-
-    /// By number.
-    #[inline(always)]
-    pub fn is_at(&self, number: u64, module_name: CellName, name: CellName, count: usize) -> bool
-    {
-        match self.loaded.get_index((number >> 32) as usize) {
-            None => false,
-            Some((other, loaded)) => *other == module_name.number && loaded.is_at((number & 0xffff_ffff) as usize, name, count),
+            Some((_, loaded)) => Some(loaded.predicate_at(codes, start, end)),
         }
     }
 

@@ -5,7 +5,7 @@
 pub enum Deed {
     Waits,
     Other,
-    Calls(u64),
+    Calls(u64, u64, u64),
     Unifies,
     Assigns(i64),
     Fails,

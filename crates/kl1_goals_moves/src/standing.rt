@@ -32,7 +32,7 @@ pub fn standing_of<N: NameValue>(
     rules: Rules,
     kind: Kind<N>,
     predicate: Predicate<'_, N>,
-    number: u64,
+    number: (u64, u64, u64),
     trial: &mut Trial<N>,
 ) -> Result<Standing, AllocError>
 {
@@ -53,7 +53,7 @@ pub fn standing_of<N: NameValue>(
                 if clause == 0 {
                     return Ok(Standing::of(Deed::Fails));
                 }
-                Ok(Standing { clause, deed: Deed::Calls(number) })
+                Ok(Standing { clause, deed: Deed::Calls(number.0, number.1, number.2) })
             }
         }
         }

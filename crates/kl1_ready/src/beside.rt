@@ -73,7 +73,7 @@ fn clause_beside<C: CodeSource>(
 {
     let kind = kind_of_qualified(store, cell);
     let predicate = predicate_beside(modules, loaded, kind);
-    let standing = ready_or_suspend(store, modules.rules(), kind, predicate, 0, trial, number)?;
+    let standing = ready_or_suspend(store, modules.rules(), kind, predicate, (0, 0, 0), trial, number)?;
     if standing.is_ready() {
         return Ok(Standing { deed: Deed::Other, clause: standing.clause });
     }

@@ -22,7 +22,8 @@ use kl1_text::CellName;
 #[derive(Drop)]
 pub struct CallCache<'a, 'b, C: CodeSource> {
     pub modules: &'a CodedModules<'b, C>,
-    pub number: u64,
+    pub number: (u64, u64, u64),
+    pub name: (CellName, CellName, usize),
     pub predicate: Predicate<'a, CellName>,
 }
 
@@ -53,17 +54,17 @@ pub fn predicate_of<'a, C: CodeSource>(
 pub(crate) fn predicate_for<'a, C: CodeSource>(
     calls: &CallCache<'a, '_, C>,
     kind: Kind<CellName>,
-) -> (Predicate<'a, CellName>, u64)
+) -> (Predicate<'a, CellName>, (u64, u64, u64))
 {
     match kind {
         Kind::Calls(call) => {
-            if calls.modules.is_at(calls.number, call.module_name, call.name, call.count) {
+            if calls.name.1.number == call.name.number && calls.name.0.number == call.module_name.number && calls.name.2 == call.count {
                 return (calls.predicate, calls.number);
             }
             let number = calls.modules.find_numbered(call.module_name, call.name, call.count);
-            (or_none(calls.modules.predicate_at(number)), number)
+            (or_none(calls.modules.predicate_at(number.0, number.1, number.2)), number)
         }
-        _ => (or_none(None), 0xffff_ffff_ffff_ffff),
+        _ => (or_none(None), (0xffff_ffff_ffff_ffff, 0, 0)),
     }
 }
 
@@ -71,13 +72,13 @@ pub(crate) fn predicate_for<'a, C: CodeSource>(
 pub(crate) fn predicate_anew<'a, C: CodeSource>(
     modules: &'a CodedModules<'_, C>,
     kind: Kind<CellName>,
-) -> (Predicate<'a, CellName>, u64)
+) -> (Predicate<'a, CellName>, (u64, u64, u64))
 {
     match kind {
         Kind::Calls(call) => {
             let number = modules.find_numbered(call.module_name, call.name, call.count);
-            (or_none(modules.predicate_at(number)), number)
+            (or_none(modules.predicate_at(number.0, number.1, number.2)), number)
         }
-        _ => (or_none(None), 0xffff_ffff_ffff_ffff),
+        _ => (or_none(None), (0xffff_ffff_ffff_ffff, 0, 0)),
     }
 }

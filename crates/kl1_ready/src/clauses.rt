@@ -35,7 +35,7 @@ pub(crate) fn ready_or_suspend(
     rules: Rules,
     kind: Kind<CellName>,
     predicate: Predicate<'_, CellName>,
-    m: u64,
+    m: (u64, u64, u64),
     trial: &mut Trial<CellName>,
     number: u64,
 ) -> Result<Standing, AllocError>

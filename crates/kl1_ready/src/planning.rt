@@ -30,7 +30,8 @@ pub struct PlannedMove<'a> {
     pub cell: Qualified<CellName>,
     pub predicate: Predicate<'a, CellName>,
     pub made: Move<CellName>,
-    pub number: u64,
+    pub number: (u64, u64, u64),
+    pub name: (CellName, CellName, usize),
 }
 
 /// What a goal is to do: a monitor reads, and any other goal makes a move.
@@ -92,15 +93,15 @@ fn plan_move<'a, C: CodeSource>(
         match goal.standing.deed {
             Deed::Waits => {}
             Deed::Other => {}
-            Deed::Calls(number) => {
-                let Some(predicate) = modules.predicate_at(number) else {
+            Deed::Calls(m, start, end) => {
+                let Some(predicate) = modules.predicate_at(m, start, end) else {
                     return Ok(None);
                 };
                 let place = (clause - 1) as usize;
                 if place >= predicate.clauses.len() {
                     return Ok(None);
                 }
-                let inner = called_cell(store, cell);
+                let (inner, name) = called_cell(store, cell);
                 trial.is_in_order = find_places(
                     store,
                     predicate.names,
@@ -115,7 +116,8 @@ fn plan_move<'a, C: CodeSource>(
                     cell,
                     predicate,
                     made: Move::Commits(place),
-                    number,
+                    number: (m, start, end),
+                    name,
                 })));
             }
             Deed::Unifies => {
@@ -137,14 +139,31 @@ fn plan_move<'a, C: CodeSource>(
 
 /// The called.
 #[inline(always)]
-fn called_cell(store: &Store<CellName>, cell: Qualified<CellName>) -> Cell<CellName> {
+fn called_cell(store: &Store<CellName>, cell: Qualified<CellName>) -> (Cell<CellName>, (CellName, CellName, usize)) {
     match cell.module_name {
-        None => match walk(store, cell.cell) {
+        None => called_whole(store, cell.cell),
+        Some(module_name) => {
+            let goal = walk(store, cell.cell);
+            match goal {
+                Cell::Structure(structure) => {
+                    let head = store.look(structure);
+                    (goal, (module_name, head.name, head.count as usize))
+                }
+                Cell::Atom(name) => (goal, (module_name, name, 0)),
+                _ => (goal, (module_name, module_name, 99)),
+            }
+        }
+    }
+}
+
+/// Whole.
+#[inline(never)]
+fn called_whole(store: &Store<CellName>, cell: Cell<CellName>) -> (Cell<CellName>, (CellName, CellName, usize)) {
+    let inner = match walk(store, cell) {
             Cell::Structure(structure) => walk(store, store.argument(structure, 1)),
             other => other,
-        },
-        Some(_) => walk(store, cell.cell),
-    }
+        };
+    (inner, (CellName { number: 0 }, CellName { number: 0 }, 99))
 }
 
 /// Two.
@@ -166,7 +185,8 @@ fn plain<'a>(
         cell,
         predicate: or_none(None),
         made,
-        number: 0xffff_ffff_ffff_ffff,
+        number: (0xffff_ffff_ffff_ffff, 0, 0),
+        name: (CellName { number: 0 }, CellName { number: 0 }, 99),
     })
 }
 
@@ -190,6 +210,7 @@ fn plan_anew<'a, C: CodeSource>(
         predicate,
         made,
         number,
+        name: (CellName { number: 0 }, CellName { number: 0 }, 99),
     })))
 }
 
@@ -217,7 +238,8 @@ fn plan_substitute<'a, C: CodeSource>(
         cell,
         predicate,
         made,
-        number: 0xffff_ffff_ffff_ffff,
+        number: (0xffff_ffff_ffff_ffff, 0, 0),
+        name: (CellName { number: 0 }, CellName { number: 0 }, 99),
     }))
 }
 

@@ -97,6 +97,7 @@ impl Machine {
                 let calls = CallCache {
                     modules,
                     number: planned.number,
+                    name: planned.name,
                     predicate,
                 };
                 self.reschedule(&calls, trial, goal.shoen)?;

@@ -176,7 +176,8 @@ impl Machine {
     {
         let calls = CallCache {
             modules,
-            number: 0xffff_ffff_ffff_ffff,
+            number: (0xffff_ffff_ffff_ffff, 0, 0),
+            name: (CellName { number: 0 }, CellName { number: 0 }, 99),
             predicate: predicate_of(modules, Kind::Nothing),
         };
         self.reschedule(&calls, trial, 0)
