@@ -97,7 +97,7 @@ impl<'a, C: CodeSource> CodedModules<'a, C> {
         module_name: CellName,
         name: CellName,
         count: usize,
-    ) -> (u64, u64, u64)
+    ) -> (u32, u32)
     {
         self.modules
             .find_numbered(module_name, name, count)
@@ -105,9 +105,9 @@ impl<'a, C: CodeSource> CodedModules<'a, C> {
 
     /// By number.
     #[inline(always)]
-    pub fn predicate_at(&self, m: u64, start: u64, end: u64) -> Option<Predicate<'_, CellName>>
+    pub fn predicate_at(&self, m: u32, start: u32) -> Option<Predicate<'_, CellName>>
     {
-        self.modules.predicate_at(self.code_source, m, start, end)
+        self.modules.predicate_at(self.code_source, m, start)
     }
 
     /// Like `find`, with one module more, which is drafted and none of these.

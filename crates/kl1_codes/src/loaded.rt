@@ -22,6 +22,7 @@ pub struct Loaded<C: CodeSource> {
     number: CellName,
     row: Vec<CellName>,
     index: Index,
+    ends: Vec<usize>,
     source: PhantomData<C>,
 }
 
@@ -69,7 +70,13 @@ impl<C: CodeSource> Loaded<C> {
         let mut index = Vec::with_capacity(alloc, found.clause_count())?;
         put_spans(&mut index, found, &row);
         let number = number_by(found, &row);
+        let mut ends = Vec::new(alloc);
+        ends.resize(found.clause_count(), 0)?;
+        for (_, span) in index.as_slice() {
+            ends[span.start] = span.end;
+        }
         Ok(Loaded {
+            ends,
             code,
             number,
             row,
@@ -141,21 +148,21 @@ impl<C: CodeSource> Loaded<C> {
         &'a self,
         name: CellName,
         count: usize,
-    ) -> Option<(u64, u64)>
+    ) -> Option<u32>
     {
         match span_near(&self.index, key_by(name, count)) {
             None => None,
-            Some(span) => Some((span.start as u64, span.end as u64)),
+            Some(span) => Some(span.start as u32),
         }
     }
 
     /// By number.
     #[inline(always)]
-    pub fn predicate_at<'a>(&'a self, codes: &'a C, start: u64, end: u64) -> Predicate<'a, CellName>
+    pub fn predicate_at<'a>(&'a self, codes: &'a C, start: u32) -> Predicate<'a, CellName>
     {
         Predicate {
             names: &self.row,
-            clauses: part(self.code(codes).clauses(), Span { start: start as usize, end: end as usize }),
+            clauses: part(self.code(codes).clauses(), Span { start: start as usize, end: self.ends[start as usize] }),
         }
     }
 

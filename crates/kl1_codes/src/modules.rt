@@ -99,7 +99,7 @@ impl<C: CodeSource> Modules<C> {
         module_name: CellName,
         name: CellName,
         count: usize,
-    ) -> (u64, u64, u64)
+    ) -> (u32, u32)
     {
         for place in 0..FEW {
             match self.loaded.get_index(place) {
@@ -107,23 +107,23 @@ impl<C: CodeSource> Modules<C> {
                 Some((other, loaded)) => {
                     if *other == module_name.number {
                         return match loaded.find_numbered(name, count) {
-                            None => (0xffff_ffff_ffff_ffff, 0, 0),
-                            Some((q, r)) => (place as u64, q, r),
+                            None => (0xffff_ffff, 0),
+                            Some(q) => (place as u32, q),
                         };
                     }
                 }
             }
         }
-        (0xffff_ffff_ffff_ffff, 0, 0)
+        (0xffff_ffff, 0)
     }
 
     /// By number.
     #[inline(always)]
-    pub fn predicate_at<'a>(&'a self, codes: &'a C, m: u64, start: u64, end: u64) -> Option<Predicate<'a, CellName>>
+    pub fn predicate_at<'a>(&'a self, codes: &'a C, m: u32, start: u32) -> Option<Predicate<'a, CellName>>
     {
         match self.loaded.get_index(m as usize) {
             None => None,
-            Some((_, loaded)) => Some(loaded.predicate_at(codes, start, end)),
+            Some((_, loaded)) => Some(loaded.predicate_at(codes, start)),
         }
     }
 

@@ -1,39 +1,36 @@
 // What judged goals are to do.
 
+use kl1_model::BuiltIn;
+
 /// What a goal that was judged is to do.
 #[derive(Clone, Copy)]
-pub enum Deed {
+pub enum Standing {
     Waits,
-    Other,
-    Calls(u64, u64, u64),
+    Other(u64),
+    Commits(u32, u32, u32),
     Unifies,
-    Assigns(i64),
-    Fails,
-    Overflows,
-    Misuses,
+    Becomes(i64),
+    Raises(BuiltIn),
     Goes,
 }
 
-/// With its clause.
-#[derive(Clone, Copy)]
-pub struct Standing {
-    pub deed: Deed,
-    pub clause: u64,
-}
-
 impl Standing {
-    /// By clause 0.
+    /// Ready.
     #[inline(always)]
-    pub fn of(deed: Deed) -> Self {
-        Standing { deed, clause: 0 }
+    pub fn is_ready(&self) -> bool {
+        match self {
+            Standing::Waits => false,
+            _ => true,
+        }
     }
 
     /// The clause.
     #[inline(always)]
-    pub fn is_ready(&self) -> bool {
-        match self.deed {
-            Deed::Waits => false,
-            _ => true,
+    pub fn clause(&self) -> u64 {
+        match *self {
+            Standing::Commits(_, _, clause) => clause as u64,
+            Standing::Other(clause) => clause,
+            _ => 0,
         }
     }
 }

@@ -22,7 +22,7 @@ use kl1_text::CellName;
 #[derive(Drop)]
 pub struct CallCache<'a, 'b, C: CodeSource> {
     pub modules: &'a CodedModules<'b, C>,
-    pub number: (u64, u64, u64),
+    pub number: (u32, u32),
     pub name: (CellName, CellName, usize),
     pub predicate: Predicate<'a, CellName>,
 }
@@ -54,7 +54,7 @@ pub fn predicate_of<'a, C: CodeSource>(
 pub(crate) fn predicate_for<'a, C: CodeSource>(
     calls: &CallCache<'a, '_, C>,
     kind: Kind<CellName>,
-) -> (Predicate<'a, CellName>, (u64, u64, u64))
+) -> (Predicate<'a, CellName>, (u32, u32))
 {
     match kind {
         Kind::Calls(call) => {
@@ -62,9 +62,9 @@ pub(crate) fn predicate_for<'a, C: CodeSource>(
                 return (calls.predicate, calls.number);
             }
             let number = calls.modules.find_numbered(call.module_name, call.name, call.count);
-            (or_none(calls.modules.predicate_at(number.0, number.1, number.2)), number)
+            (or_none(calls.modules.predicate_at(number.0, number.1)), number)
         }
-        _ => (or_none(None), (0xffff_ffff_ffff_ffff, 0, 0)),
+        _ => (or_none(None), (0xffff_ffff, 0)),
     }
 }
 
@@ -72,13 +72,13 @@ pub(crate) fn predicate_for<'a, C: CodeSource>(
 pub(crate) fn predicate_anew<'a, C: CodeSource>(
     modules: &'a CodedModules<'_, C>,
     kind: Kind<CellName>,
-) -> (Predicate<'a, CellName>, (u64, u64, u64))
+) -> (Predicate<'a, CellName>, (u32, u32))
 {
     match kind {
         Kind::Calls(call) => {
             let number = modules.find_numbered(call.module_name, call.name, call.count);
-            (or_none(modules.predicate_at(number.0, number.1, number.2)), number)
+            (or_none(modules.predicate_at(number.0, number.1)), number)
         }
-        _ => (or_none(None), (0xffff_ffff_ffff_ffff, 0, 0)),
+        _ => (or_none(None), (0xffff_ffff, 0)),
     }
 }

@@ -15,9 +15,8 @@ use crate::call_cache::{predicate_anew, predicate_of};
 use kl1_clause::Predicate;
 use kl1_codes::{CodeSource, CodedModules};
 use kl1_goals::{Goal, Task};
-use kl1_goals_moves::{Deed, Kind, Move, Trial, kind_of_qualified, move_of, or_none, substitute_move, walk};
+use kl1_goals_moves::{Standing, Kind, Move, Trial, kind_of_qualified, move_of, or_none, substitute_move, walk};
 use kl1_match_verdict::find_places;
-use kl1_model::BuiltIn;
 use kl1_shoen::ShoenTree;
 use kl1_store::{Cell, Qualified, Store};
 use kl1_stream::{Control, read_control};
@@ -30,7 +29,7 @@ pub struct PlannedMove<'a> {
     pub cell: Qualified<CellName>,
     pub predicate: Predicate<'a, CellName>,
     pub made: Move<CellName>,
-    pub number: (u64, u64, u64),
+    pub number: (u32, u32),
     pub name: (CellName, CellName, usize),
 }
 
@@ -89,12 +88,12 @@ fn plan_move<'a, C: CodeSource>(
     clause: u64,
 ) -> Result<Option<Plan<'a>>, AllocError>
 {
-    if goal.standing.clause == clause {
-        match goal.standing.deed {
-            Deed::Waits => {}
-            Deed::Other => {}
-            Deed::Calls(m, start, end) => {
-                let Some(predicate) = modules.predicate_at(m, start, end) else {
+    if goal.standing.clause() == clause {
+        match goal.standing {
+            Standing::Waits => {}
+            Standing::Other(_) => {}
+            Standing::Commits(m, start, _) => {
+                let Some(predicate) = modules.predicate_at(m, start) else {
                     return Ok(None);
                 };
                 let place = (clause - 1) as usize;
@@ -116,22 +115,20 @@ fn plan_move<'a, C: CodeSource>(
                     cell,
                     predicate,
                     made: Move::Commits(place),
-                    number: (m, start, end),
+                    number: (m, start),
                     name,
                 })));
             }
-            Deed::Unifies => {
+            Standing::Unifies => {
                 let (left, right) = two(store, cell);
                 return Ok(Some(plain(cell, Move::Unifies(left, right))));
             }
-            Deed::Assigns(value) => {
+            Standing::Becomes(value) => {
                 let (left, _) = two(store, cell);
                 return Ok(Some(plain(cell, Move::Unifies(left, Cell::Integer(value)))));
             }
-            Deed::Fails => return Ok(Some(plain(cell, Move::Raises(BuiltIn::Failure)))),
-            Deed::Overflows => return Ok(Some(plain(cell, Move::Raises(BuiltIn::Overflow)))),
-            Deed::Misuses => return Ok(Some(plain(cell, Move::Raises(BuiltIn::IllegalInput)))),
-            Deed::Goes => return Ok(Some(plain(cell, Move::Goes))),
+            Standing::Raises(kind) => return Ok(Some(plain(cell, Move::Raises(kind)))),
+            Standing::Goes => return Ok(Some(plain(cell, Move::Goes))),
         }
     }
     plan_anew(store, modules, trial, cell, clause)
@@ -185,7 +182,7 @@ fn plain<'a>(
         cell,
         predicate: or_none(None),
         made,
-        number: (0xffff_ffff_ffff_ffff, 0, 0),
+        number: (0xffff_ffff, 0),
         name: (CellName { number: 0 }, CellName { number: 0 }, 99),
     })
 }
@@ -238,7 +235,7 @@ fn plan_substitute<'a, C: CodeSource>(
         cell,
         predicate,
         made,
-        number: (0xffff_ffff_ffff_ffff, 0, 0),
+        number: (0xffff_ffff, 0),
         name: (CellName { number: 0 }, CellName { number: 0 }, 99),
     }))
 }

@@ -176,7 +176,7 @@ impl Machine {
     {
         let calls = CallCache {
             modules,
-            number: (0xffff_ffff_ffff_ffff, 0, 0),
+            number: (0xffff_ffff, 0),
             name: (CellName { number: 0 }, CellName { number: 0 }, 99),
             predicate: predicate_of(modules, Kind::Nothing),
         };

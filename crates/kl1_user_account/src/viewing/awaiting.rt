@@ -71,7 +71,7 @@ fn await_as_goal<C: CodeSource>(
 {
     let kind = kind_of_qualified(store, cell);
     let predicate = predicate_of(modules, kind);
-    let _standing = standing_of(store, modules.rules(), kind, predicate, (0, 0, 0), trial)?;
+    let _standing = standing_of(store, modules.rules(), kind, predicate, (0, 0), trial)?;
     Ok(())
 }
 
