@@ -359,7 +359,7 @@ impl<N: NameValue> GoalTable<N> {
                 if !goal.standing.is_ready() {
                     return None;
                 }
-                Some((goal.number, goal.standing.clause))
+                Some((goal.number, goal.standing.clause()))
             }
         }
     }

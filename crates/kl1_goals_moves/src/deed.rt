@@ -2,38 +2,35 @@
 
 /// What a goal that was judged is to do.
 #[derive(Clone, Copy)]
-pub enum Deed {
+pub enum Standing {
     Waits,
-    Other,
-    Calls(u64),
+    Other(u64),
+    Commits(u64, u64),
     Unifies,
-    Assigns(i64),
+    Becomes(i64),
     Fails,
     Overflows,
     Misuses,
     Goes,
 }
 
-/// With its clause.
-#[derive(Clone, Copy)]
-pub struct Standing {
-    pub deed: Deed,
-    pub clause: u64,
-}
-
 impl Standing {
-    /// By clause 0.
+    /// Ready.
     #[inline(always)]
-    pub fn of(deed: Deed) -> Self {
-        Standing { deed, clause: 0 }
+    pub fn is_ready(&self) -> bool {
+        match self {
+            Standing::Waits => false,
+            _ => true,
+        }
     }
 
     /// The clause.
     #[inline(always)]
-    pub fn is_ready(&self) -> bool {
-        match self.deed {
-            Deed::Waits => false,
-            _ => true,
+    pub fn clause(&self) -> u64 {
+        match *self {
+            Standing::Commits(clause, _) => clause,
+            Standing::Other(clause) => clause,
+            _ => 0,
         }
     }
 }

@@ -25,7 +25,7 @@ mod walking;
 
 pub use call::Call;
 pub use committing::commit;
-pub use deed::{Deed, Standing};
+pub use deed::Standing;
 pub use kind::{Kind, kind_of, kind_of_qualified};
 pub use look::Look;
 pub use moves::{Move, move_of};

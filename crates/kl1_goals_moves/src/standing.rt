@@ -19,7 +19,7 @@ use crate::trial::Trial;
 use kl1_clause::Predicate;
 use kl1_match_guard::{Evaluated, evaluate_cell};
 use kl1_match_verdict::choose;
-use crate::deed::{Deed, Standing};
+use crate::deed::Standing;
 use kl1_model::{Number, Rules};
 use kl1_store::Store;
 use kl1_text::NameValue;
@@ -48,54 +48,54 @@ pub fn standing_of<N: NameValue>(
             &mut trial.scratch,
             &mut trial.awaited,
         )? {
-            None => Ok(Standing::of(Deed::Waits)),
+            None => Ok(Standing::Waits),
             Some(clause) => {
                 if clause == 0 {
-                    return Ok(Standing::of(Deed::Fails));
+                    return Ok(Standing::Fails);
                 }
-                Ok(Standing { clause, deed: Deed::Calls(number) })
+                Ok(Standing::Commits(clause, number))
             }
         }
         }
-        Kind::Unifies(_, _) => Ok(Standing::of(Deed::Unifies)),
+        Kind::Unifies(_, _) => Ok(Standing::Unifies),
         Kind::Assigns(_, right) => {
             match evaluate_cell(store, right, &mut trial.guard)? {
                 Evaluated::ComesTo(number) => {
                     let deed = match number {
-                        Number::Value(v) => Deed::Assigns(v),
-                        Number::Overflow => Deed::Overflows,
-                        Number::ZeroDivisor => Deed::Misuses,
+                        Number::Value(v) => Standing::Becomes(v),
+                        Number::Overflow => Standing::Overflows,
+                        Number::ZeroDivisor => Standing::Misuses,
                     };
-                    Ok(Standing::of(deed))
+                    Ok(deed)
                 }
                 Evaluated::Awaits(first) => {
                     trial.awaited.push(first)?;
-                    Ok(Standing::of(Deed::Waits))
+                    Ok(Standing::Waits)
                 }
-                Evaluated::IsNoExpression => Ok(Standing::of(Deed::Misuses)),
+                Evaluated::IsNoExpression => Ok(Standing::Misuses),
             }
         }
         Kind::Spells(codes, _) => match spell(store, rules, codes, &mut trial.text) {
-            Spelling::Spelled => Ok(Standing::of(Deed::Other)),
+            Spelling::Spelled => Ok(Standing::Other(0)),
             Spelling::Waits(code) => {
                 trial.awaited.push(code)?;
-                Ok(Standing::of(Deed::Waits))
+                Ok(Standing::Waits)
             }
-            Spelling::Misspelled => Ok(Standing::of(Deed::Other)),
+            Spelling::Misspelled => Ok(Standing::Other(0)),
         },
         Kind::Executes(structure) => match look_at_order(store, order_at(store, structure)) {
-            Look::Right => Ok(Standing::of(Deed::Other)),
+            Look::Right => Ok(Standing::Other(0)),
             Look::Waits(argument) => {
                 trial.awaited.push(argument)?;
-                Ok(Standing::of(Deed::Waits))
+                Ok(Standing::Waits)
             }
-            Look::Wrong => Ok(Standing::of(Deed::Other)),
+            Look::Wrong => Ok(Standing::Other(0)),
         },
-        Kind::Goes => Ok(Standing::of(Deed::Goes)),
+        Kind::Goes => Ok(Standing::Goes),
         Kind::Waits(variable) => {
             trial.awaited.push(variable)?;
-            Ok(Standing::of(Deed::Waits))
+            Ok(Standing::Waits)
         }
-        Kind::Nothing => Ok(Standing::of(Deed::Waits)),
+        Kind::Nothing => Ok(Standing::Waits),
     }
 }

@@ -22,7 +22,7 @@ use crate::clauses::{clause_of_monitor, clause_of_substitute, ready_or_suspend};
 use kl1_clause::Predicate;
 use kl1_codes::{CodeSource, CodedModule, CodedModules};
 use kl1_goals::{Goal, Task};
-use kl1_goals_moves::{Deed, Standing, Kind, Trial, kind_of_qualified, or_none};
+use kl1_goals_moves::{Standing, Kind, Trial, kind_of_qualified, or_none};
 use kl1_shoen::ShoenTree;
 use kl1_store::{Qualified, Store};
 use kl1_text::CellName;
@@ -75,7 +75,7 @@ fn clause_beside<C: CodeSource>(
     let predicate = predicate_beside(modules, loaded, kind);
     let standing = ready_or_suspend(store, modules.rules(), kind, predicate, 0, trial, number)?;
     if standing.is_ready() {
-        return Ok(Standing { deed: Deed::Other, clause: standing.clause });
+        return Ok(Standing::Other(standing.clause()));
     }
     Ok(standing)
 }

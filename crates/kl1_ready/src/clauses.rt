@@ -19,7 +19,7 @@ use crate::call_cache::{CallCache, predicate_for};
 use kl1_clause::Predicate;
 use kl1_codes::CodeSource;
 use kl1_goals::{Goal, Rules, Task};
-use kl1_goals_moves::{Deed, Standing, Kind, Trial, kind_of_qualified, standing_of, substitute_standing};
+use kl1_goals_moves::{Standing, Kind, Trial, kind_of_qualified, standing_of, substitute_standing};
 use kl1_shoen::ShoenTree;
 use kl1_store::{Cell, Qualified, Store};
 use kl1_store_hooks::hang_on;
@@ -88,12 +88,12 @@ fn clause_of_control(
     match read_control(store, control) {
         Control::Awaits(variable) => {
             hang_on(store, &[variable], number)?;
-            Ok(Standing::of(Deed::Waits))
+            Ok(Standing::Waits)
         }
-        Control::Tells(_message, _rest) => Ok(Standing::of(Deed::Other)),
-        Control::TellsOther(_element, _rest) => Ok(Standing::of(Deed::Other)),
-        Control::Ends => Ok(Standing::of(Deed::Other)),
-        Control::BreaksOff(_cell) => Ok(Standing::of(Deed::Other)),
+        Control::Tells(_message, _rest) => Ok(Standing::Other(0)),
+        Control::TellsOther(_element, _rest) => Ok(Standing::Other(0)),
+        Control::Ends => Ok(Standing::Other(0)),
+        Control::BreaksOff(_cell) => Ok(Standing::Other(0)),
     }
 }
 
@@ -111,7 +111,7 @@ pub(crate) fn clause_of_monitor(
     ensures grown { HasGrown store.old store.new }
 {
     match shoens.lend(shoen) {
-        None => Ok(Standing::of(Deed::Waits)),
+        None => Ok(Standing::Waits),
         Some(found) => clause_of_control(store, found.control, number),
     }
 }
@@ -134,8 +134,8 @@ pub(crate) fn clause_of_substitute(
         hang_on(store, trial.awaited.as_slice(), number)?;
     }
     match clause {
-        None => Ok(Standing::of(Deed::Waits)),
-        Some(_) => Ok(Standing::of(Deed::Other)),
+        None => Ok(Standing::Waits),
+        Some(_) => Ok(Standing::Other(0)),
     }
 }
 

@@ -15,7 +15,7 @@ use crate::call_cache::{predicate_anew, predicate_of};
 use kl1_clause::Predicate;
 use kl1_codes::{CodeSource, CodedModules};
 use kl1_goals::{Goal, Task};
-use kl1_goals_moves::{Deed, Kind, Move, Trial, kind_of_qualified, move_of, or_none, substitute_move, walk};
+use kl1_goals_moves::{Standing, Kind, Move, Trial, kind_of_qualified, move_of, or_none, substitute_move, walk};
 use kl1_match_verdict::find_places;
 use kl1_model::BuiltIn;
 use kl1_shoen::ShoenTree;
@@ -88,11 +88,11 @@ fn plan_move<'a, C: CodeSource>(
     clause: u64,
 ) -> Result<Option<Plan<'a>>, AllocError>
 {
-    if goal.standing.clause == clause {
-        match goal.standing.deed {
-            Deed::Waits => {}
-            Deed::Other => {}
-            Deed::Calls(number) => {
+    if goal.standing.clause() == clause {
+        match goal.standing {
+            Standing::Waits => {}
+            Standing::Other(_) => {}
+            Standing::Commits(_, number) => {
                 let Some(predicate) = modules.predicate_at(number) else {
                     return Ok(None);
                 };
@@ -118,18 +118,18 @@ fn plan_move<'a, C: CodeSource>(
                     number,
                 })));
             }
-            Deed::Unifies => {
+            Standing::Unifies => {
                 let (left, right) = two(store, cell);
                 return Ok(Some(plain(cell, Move::Unifies(left, right))));
             }
-            Deed::Assigns(value) => {
+            Standing::Becomes(value) => {
                 let (left, _) = two(store, cell);
                 return Ok(Some(plain(cell, Move::Unifies(left, Cell::Integer(value)))));
             }
-            Deed::Fails => return Ok(Some(plain(cell, Move::Raises(BuiltIn::Failure)))),
-            Deed::Overflows => return Ok(Some(plain(cell, Move::Raises(BuiltIn::Overflow)))),
-            Deed::Misuses => return Ok(Some(plain(cell, Move::Raises(BuiltIn::IllegalInput)))),
-            Deed::Goes => return Ok(Some(plain(cell, Move::Goes))),
+            Standing::Fails => return Ok(Some(plain(cell, Move::Raises(BuiltIn::Failure)))),
+            Standing::Overflows => return Ok(Some(plain(cell, Move::Raises(BuiltIn::Overflow)))),
+            Standing::Misuses => return Ok(Some(plain(cell, Move::Raises(BuiltIn::IllegalInput)))),
+            Standing::Goes => return Ok(Some(plain(cell, Move::Goes))),
         }
     }
     plan_anew(store, modules, trial, cell, clause)
