@@ -110,13 +110,6 @@ impl<'a, C: CodeSource> CodedModules<'a, C> {
         self.modules.predicate_at(self.code_source, number)
     }
 
-    /// By number.
-    #[inline(always)]
-    pub fn is_at(&self, number: u64, module_name: CellName, name: CellName, count: usize) -> bool
-    {
-        self.modules.is_at(number, module_name, name, count)
-    }
-
     /// Like `find`, with one module more, which is drafted and none of these.
     pub fn find_beside<'b>(
         &'b self,

@@ -7,8 +7,8 @@ ghost use Rattle.kl1_clause.specs.Predicates.{AreSome};
 ghost use Rattle.kl1_codes.specs.Finding.{FindsIn};
 
 use crate::code_source::CodeSource;
-use crate::indexing::{Index, key_by, place_near, put_spans, span_near};
-use crate::span::part;
+use crate::indexing::{Index, key_by, put_spans, span_near};
+use crate::span::{Span, part};
 use kl1_clause::{Code, Predicate};
 use kl1_text::{CellName, NameValue};
 use std::alloc::{AllocError, Global};
@@ -92,6 +92,7 @@ impl<C: CodeSource> Loaded<C> {
     }
 
     /// The code, in the source where it stands.
+    #[inline(always)]
     pub fn code<'a>(&'a self, codes: &'a C) -> &'a Code
         requires { C.has codes.now self.now.place }
         ensures { result.now ≡ self.now.content }
@@ -141,28 +142,22 @@ impl<C: CodeSource> Loaded<C> {
         &'a self,
         name: CellName,
         count: usize,
-    ) -> Option<usize>
+    ) -> Option<(u64, u64)>
     {
-        place_near(&self.index, key_by(name, count))
-    }
-
-    /// By number.
-    #[inline(always)]
-    pub fn predicate_at<'a>(&'a self, codes: &'a C, place: usize) -> Predicate<'a, CellName>
-    {
-        let row = &self.index[place];
-        Predicate {
-            names: &self.row,
-            clauses: part(self.code(codes).clauses(), row.1),
+        match span_near(&self.index, key_by(name, count)) {
+            None => None,
+            Some(span) => Some((span.start as u64, span.end as u64)),
         }
     }
 
     /// By number.
     #[inline(always)]
-    pub fn is_at(&self, place: usize, name: CellName, count: usize) -> bool
+    pub fn predicate_at<'a>(&'a self, codes: &'a C, start: usize, end: usize) -> Predicate<'a, CellName>
     {
-        let row = &self.index[place];
-        row.0.0 == name.number && row.0.1 == count
+        Predicate {
+            names: &self.row,
+            clauses: part(self.code(codes).clauses(), Span { start, end }),
+        }
     }
 
     /// The clauses of a predicate, or nothing if there is none.

@@ -108,7 +108,7 @@ impl<C: CodeSource> Modules<C> {
                     if *other == module_name.number {
                         return match loaded.find_numbered(name, count) {
                             None => 0xffff_ffff_ffff_ffff,
-                            Some(q) => ((place as u64) << 32) | q as u64,
+                            Some((q, r)) => ((place as u64) << 48) | (q << 32) | (r << 16),
                         };
                     }
                 }
@@ -121,19 +121,9 @@ impl<C: CodeSource> Modules<C> {
     #[inline(always)]
     pub fn predicate_at<'a>(&'a self, codes: &'a C, number: u64) -> Option<Predicate<'a, CellName>>
     {
-        match self.loaded.get_index((number >> 32) as usize) {
+        match self.loaded.get_index((number >> 48) as usize) {
             None => None,
-            Some((_, loaded)) => Some(loaded.predicate_at(codes, (number & 0xffff_ffff) as usize)),
-        }
-    }
-
-    /// By number.
-    #[inline(always)]
-    pub fn is_at(&self, number: u64, module_name: CellName, name: CellName, count: usize) -> bool
-    {
-        match self.loaded.get_index((number >> 32) as usize) {
-            None => false,
-            Some((other, loaded)) => *other == module_name.number && loaded.is_at((number & 0xffff_ffff) as usize, name, count),
+            Some((_, loaded)) => Some(loaded.predicate_at(codes, ((number >> 32) & 0xffff) as usize, ((number >> 16) & 0xffff) as usize)),
         }
     }
 

@@ -5,7 +5,7 @@
 pub enum Standing {
     Waits,
     Other(u64),
-    Commits(u64, u64),
+    Commits(u64),
     Unifies,
     Becomes(i64),
     Fails,
@@ -28,7 +28,7 @@ impl Standing {
     #[inline(always)]
     pub fn clause(&self) -> u64 {
         match *self {
-            Standing::Commits(clause, _) => clause,
+            Standing::Commits(word) => word & 0xffff,
             Standing::Other(clause) => clause,
             _ => 0,
         }

@@ -53,7 +53,7 @@ pub fn standing_of<N: NameValue>(
                 if clause == 0 {
                     return Ok(Standing::Fails);
                 }
-                Ok(Standing::Commits(clause, number))
+                Ok(Standing::Commits(number | clause))
             }
         }
         }

@@ -14,7 +14,7 @@ ghost use Rattle.kl1_ready.specs.Serving.{Serves, calls_same, IsServed};
 
 use kl1_clause::Predicate;
 use kl1_codes::{CodeSource, CodedModules};
-use kl1_goals_moves::{Kind, or_none};
+use kl1_goals_moves::{Call, Kind, or_none};
 use kl1_text::CellName;
 
 /// An account's modules, with the clauses of the predicate that goals of one kind call: for goals that call the same they aren't looked
@@ -23,6 +23,7 @@ use kl1_text::CellName;
 pub struct CallCache<'a, 'b, C: CodeSource> {
     pub modules: &'a CodedModules<'b, C>,
     pub number: u64,
+    pub call: Call<CellName>,
     pub predicate: Predicate<'a, CellName>,
 }
 
@@ -57,13 +58,13 @@ pub(crate) fn predicate_for<'a, C: CodeSource>(
 {
     match kind {
         Kind::Calls(call) => {
-            if calls.modules.is_at(calls.number, call.module_name, call.name, call.count) {
+            if calls.call.name.number == call.name.number && calls.call.module_name.number == call.module_name.number && calls.call.count == call.count {
                 return (calls.predicate, calls.number);
             }
             let number = calls.modules.find_numbered(call.module_name, call.name, call.count);
             (or_none(calls.modules.predicate_at(number)), number)
         }
-        _ => (or_none(None), 0xffff_ffff_ffff_ffff),
+        _ => (or_none(None), 0xffff_ffff_0000_0000),
     }
 }
 
@@ -78,6 +79,6 @@ pub(crate) fn predicate_anew<'a, C: CodeSource>(
             let number = modules.find_numbered(call.module_name, call.name, call.count);
             (or_none(modules.predicate_at(number)), number)
         }
-        _ => (or_none(None), 0xffff_ffff_ffff_ffff),
+        _ => (or_none(None), 0xffff_ffff_0000_0000),
     }
 }

@@ -92,8 +92,8 @@ fn plan_move<'a, C: CodeSource>(
         match goal.standing {
             Standing::Waits => {}
             Standing::Other(_) => {}
-            Standing::Commits(_, number) => {
-                let Some(predicate) = modules.predicate_at(number) else {
+            Standing::Commits(word) => {
+                let Some(predicate) = modules.predicate_at(word) else {
                     return Ok(None);
                 };
                 let place = (clause - 1) as usize;
@@ -115,7 +115,7 @@ fn plan_move<'a, C: CodeSource>(
                     cell,
                     predicate,
                     made: Move::Commits(place),
-                    number,
+                    number: word & 0xffff_ffff_ffff_0000,
                 })));
             }
             Standing::Unifies => {
@@ -166,7 +166,7 @@ fn plain<'a>(
         cell,
         predicate: or_none(None),
         made,
-        number: 0xffff_ffff_ffff_ffff,
+        number: 0xffff_ffff_0000_0000,
     })
 }
 
@@ -217,7 +217,7 @@ fn plan_substitute<'a, C: CodeSource>(
         cell,
         predicate,
         made,
-        number: 0xffff_ffff_ffff_ffff,
+        number: 0xffff_ffff_0000_0000,
     }))
 }
 

@@ -96,6 +96,7 @@ impl Machine {
                 self.step_goal(scan, predicate, made, trial, cells, goal, cell)?;
                 let calls = CallCache {
                     modules,
+                    call: call_at(&self.store, cell),
                     number: planned.number,
                     predicate,
                 };
@@ -104,4 +105,16 @@ impl Machine {
             }
         }
     }
+}
+
+/// The call.
+#[inline(always)]
+fn call_at(store: &kl1_store::Store<CellName>, cell: Qualified<CellName>) -> kl1_goals_moves::Call<CellName> {
+    if let Some(module_name) = cell.module_name {
+        if let kl1_store::Cell::Structure(structure) = cell.cell {
+            let head = store.look(structure);
+            return kl1_goals_moves::Call { module_name, name: head.name, count: head.count as usize, structure: None };
+        }
+    }
+    kl1_goals_moves::Call { module_name: CellName { number: 0 }, name: CellName { number: 0 }, count: 99, structure: None }
 }

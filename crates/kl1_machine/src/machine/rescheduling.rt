@@ -176,7 +176,8 @@ impl Machine {
     {
         let calls = CallCache {
             modules,
-            number: 0xffff_ffff_ffff_ffff,
+            number: 0xffff_ffff_0000_0000,
+            call: kl1_goals_moves::Call { module_name: CellName { number: 0 }, name: CellName { number: 0 }, count: 99, structure: None },
             predicate: predicate_of(modules, Kind::Nothing),
         };
         self.reschedule(&calls, trial, 0)
