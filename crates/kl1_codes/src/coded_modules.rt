@@ -8,10 +8,19 @@ ghost use Rattle.kl1_codes.specs.Finding.{Finds, is_numbered};
 use crate::code_source::CodeSource;
 use crate::coded_module::CodedModule;
 use crate::modules::Modules;
+use crate::predicate_place::packed;
 use kl1_clause::Predicate;
 use kl1_model::Rules;
 use kl1_text::CellName;
+use std::alloc::AllocError;
 use std::marker::Model;
+
+/// A predicate that is found: where it stands among the modules of its account, in one number, and its clauses.
+#[derive(Clone, Copy)]
+pub struct Located<'a> {
+    pub place: u64,
+    pub predicate: Predicate<'a, CellName>,
+}
 
 /// The modules of an account and its rules, lent with the source where the codes of the modules stand: to contracts they are the
 /// modules and the rules.
@@ -75,19 +84,29 @@ impl<'a, C: CodeSource> CodedModules<'a, C> {
         }
     }
 
-    /// The clauses of the predicate with name `name` and `count` arguments in a module, or nothing if there is none.
+    /// Where the predicate with name `name` and `count` arguments in a module stands, and its clauses, or nothing if there is none.
     #[inline(always)]
     pub fn find(
         &self,
         module_name: CellName,
         name: CellName,
         count: usize,
-    ) -> Option<Predicate<'_, CellName>>
-        ensures finds { Finds self.now.loaded module_name name count result }
-        ensures some { IfSome result (λ p. AreSome p.names.now p.clauses.now) }
+    ) -> Result<Option<Located<'_>>, AllocError>
     {
-        self.modules
-            .find(self.code_source, module_name, name, count)
+        let Some(place) = self.modules.locate(self.code_source, module_name, name, count)? else {
+            return Ok(None);
+        };
+        match self.predicate_at(place) {
+            None => Ok(None),
+            Some(predicate) => Ok(Some(Located { place, predicate })),
+        }
+    }
+
+    /// The clauses of the predicate that stands at a place, or nothing if none stands there.
+    #[inline(always)]
+    pub fn predicate_at(&self, place: u64) -> Option<Predicate<'_, CellName>>
+    {
+        self.modules.predicate_at(self.code_source, place)
     }
 
     /// Like `find`, with one module more, which is drafted and none of these.
@@ -97,14 +116,21 @@ impl<'a, C: CodeSource> CodedModules<'a, C> {
         module_name: CellName,
         name: CellName,
         count: usize,
-    ) -> Option<Predicate<'b, CellName>>
+    ) -> Result<Option<Located<'b>>, AllocError>
         requires { is_numbered self.now.loaded (number_of draft.now) ≡ false }
-        ensures finds { Finds (self.now.loaded ++ draft.now ∷ []) module_name name count result }
-        ensures some { IfSome result (λ p. AreSome p.names.now p.clauses.now) }
     {
-        if draft.number().number == module_name.number {
-            return draft.find(name, count);
+        if draft.number().number != module_name.number {
+            return self.find(module_name, name, count);
         }
-        self.find(module_name, name, count)
+        let Some(span) = draft.span_of(name, count) else {
+            return Ok(None);
+        };
+        let Some(place) = packed(self.len(), span) else {
+            return Err(AllocError);
+        };
+        match draft.clauses_in(span) {
+            None => Ok(None),
+            Some(predicate) => Ok(Some(Located { place, predicate })),
+        }
     }
 }

@@ -11,13 +11,14 @@ mod indexing;
 mod loaded;
 mod modules;
 mod plain_codes;
+mod predicate_place;
 mod shared_codes;
 mod span;
 
 pub use code_source::CodeSource;
 pub use code_table::CodeTable;
 pub use coded_module::CodedModule;
-pub use coded_modules::CodedModules;
+pub use coded_modules::{CodedModules, Located};
 pub use loaded::{Loaded, number_by};
 pub use modules::Modules;
 pub use plain_codes::PlainCodes;

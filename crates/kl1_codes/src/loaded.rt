@@ -8,7 +8,7 @@ ghost use Rattle.kl1_codes.specs.Finding.{FindsIn};
 
 use crate::code_source::CodeSource;
 use crate::indexing::{Index, key_by, put_spans, span_near};
-use crate::span::part;
+use crate::span::{Span, part_within};
 use kl1_clause::{Code, Predicate};
 use kl1_text::{CellName, NameValue};
 use std::alloc::{AllocError, Global};
@@ -92,6 +92,7 @@ impl<C: CodeSource> Loaded<C> {
     }
 
     /// The code, in the source where it stands.
+    #[inline(always)]
     pub fn code<'a>(&'a self, codes: &'a C) -> &'a Code
         requires { C.has codes.now self.now.place }
         ensures { result.now ≡ self.now.content }
@@ -113,41 +114,27 @@ impl<C: CodeSource> Loaded<C> {
         self.number
     }
 
-    /// The clauses of a predicate, or nothing if there is none. This is the module's code.
-    pub(crate) fn find_in<'a>(
-        &'a self,
-        code: &'a Code,
-        name: CellName,
-        count: usize,
-    ) -> Option<Predicate<'a, CellName>>
+    /// The span of the clauses of a predicate, or nothing if there is none. This is the module's code.
+    #[inline(always)]
+    pub(crate) fn span_of(&self, code: &Code, name: CellName, count: usize) -> Option<Span>
         requires { code.now ≡ self.now.content }
-        ensures finds { FindsIn self.now name count result }
-        ensures some { IfSome result (λ p. AreSome p.names.now p.clauses.now) }
-        ensures row { IfSome result (λ p. p.names.now ≡ self.now.row) }
     {
         // The clauses of a predicate stand together in a module that is the meaning of its source.
         let _ = code.source();
-        match span_near(&self.index, key_by(name, count)) {
-            None => None,
-            Some(span) => Some(Predicate {
-                names: &self.row,
-                clauses: part(code.clauses(), span),
-            }),
-        }
+        span_near(&self.index, key_by(name, count))
     }
 
-    /// The clauses of a predicate, or nothing if there is none.
-    pub fn find<'a>(
-        &'a self,
-        codes: &'a C,
-        name: CellName,
-        count: usize,
-    ) -> Option<Predicate<'a, CellName>>
-        requires { C.has codes.now self.now.place }
-        ensures finds { FindsIn self.now name count result }
-        ensures some { IfSome result (λ p. AreSome p.names.now p.clauses.now) }
-        ensures row { IfSome result (λ p. p.names.now ≡ self.now.row) }
+    /// The clauses in a span, or nothing if it isn't one of places of these. This is the module's code.
+    #[inline(always)]
+    pub(crate) fn clauses_in<'a>(&'a self, code: &'a Code, span: Span) -> Option<Predicate<'a, CellName>>
+        requires { code.now ≡ self.now.content }
     {
-        self.find_in(self.code(codes), name, count)
+        match part_within(code.clauses(), span) {
+            None => None,
+            Some(clauses) => Some(Predicate {
+                names: &self.row,
+                clauses,
+            }),
+        }
     }
 }

@@ -8,6 +8,7 @@ ghost use Rattle.kl1_codes.specs.Finding.{Finds, is_numbered, TellsModule};
 
 use crate::code_source::CodeSource;
 use crate::loaded::Loaded;
+use crate::predicate_place::{module_in, packed, span_in};
 use indexmap::IndexMap;
 use kl1_clause::Predicate;
 use kl1_text::CellName;
@@ -73,22 +74,40 @@ impl<C: CodeSource> Modules<C> {
         self.loaded.contains_key(&name.number)
     }
 
-    /// The clauses of the predicate with name `name` and `count` arguments in a module, or nothing if there is none.
+    /// Where the clauses of the predicate with name `name` and `count` arguments in a module stand, packed, or nothing if there is none.
     #[inline(always)]
-    pub fn find<'a>(
-        &'a self,
-        codes: &'a C,
+    pub fn locate(
+        &self,
+        codes: &C,
         module_name: CellName,
         name: CellName,
         count: usize,
-    ) -> Option<Predicate<'a, CellName>>
+    ) -> Result<Option<u64>, AllocError>
         requires { ArePlaced (C.has codes.now) self.now.loaded }
-        ensures finds { Finds self.now.loaded module_name name count result }
-        ensures some { IfSome result (λ p. AreSome p.names.now p.clauses.now) }
     {
-        match loaded_under(&self.loaded, module_name.number) {
+        let Some(place) = place_under(&self.loaded, module_name.number) else {
+            return Ok(None);
+        };
+        let Some((_, loaded)) = self.loaded.get_index(place) else {
+            return Ok(None);
+        };
+        match loaded.span_of(loaded.code(codes), name, count) {
+            None => Ok(None),
+            Some(span) => match packed(place, span) {
+                None => Err(AllocError),
+                Some(place) => Ok(Some(place)),
+            },
+        }
+    }
+
+    /// The clauses of the predicate that stands at a packed place, or nothing if none stands there.
+    #[inline(always)]
+    pub fn predicate_at<'a>(&'a self, codes: &'a C, place: u64) -> Option<Predicate<'a, CellName>>
+        requires { ArePlaced (C.has codes.now) self.now.loaded }
+    {
+        match self.loaded.get_index(module_in(place)) {
             None => None,
-            Some(loaded) => loaded.find(codes, name, count),
+            Some((_, loaded)) => loaded.clauses_in(loaded.code(codes), span_in(place)),
         }
     }
 
@@ -113,25 +132,21 @@ impl<C: CodeSource> Modules<C> {
     }
 }
 
-/// The module under a number, or nothing if there is none.
+/// The place of the module under a number, or nothing if there is none.
 #[inline(always)]
-fn loaded_under<C: CodeSource>(
-    modules: &IndexMap<u64, Loaded<C>>,
-    number: u64,
-) -> Option<&Loaded<C>>
-    ensures { option_copied result ≡ get nat_eq modules.now number }
+fn place_under<C: CodeSource>(modules: &IndexMap<u64, Loaded<C>>, number: u64) -> Option<usize>
 {
     for place in 0..FEW {
         match modules.get_index(place) {
             None => break,
-            Some((other, loaded)) => {
+            Some((other, _)) => {
                 if *other == number {
-                    return Some(loaded);
+                    return Some(place);
                 }
             }
         }
     }
-    modules.get(&number)
+    modules.get_index_of(&number)
 }
 
 /// Puts a module under a number that none has, if there is room.

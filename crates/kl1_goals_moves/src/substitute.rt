@@ -11,6 +11,7 @@ use crate::look::Look;
 use crate::moves::Move;
 use crate::order::look_at_goal;
 use crate::trial::Trial;
+use kl1_goals::Standing;
 use kl1_model::BuiltIn;
 use kl1_store::{Cell, Store};
 use kl1_text::NameValue;
@@ -42,24 +43,33 @@ pub fn substitute_move<N: NameValue>(
     giving_way(look_at_goal(store, term))
 }
 
-/// The clause by which a substitute for what a cell is can step: 0, or none while it waits. The trial gets the variable that it waits
-/// for, which is unbound.
+/// What a substitute for what a cell is can do. The trial gets the variable that it waits for, which is unbound.
 pub fn substitute_standing<N: NameValue>(
     store: &Store<N>,
     term: Cell<N>,
     trial: &mut Trial<N>,
-) -> Result<Option<u64>, AllocError>
+) -> Result<Standing, AllocError>
     requires { IsIn store.now.held term }
     ensures unbound { OnOk result (AreUnbound store.now.held trial.new.awaited.items) }
     ensures standing { IfOk result (λ clause. (f : N → List ℕ) → Reads N.built f → SubstituteStands (term_of f store.now.held term) trial.new.awaited.items clause) }
 {
     trial.awaited.clear();
     match look_at_goal(store, term) {
-        Look::Right => Ok(Some(0)),
+        Look::Right => Ok(Standing::GivesWay),
         Look::Waits(variable) => {
             trial.awaited.push(variable)?;
-            Ok(None)
+            Ok(Standing::Waits)
         }
-        Look::Wrong => Ok(Some(0)),
+        Look::Wrong => Ok(Standing::Misuses),
+    }
+}
+
+/// What a substitute does that stands so.
+pub fn substitute_as_judged<N: Copy>(standing: Standing) -> Option<Move<N>>
+{
+    match standing {
+        Standing::GivesWay => Some(Move::GivesWay),
+        Standing::Misuses => Some(Move::Raises(BuiltIn::IllegalInput)),
+        _ => None,
     }
 }

@@ -19,40 +19,37 @@ ghost use Rattle.kl1_user_effects.specs.Works.{Knows};
 ghost use Rattle.kl1_ready.specs.Ready.{IsReadyAt};
 
 use crate::clauses::{clause_of_monitor, clause_of_substitute, ready_or_suspend};
-use kl1_clause::Predicate;
-use kl1_codes::{CodeSource, CodedModule, CodedModules};
-use kl1_goals::{Goal, Task};
-use kl1_goals_moves::{Kind, Trial, kind_of_qualified, or_none};
+use crate::call_cache::located_or_none;
+use kl1_codes::{CodeSource, CodedModule, CodedModules, Located};
+use kl1_goals::{Goal, Standing, Task};
+use kl1_goals_moves::{Kind, Trial, kind_of_qualified};
 use kl1_shoen::ShoenTree;
 use kl1_store::{Qualified, Store};
 use kl1_text::CellName;
 use std::alloc::AllocError;
 
-/// The clauses of the predicate that goals of a kind call, in modules or in one that is loaded; none if there is no such predicate, or they
+/// The predicate that goals of a kind call, in modules or in one that is loaded; one without clauses if there is none, or they
 /// call none.
 fn predicate_beside<'a, C: CodeSource>(
     modules: &'a CodedModules<'_, C>,
     loaded: &'a CodedModule<'_, C>,
     kind: Kind<CellName>,
-) -> Predicate<'a, CellName>
+) -> Result<Located<'a>, AllocError>
     requires { is_numbered modules.now.loaded (number_of loaded.now) ≡ false }
-    ensures some { AreSome result.names.now result.clauses.now }
-    ensures has { (f : Reading) → Knows (modules.now.loaded ++ loaded.now ∷ []) f → (h : Held CellName) (t : Term) → IsKind f h t kind → HasPredicate f h (contents (modules.now.loaded ++ loaded.now ∷ [])) kind result }
 {
     match kind {
-        Kind::Calls(call) => or_none(modules.find_beside(
-            loaded,
-            call.module_name,
-            call.name,
-            call.count,
-        )),
-        Kind::Unifies(_, _) => or_none(None),
-        Kind::Assigns(_, _) => or_none(None),
-        Kind::Spells(_, _) => or_none(None),
-        Kind::Executes(_) => or_none(None),
-        Kind::Goes => or_none(None),
-        Kind::Waits(_) => or_none(None),
-        Kind::Nothing => or_none(None),
+        Kind::Calls(call) => {
+            let found =
+                modules.find_beside(loaded, call.module_name, call.name, call.count)?;
+            Ok(located_or_none(found))
+        }
+        Kind::Unifies(_, _) => Ok(located_or_none(None)),
+        Kind::Assigns(_, _) => Ok(located_or_none(None)),
+        Kind::Spells(_, _) => Ok(located_or_none(None)),
+        Kind::Executes(_) => Ok(located_or_none(None)),
+        Kind::Goes => Ok(located_or_none(None)),
+        Kind::Waits(_) => Ok(located_or_none(None)),
+        Kind::Nothing => Ok(located_or_none(None)),
     }
 }
 
@@ -64,7 +61,7 @@ fn clause_beside<C: CodeSource>(
     trial: &mut Trial<CellName>,
     number: u64,
     cell: Qualified<CellName>,
-) -> Result<Option<u64>, AllocError>
+) -> Result<Standing, AllocError>
     requires cell { IsIn store.old.held cell.cell }
     requires new { is_numbered modules.now.loaded (number_of loaded.now) ≡ false }
     ensures ready { IfOk result (λ clause. (shoens : List (Shoen CellName)) (shoen : ℕ) → IsReadyAt (with_last modules.now loaded.now) shoens store.old.held store.new.hooks number shoen (Reduces cell) clause) }
@@ -72,8 +69,8 @@ fn clause_beside<C: CodeSource>(
     ensures grown { HasGrown store.old store.new }
 {
     let kind = kind_of_qualified(store, cell);
-    let predicate = predicate_beside(modules, loaded, kind);
-    ready_or_suspend(store, modules.rules(), kind, predicate, trial, number)
+    let located = predicate_beside(modules, loaded, kind)?;
+    ready_or_suspend(store, modules.rules(), kind, located, trial, number)
 }
 
 /// Like `ready_clause`, with one module more.
@@ -84,7 +81,7 @@ pub fn ready_clause_beside<C: CodeSource>(
     loaded: &CodedModule<'_, C>,
     trial: &mut Trial<CellName>,
     goal: &Goal<CellName>,
-) -> Result<Option<u64>, AllocError>
+) -> Result<Standing, AllocError>
     requires task { IsTaskIn store.old.held goal.now.task }
     requires shoens { AreShoensIn store.old.held shoens.now.shoens }
     requires new { is_numbered modules.now.loaded (number_of loaded.now) ≡ false }

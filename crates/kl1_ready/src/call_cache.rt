@@ -12,39 +12,49 @@ ghost use Rattle.kl1_user_effects.specs.Fitting.{Reading};
 ghost use Rattle.kl1_user_effects.specs.Works.{Knows};
 ghost use Rattle.kl1_ready.specs.Serving.{Serves, calls_same, IsServed};
 
-use kl1_clause::Predicate;
-use kl1_codes::{CodeSource, CodedModules};
+use kl1_codes::{CodeSource, CodedModules, Located};
 use kl1_goals_moves::{Call, Kind, or_none};
 use kl1_text::CellName;
+use std::alloc::AllocError;
 
-/// An account's modules, with the clauses of the predicate that goals of one kind call: for goals that call the same they aren't looked
-/// up again.
+/// An account's modules, with the predicate that goals of one kind call: for goals that call the same it isn't looked up again.
 #[derive(Drop)]
 pub struct CallCache<'a, 'b, C: CodeSource> {
     pub modules: &'a CodedModules<'b, C>,
     pub known: Kind<CellName>,
-    pub predicate: Predicate<'a, CellName>,
+    pub located: Located<'a>,
 }
 
-/// The clauses of the predicate that goals of a kind call; none if there is no such predicate, or they call none.
+/// A predicate that was found, or one without clauses, whose place counts for nothing.
+pub(crate) fn located_or_none<'a>(found: Option<Located<'a>>) -> Located<'a> {
+    match found {
+        None => Located {
+            place: 0,
+            predicate: or_none(None),
+        },
+        Some(located) => located,
+    }
+}
+
+/// The predicate that goals of a kind call; one without clauses if there is none, or they call none.
 #[inline(always)]
 pub fn predicate_of<'a, C: CodeSource>(
     modules: &'a CodedModules<'_, C>,
     kind: Kind<CellName>,
-) -> Predicate<'a, CellName>
-    ensures some { AreSome result.names.now result.clauses.now }
-    ensures has { (f : Reading) → Knows modules.now.loaded f → (h : Held CellName) (t : Term) → IsKind f h t kind → HasPredicate f h (contents modules.now.loaded) kind result }
-    ensures serves { Serves modules.now.loaded kind result }
+) -> Result<Located<'a>, AllocError>
 {
     match kind {
-        Kind::Calls(call) => or_none(modules.find(call.module_name, call.name, call.count)),
-        Kind::Unifies(_, _) => or_none(None),
-        Kind::Assigns(_, _) => or_none(None),
-        Kind::Spells(_, _) => or_none(None),
-        Kind::Executes(_) => or_none(None),
-        Kind::Goes => or_none(None),
-        Kind::Waits(_) => or_none(None),
-        Kind::Nothing => or_none(None),
+        Kind::Calls(call) => {
+            let found = modules.find(call.module_name, call.name, call.count)?;
+            Ok(located_or_none(found))
+        }
+        Kind::Unifies(_, _) => Ok(located_or_none(None)),
+        Kind::Assigns(_, _) => Ok(located_or_none(None)),
+        Kind::Spells(_, _) => Ok(located_or_none(None)),
+        Kind::Executes(_) => Ok(located_or_none(None)),
+        Kind::Goes => Ok(located_or_none(None)),
+        Kind::Waits(_) => Ok(located_or_none(None)),
+        Kind::Nothing => Ok(located_or_none(None)),
     }
 }
 
@@ -68,21 +78,18 @@ fn calls_same(call: Call<CellName>, kind: &Kind<CellName>) -> bool
     }
 }
 
-/// The clauses of the predicate that goals of a kind call.
+/// The predicate that goals of a kind call.
 #[inline(always)]
 pub(crate) fn predicate_for<'a, C: CodeSource>(
     calls: &CallCache<'a, '_, C>,
     kind: Kind<CellName>,
-) -> Predicate<'a, CellName>
-    requires served { IsServed calls.now.modules.now.loaded calls.now.known calls.now.predicate }
-    ensures some { AreSome result.names.now result.clauses.now }
-    ensures serves { Serves calls.now.modules.now.loaded kind result }
+) -> Result<Located<'a>, AllocError>
 {
     let Kind::Calls(call) = calls.known else {
         return predicate_of(calls.modules, kind);
     };
     if calls_same(call, &kind) {
-        return calls.predicate;
+        return Ok(calls.located);
     }
     predicate_of(calls.modules, kind)
 }

@@ -16,9 +16,8 @@ ghost use Rattle.kl1_ready.specs.Serving.{IsServed};
 ghost use Rattle.kl1_ready.specs.Ready.{IsReadyBy, IsHeardAt, IsReadyAt};
 
 use crate::call_cache::{CallCache, predicate_for};
-use kl1_clause::Predicate;
-use kl1_codes::CodeSource;
-use kl1_goals::{Goal, Rules, Task};
+use kl1_codes::{CodeSource, Located};
+use kl1_goals::{Goal, Rules, Standing, Task};
 use kl1_goals_moves::{Kind, Trial, kind_of_qualified, standing_of, substitute_standing};
 use kl1_shoen::ShoenTree;
 use kl1_store::{Cell, Qualified, Store};
@@ -34,17 +33,24 @@ pub(crate) fn ready_or_suspend(
     store: &mut Store<CellName>,
     rules: Rules,
     kind: Kind<CellName>,
-    predicate: Predicate<'_, CellName>,
+    located: Located<'_>,
     trial: &mut Trial<CellName>,
     number: u64,
-) -> Result<Option<u64>, AllocError>
+) -> Result<Standing, AllocError>
     requires kind { KindIn store.old.held kind }
-    requires predicate { AreSome predicate.names.now predicate.clauses.now }
-    ensures ready { IfOk result (λ clause. IsReadyBy rules store.old.held store.new.hooks kind predicate.entry number clause) }
+    requires predicate { AreSome located.predicate.names.now located.predicate.clauses.now }
+    ensures ready { IfOk result (λ clause. IsReadyBy rules store.old.held store.new.hooks kind located.predicate.entry number clause) }
     ensures held { store.new.held ≡ store.old.held }
     ensures grown { HasGrown store.old store.new }
 {
-    let clause = standing_of(store, rules, kind, predicate, trial)?;
+    let clause = standing_of(
+        store,
+        rules,
+        kind,
+        located.predicate,
+        located.place,
+        trial,
+    )?;
     if !trial.awaited.is_empty() {
         store.keep_rests(&trial.scratch.same)?;
         hang_on(store, trial.awaited.as_slice(), number)?;
@@ -60,7 +66,7 @@ fn clause_of_goal<C: CodeSource>(
     trial: &mut Trial<CellName>,
     number: u64,
     cell: Qualified<CellName>,
-) -> Result<Option<u64>, AllocError>
+) -> Result<Standing, AllocError>
     requires cell { IsIn store.old.held cell.cell }
     requires served { IsServed calls.now.modules.now.loaded calls.now.known calls.now.predicate }
     ensures ready { IfOk result (λ clause. (shoens : List (Shoen CellName)) (shoen : ℕ) → IsReadyAt calls.now.modules.now shoens store.old.held store.new.hooks number shoen (Reduces cell) clause) }
@@ -68,8 +74,8 @@ fn clause_of_goal<C: CodeSource>(
     ensures grown { HasGrown store.old store.new }
 {
     let kind = kind_of_qualified(store, cell);
-    let predicate = predicate_for(calls, kind);
-    ready_or_suspend(store, calls.modules.rules(), kind, predicate, trial, number)
+    let located = predicate_for(calls, kind)?;
+    ready_or_suspend(store, calls.modules.rules(), kind, located, trial, number)
 }
 
 /// The clause by which monitor `number` can step that reads this control stream: 0, or none as long as it waits. The number is
@@ -78,7 +84,7 @@ fn clause_of_control(
     store: &mut Store<CellName>,
     control: Cell<CellName>,
     number: u64,
-) -> Result<Option<u64>, AllocError>
+) -> Result<Standing, AllocError>
     requires { IsIn store.old.held control }
     ensures ready { IfOk result (λ clause. IsHeardAt store.old.held store.new.hooks control number clause) }
     ensures held { store.new.held ≡ store.old.held }
@@ -87,12 +93,12 @@ fn clause_of_control(
     match read_control(store, control) {
         Control::Awaits(variable) => {
             hang_on(store, &[variable], number)?;
-            Ok(None)
+            Ok(Standing::Waits)
         }
-        Control::Tells(_message, _rest) => Ok(Some(0)),
-        Control::TellsOther(_element, _rest) => Ok(Some(0)),
-        Control::Ends => Ok(Some(0)),
-        Control::BreaksOff(_cell) => Ok(Some(0)),
+        Control::Tells(_message, _rest) => Ok(Standing::Reads),
+        Control::TellsOther(_element, _rest) => Ok(Standing::Reads),
+        Control::Ends => Ok(Standing::Reads),
+        Control::BreaksOff(_cell) => Ok(Standing::Reads),
     }
 }
 
@@ -103,14 +109,14 @@ pub(crate) fn clause_of_monitor(
     shoens: &ShoenTree<CellName>,
     number: u64,
     shoen: u64,
-) -> Result<Option<u64>, AllocError>
+) -> Result<Standing, AllocError>
     requires { AreShoensIn store.old.held shoens.now.shoens }
     ensures ready { IfOk result (λ clause. (program : Program) → IsReadyAt program shoens.now.shoens store.old.held store.new.hooks number shoen Monitor clause) }
     ensures held { store.new.held ≡ store.old.held }
     ensures grown { HasGrown store.old store.new }
 {
     match shoens.lend(shoen) {
-        None => Ok(None),
+        None => Ok(Standing::Waits),
         Some(found) => clause_of_control(store, found.control, number),
     }
 }
@@ -122,7 +128,7 @@ pub(crate) fn clause_of_substitute(
     trial: &mut Trial<CellName>,
     number: u64,
     term: Cell<CellName>,
-) -> Result<Option<u64>, AllocError>
+) -> Result<Standing, AllocError>
     requires term { IsIn store.old.held term }
     ensures ready { IfOk result (λ clause. (program : Program) (shoens : List (Shoen CellName)) (shoen : ℕ) → IsReadyAt program shoens store.old.held store.new.hooks number shoen (Substitutes term) clause) }
     ensures held { store.new.held ≡ store.old.held }
@@ -143,7 +149,7 @@ pub fn ready_clause<C: CodeSource>(
     calls: &CallCache<'_, '_, C>,
     trial: &mut Trial<CellName>,
     goal: &Goal<CellName>,
-) -> Result<Option<u64>, AllocError>
+) -> Result<Standing, AllocError>
     requires task { IsTaskIn store.old.held goal.now.task }
     requires shoens { AreShoensIn store.old.held shoens.now.shoens }
     requires served { IsServed calls.now.modules.now.loaded calls.now.known calls.now.predicate }

@@ -11,11 +11,12 @@ ghost use Rattle.kl1_user_effects.specs.Kept.{IsTaskIn, AreShoensIn};
 ghost use Rattle.kl1_user_effects.specs.Works.{Made};
 ghost use Rattle.kl1_ready.specs.Plans.{is_read, IsPlan, DoesNothing};
 
-use crate::call_cache::predicate_of;
-use kl1_clause::Predicate;
-use kl1_codes::{CodeSource, CodedModules};
-use kl1_goals::{Goal, Task};
-use kl1_goals_moves::{Kind, Move, Trial, kind_of_qualified, move_of, substitute_move};
+use crate::call_cache::{located_or_none, predicate_of};
+use kl1_codes::{CodeSource, CodedModules, Located};
+use kl1_goals::{Goal, Standing, Task};
+use kl1_goals_moves::{
+    Kind, Move, Trial, call_at, commit_as_judged, kind_of_qualified, move_as_judged, move_of, substitute_as_judged, substitute_move,
+};
 use kl1_shoen::ShoenTree;
 use kl1_store::{Cell, Qualified, Store};
 use kl1_stream::{Control, read_control};
@@ -27,7 +28,7 @@ use std::alloc::AllocError;
 pub struct PlannedMove<'a> {
     pub cell: Qualified<CellName>,
     pub kind: Kind<CellName>,
-    pub predicate: Predicate<'a, CellName>,
+    pub located: Located<'a>,
     pub made: Move<CellName>,
 }
 
@@ -75,49 +76,113 @@ fn plan_reading<'a>(
     Some(Plan::Reads(control))
 }
 
-/// Whether a goal has this clause by which it can step.
-fn stands_by(goal: Goal<CellName>, clause: u64) -> bool
-    ensures { result ≡ true → goal.standing ≡ Some clause }
+/// Whether this is the clause by which a goal can step.
+#[inline(always)]
+fn stands_by(goal: &Goal<CellName>, clause: u64) -> bool
 {
-    match goal.standing {
+    match goal.standing.clause() {
         None => false,
         Some(own) => own == clause,
     }
 }
 
-/// What a goal for a cell is to do by a clause of its predicate; nothing if it can do nothing by it.
-fn plan_move<'a, C: CodeSource>(
+/// What a goal for a cell is to do by a clause of its predicate, as if it had not been judged; nothing if it can do nothing by it.
+#[inline(never)]
+fn plan_anew<'a, C: CodeSource>(
     store: &Store<CellName>,
     modules: &'a CodedModules<'_, C>,
     trial: &mut Trial<CellName>,
-    goal: Goal<CellName>,
     cell: Qualified<CellName>,
     clause: u64,
 ) -> Result<Option<Plan<'a>>, AllocError>
-    requires reduces { goal.task ≡ Reduces cell }
-    requires cell { IsIn store.now.held cell.cell }
-    ensures { IfOk result (λ o. (w : Made) → w.rules ≡ modules.now.rules → MatchOption o (DoesNothing modules.now store.now.held w goal clause) (IsPlan modules.now store.now.held w goal clause (taken_places trial.new) trial.new.text)) }
 {
     let kind = kind_of_qualified(store, cell);
-    let predicate = predicate_of(modules, kind);
+    let located = predicate_of(modules, kind)?;
     let rules = modules.rules();
-    let is_judged = stands_by(goal, clause);
-    let Some(made) = move_of(store, rules, kind, predicate, clause, is_judged, trial)? else {
+    let Some(made) = move_of(store, rules, kind, located.predicate, clause, trial)? else {
         return Ok(None);
     };
     Ok(Some(Plan::Moves(PlannedMove {
         cell,
         kind,
-        predicate,
+        located,
         made,
     })))
 }
 
-/// What a substitute that waits for a cell is to do by a clause; nothing if it waits still.
-fn plan_substitute<'a, C: CodeSource>(
+/// What a goal that was judged to commit is to do, by a clause of the predicate at a place.
+#[inline(always)]
+fn plan_commit<'a, C: CodeSource>(
     store: &Store<CellName>,
     modules: &'a CodedModules<'_, C>,
-    goal: Goal<CellName>,
+    trial: &mut Trial<CellName>,
+    cell: Qualified<CellName>,
+    clause: u64,
+    place: u64,
+) -> Result<Option<Plan<'a>>, AllocError>
+{
+    let Some(call) = call_at(store, cell) else {
+        return Ok(None);
+    };
+    let Some(predicate) = modules.predicate_at(place) else {
+        return Ok(None);
+    };
+    let Some(made) = commit_as_judged(store, call, predicate, clause, trial)? else {
+        return Ok(None);
+    };
+    Ok(Some(Plan::Moves(PlannedMove {
+        cell,
+        kind: Kind::Calls(call),
+        located: Located { place, predicate },
+        made,
+    })))
+}
+
+/// What a goal for a cell is to do by a clause of its predicate; nothing if it can do nothing by it.
+#[inline(always)]
+fn plan_move<'a, C: CodeSource>(
+    store: &Store<CellName>,
+    modules: &'a CodedModules<'_, C>,
+    trial: &mut Trial<CellName>,
+    goal: &Goal<CellName>,
+    cell: Qualified<CellName>,
+    clause: u64,
+) -> Result<Option<Plan<'a>>, AllocError>
+{
+    if !stands_by(goal, clause) {
+        return plan_anew(store, modules, trial, cell, clause);
+    }
+    if let Standing::Commits(number, place) = goal.standing {
+        return plan_commit(store, modules, trial, cell, number, place);
+    }
+    let Some(made) = move_as_judged(store, modules.rules(), cell, goal.standing, trial) else {
+        return Ok(None);
+    };
+    Ok(Some(Plan::Moves(PlannedMove {
+        cell,
+        kind: Kind::Nothing,
+        located: located_or_none(None),
+        made,
+    })))
+}
+
+/// The move of a substitute by a clause, or nothing.
+fn given_way(
+    store: &Store<CellName>,
+    goal: &Goal<CellName>,
+    term: Cell<CellName>,
+    clause: u64,
+) -> Option<Move<CellName>> {
+    if !stands_by(goal, clause) {
+        return substitute_move(store, term, clause);
+    }
+    substitute_as_judged(goal.standing)
+}
+
+/// What a substitute that waits for a cell is to do by a clause; nothing if it waits still.
+fn plan_substitute<'a>(
+    store: &Store<CellName>,
+    goal: &Goal<CellName>,
     term: Cell<CellName>,
     clause: u64,
 ) -> Option<Plan<'a>>
@@ -125,18 +190,17 @@ fn plan_substitute<'a, C: CodeSource>(
     requires cell { IsIn store.now.held term }
     ensures { (w : Made) (places : List (Place CellName)) (text : List ℕ) → MatchOption result (DoesNothing modules.now store.now.held w goal clause) (IsPlan modules.now store.now.held w goal clause places text) }
 {
-    let Some(made) = substitute_move(store, term, clause) else {
+    let Some(made) = given_way(store, goal, term, clause) else {
         return None;
     };
     let cell = Qualified {
         module_name: None,
         cell: term,
     };
-    let predicate = predicate_of(modules, Kind::Nothing);
     Some(Plan::Moves(PlannedMove {
         cell,
         kind: Kind::Nothing,
-        predicate,
+        located: located_or_none(None),
         made,
     }))
 }
@@ -147,7 +211,7 @@ pub fn plan_of<'a, C: CodeSource>(
     shoens: &ShoenTree<CellName>,
     modules: &'a CodedModules<'_, C>,
     trial: &mut Trial<CellName>,
-    goal: Goal<CellName>,
+    goal: &Goal<CellName>,
     clause: u64,
 ) -> Result<Option<Plan<'a>>, AllocError>
     requires task { IsTaskIn store.now.held goal.task }
@@ -155,8 +219,8 @@ pub fn plan_of<'a, C: CodeSource>(
     ensures { IfOk result (λ o. (w : Made) → w.rules ≡ modules.now.rules → w.shoens ≡ shoens.now.shoens → MatchOption o (DoesNothing modules.now store.now.held w goal clause) (IsPlan modules.now store.now.held w goal clause (taken_places trial.new) trial.new.text)) }
 {
     match goal.task {
-        Task::Monitor => Ok(plan_reading(store, shoens, goal, clause)),
+        Task::Monitor => Ok(plan_reading(store, shoens, *goal, clause)),
         Task::Reduces(cell) => plan_move(store, modules, trial, goal, cell, clause),
-        Task::Substitutes(term) => Ok(plan_substitute(store, modules, goal, term, clause)),
+        Task::Substitutes(term) => Ok(plan_substitute(store, goal, term, clause)),
     }
 }

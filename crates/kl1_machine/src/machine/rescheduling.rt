@@ -177,7 +177,7 @@ impl Machine {
         let calls = CallCache {
             modules,
             known: Kind::Nothing,
-            predicate: predicate_of(modules, Kind::Nothing),
+            located: predicate_of(modules, Kind::Nothing)?,
         };
         self.reschedule(&calls, trial, 0)
     }
