@@ -14,6 +14,7 @@ ghost use Rattle.kl1_ready.specs.Serving.{Serves, calls_same, IsServed};
 
 use kl1_codes::{CodeSource, CodedModules, Located};
 use kl1_goals_moves::{Call, Kind, or_none};
+use kl1_store::{Cell, Qualified, Store};
 use kl1_text::CellName;
 use std::alloc::AllocError;
 
@@ -21,7 +22,7 @@ use std::alloc::AllocError;
 #[derive(Drop)]
 pub struct CallCache<'a, 'b, C: CodeSource> {
     pub modules: &'a CodedModules<'b, C>,
-    pub known: Kind<CellName>,
+    pub known: Option<Qualified<CellName>>,
     pub located: Located<'a>,
 }
 
@@ -58,38 +59,45 @@ pub fn predicate_of<'a, C: CodeSource>(
     }
 }
 
-/// Whether goals of a kind call the predicate that a call does.
-fn calls_same(call: Call<CellName>, kind: &Kind<CellName>) -> bool
-    ensures { result ≡ calls_same call kind.now }
-{
-    match *kind {
-        Kind::Calls(other) => {
-            other.module_name.number == call.module_name.number
-                && other.name.number == call.name.number
-                && other.count == call.count
+/// Whether a goal calls the predicate that a call does.
+#[inline(always)]
+fn calls_same(store: &Store<CellName>, goal: Qualified<CellName>, call: &Call<CellName>) -> bool {
+    match goal.module_name {
+        None => false,
+        Some(module_name) => {
+            module_name.number == call.module_name.number && has_functor(store, goal.cell, call.name, call.count)
         }
-        Kind::Unifies(_, _) => false,
-        Kind::Assigns(_, _) => false,
-        Kind::Spells(_, _) => false,
-        Kind::Executes(_) => false,
-        Kind::Goes => false,
-        Kind::Waits(_) => false,
-        Kind::Nothing => false,
+    }
+}
+
+/// Whether a cell is a structure with this name and so many arguments.
+#[inline(always)]
+fn has_functor(store: &Store<CellName>, cell: Cell<CellName>, name: CellName, count: usize) -> bool {
+    match cell {
+        Cell::Structure(structure) => {
+            let head = store.look(structure);
+            head.name.number == name.number && head.count as usize == count
+        }
+        Cell::Variable(_) => false,
+        Cell::Integer(_) => false,
+        Cell::Atom(_) => false,
     }
 }
 
 /// The predicate that goals of a kind call.
 #[inline(always)]
 pub(crate) fn predicate_for<'a, C: CodeSource>(
+    store: &Store<CellName>,
     calls: &CallCache<'a, '_, C>,
     kind: Kind<CellName>,
 ) -> Result<Located<'a>, AllocError>
 {
-    let Kind::Calls(call) = calls.known else {
-        return predicate_of(calls.modules, kind);
-    };
-    if calls_same(call, &kind) {
-        return Ok(calls.located);
+    if let Kind::Calls(call) = kind {
+        if let Some(known) = calls.known {
+            if calls_same(store, known, &call) {
+                return Ok(calls.located);
+            }
+        }
     }
     predicate_of(calls.modules, kind)
 }

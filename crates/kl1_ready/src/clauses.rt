@@ -74,7 +74,7 @@ fn clause_of_goal<C: CodeSource>(
     ensures grown { HasGrown store.old store.new }
 {
     let kind = kind_of_qualified(store, cell);
-    let located = predicate_for(calls, kind)?;
+    let located = predicate_for(store, calls, kind)?;
     ready_or_suspend(store, calls.modules.rules(), kind, located, trial, number)
 }
 

@@ -27,7 +27,6 @@ use std::alloc::AllocError;
 #[derive(Clone, Copy)]
 pub struct PlannedMove<'a> {
     pub cell: Qualified<CellName>,
-    pub kind: Kind<CellName>,
     pub located: Located<'a>,
     pub made: Move<CellName>,
 }
@@ -104,7 +103,6 @@ fn plan_anew<'a, C: CodeSource>(
     };
     Ok(Some(Plan::Moves(PlannedMove {
         cell,
-        kind,
         located,
         made,
     })))
@@ -132,7 +130,6 @@ fn plan_commit<'a, C: CodeSource>(
     };
     Ok(Some(Plan::Moves(PlannedMove {
         cell,
-        kind: Kind::Calls(call),
         located: Located { place, predicate },
         made,
     })))
@@ -160,7 +157,6 @@ fn plan_move<'a, C: CodeSource>(
     };
     Ok(Some(Plan::Moves(PlannedMove {
         cell,
-        kind: Kind::Nothing,
         located: located_or_none(None),
         made,
     })))
@@ -199,7 +195,6 @@ fn plan_substitute<'a>(
     };
     Some(Plan::Moves(PlannedMove {
         cell,
-        kind: Kind::Nothing,
         located: located_or_none(None),
         made,
     }))

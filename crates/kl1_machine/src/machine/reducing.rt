@@ -97,7 +97,7 @@ impl Machine {
                 self.step_goal(scan, predicate, made, trial, cells, goal, cell)?;
                 let calls = CallCache {
                     modules,
-                    known: planned.kind,
+                    known: Some(cell),
                     located,
                 };
                 self.reschedule(&calls, trial, goal.shoen)?;

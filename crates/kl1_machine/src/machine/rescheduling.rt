@@ -176,7 +176,7 @@ impl Machine {
     {
         let calls = CallCache {
             modules,
-            known: Kind::Nothing,
+            known: None,
             located: predicate_of(modules, Kind::Nothing)?,
         };
         self.reschedule(&calls, trial, 0)
