@@ -80,7 +80,7 @@ impl Machine {
         place: usize,
         trial: &mut Trial<CellName>,
         cells: &mut Vec<Qualified<CellName>>,
-        goal: Goal<CellName>,
+        goal: &Goal<CellName>,
         cell: Qualified<CellName>,
     ) -> Result<(), AllocError>
         requires machine { IsMachine self.old }
@@ -95,7 +95,7 @@ impl Machine {
     {
         let needs = needs_of(predicate, place);
         if !self.has_room(needs) {
-            return self.raise(goal, BuiltIn::Exhaustion, cell);
+            return self.raise(*goal, BuiltIn::Exhaustion, cell);
         }
         // Only for the proof: the shoens are numbered in order.
         let _numbered = self.shoens.len();

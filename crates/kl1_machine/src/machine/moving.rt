@@ -32,7 +32,7 @@ impl Machine {
         made: Move<CellName>,
         trial: &mut Trial<CellName>,
         cells: &mut Vec<Qualified<CellName>>,
-        goal: Goal<CellName>,
+        goal: &Goal<CellName>,
         cell: Qualified<CellName>,
     ) -> Result<(), AllocError>
         requires machine { IsMachine self.old }
@@ -47,16 +47,16 @@ impl Machine {
     {
         match made {
             Move::Commits(place) => self.commit(predicate, place, trial, cells, goal, cell),
-            Move::Raises(kind) => self.raise(goal, kind, cell),
+            Move::Raises(kind) => self.raise(*goal, kind, cell),
             Move::Unifies(left, right) => match unify(&mut self.store, left, right)? {
                 Unified::Bound => Ok(()),
-                Unified::Clash => self.raise(goal, BuiltIn::Failure, cell),
+                Unified::Clash => self.raise(*goal, BuiltIn::Failure, cell),
             },
             Move::Names(_target) => unreachable!(),
             Move::Opens(structure) => {
                 // Only for the proof: which order the structure is.
                 let _order = order_at(&self.store, structure);
-                self.open_child(structure, goal, cell)
+                self.open_child(structure, *goal, cell)
             }
             Move::Goes => Ok(()),
             Move::GivesWay => self.put(goal.shoen, goal.priority, Task::Reduces(cell)),

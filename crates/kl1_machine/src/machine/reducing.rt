@@ -94,7 +94,7 @@ impl Machine {
                 let located = planned.located;
                 let predicate = located.predicate;
                 let (made, cell) = (planned.made, planned.cell);
-                self.step_goal(scan, predicate, made, trial, cells, goal, cell)?;
+                self.step_goal(scan, predicate, made, trial, cells, &goal, cell)?;
                 let calls = CallCache {
                     modules,
                     known: Some(cell),
