@@ -7,7 +7,6 @@ ghost use Rattle.kl1_codes.specs.Finding.{FindsIn};
 
 use crate::code_source::CodeSource;
 use crate::loaded::Loaded;
-use crate::span::Span;
 use kl1_clause::{Code, Predicate};
 use kl1_text::CellName;
 use std::marker::Model;
@@ -64,15 +63,12 @@ impl<'a, C: CodeSource> CodedModule<'a, C> {
         self.loaded.number()
     }
 
-    /// The span of the clauses of a predicate, or nothing if there is none.
-    pub(crate) fn span_of(&self, name: CellName, count: usize) -> Option<Span>
+    /// The clauses of a predicate, or nothing if there is none.
+    pub fn find(&self, name: CellName, count: usize) -> Option<(usize, Predicate<'_, CellName>)>
+        ensures finds { FindsIn self.now name count result }
+        ensures some { IfSome result (λ p. AreSome p.names.now p.clauses.now) }
+        ensures row { IfSome result (λ p. p.names.now ≡ self.now.row) }
     {
-        self.loaded.span_of(self.code, name, count)
-    }
-
-    /// The clauses in a span, or nothing if it isn't one of places of these.
-    pub(crate) fn clauses_in(&self, span: Span) -> Option<Predicate<'_, CellName>>
-    {
-        self.loaded.clauses_in(self.code, span)
+        self.loaded.find_in(self.code, name, count, 0)
     }
 }

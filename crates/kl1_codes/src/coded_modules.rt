@@ -8,19 +8,11 @@ ghost use Rattle.kl1_codes.specs.Finding.{Finds, is_numbered};
 use crate::code_source::CodeSource;
 use crate::coded_module::CodedModule;
 use crate::modules::Modules;
-use crate::predicate_place::packed;
+use crate::place::{Located, place_of};
 use kl1_clause::Predicate;
 use kl1_model::Rules;
 use kl1_text::CellName;
-use std::alloc::AllocError;
 use std::marker::Model;
-
-/// A predicate that is found: where it stands among the modules of its account, in one number, and its clauses.
-#[derive(Clone, Copy)]
-pub struct Located<'a> {
-    pub place: u64,
-    pub predicate: Predicate<'a, CellName>,
-}
 
 /// The modules of an account and its rules, lent with the source where the codes of the modules stand: to contracts they are the
 /// modules and the rules.
@@ -84,29 +76,18 @@ impl<'a, C: CodeSource> CodedModules<'a, C> {
         }
     }
 
-    /// Where the predicate with name `name` and `count` arguments in a module stands, and its clauses, or nothing if there is none.
+    /// The predicate with name `name` and `count` arguments in a module, or nothing if there is none. It is looked for first at a place.
     #[inline(always)]
     pub fn find(
         &self,
         module_name: CellName,
         name: CellName,
         count: usize,
-    ) -> Result<Option<Located<'_>>, AllocError>
+        hint: u64,
+    ) -> Option<Located<'_>>
     {
-        let Some(place) = self.modules.locate(self.code_source, module_name, name, count)? else {
-            return Ok(None);
-        };
-        match self.predicate_at(place) {
-            None => Ok(None),
-            Some(predicate) => Ok(Some(Located { place, predicate })),
-        }
-    }
-
-    /// The clauses of the predicate that stands at a place, or nothing if none stands there.
-    #[inline(always)]
-    pub fn predicate_at(&self, place: u64) -> Option<Predicate<'_, CellName>>
-    {
-        self.modules.predicate_at(self.code_source, place)
+        self.modules
+            .find(self.code_source, module_name, name, count, hint)
     }
 
     /// Like `find`, with one module more, which is drafted and none of these.
@@ -116,21 +97,16 @@ impl<'a, C: CodeSource> CodedModules<'a, C> {
         module_name: CellName,
         name: CellName,
         count: usize,
-    ) -> Result<Option<Located<'b>>, AllocError>
+    ) -> Option<Located<'b>>
         requires { is_numbered self.now.loaded (number_of draft.now) ≡ false }
     {
         if draft.number().number != module_name.number {
-            return self.find(module_name, name, count);
+            return self.find(module_name, name, count, 0);
         }
-        let Some(span) = draft.span_of(name, count) else {
-            return Ok(None);
-        };
-        let Some(place) = packed(self.len(), span) else {
-            return Err(AllocError);
-        };
-        match draft.clauses_in(span) {
-            None => Ok(None),
-            Some(predicate) => Ok(Some(Located { place, predicate })),
-        }
+        let (row, predicate) = draft.find(name, count)?;
+        Some(Located {
+            place: place_of(self.len(), row),
+            predicate,
+        })
     }
 }

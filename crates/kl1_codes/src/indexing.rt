@@ -68,7 +68,7 @@ fn span_of(index: &[(Key, Span)], key: Key) -> Option<Span>
 }
 
 /// Whether a key stands at a place.
-fn is_at(index: &[(Key, Span)], key: Key, place: usize) -> bool
+pub(crate) fn is_at(index: &[(Key, Span)], key: Key, place: usize) -> bool
     requires { place < length index.now }
     ensures { IsTrue result → IsAt index.now key place }
 {
@@ -76,17 +76,24 @@ fn is_at(index: &[(Key, Span)], key: Key, place: usize) -> bool
     other.0 == key.0 && other.1 == key.1
 }
 
-/// The span of a key, or nothing if it has none, as `span_of` finds it. The first few keys are compared one by one.
-pub(crate) fn span_near(index: &[(Key, Span)], key: Key) -> Option<Span>
+/// Where the span of a key stands, or nothing if it has none: at the place where it may stand, or else where it is found. The first few
+/// keys are compared one by one.
+pub(crate) fn place_near(index: &[(Key, Span)], key: Key, hint: usize) -> Option<usize>
     requires { IsInOrder index.now }
-    ensures { result ≡ span_at index.now key }
+    ensures { MatchOption result (span_at index.now key ≡ None) (IsAt index.now key) }
 {
+    if hint < index.len() && is_at(index, key, hint) {
+        return Some(hint);
+    }
     for place in 0..FEW.min(index.len()) {
         if is_at(index, key, place) {
-            return Some(index[place].1);
+            return Some(place);
         }
     }
-    span_of(index, key)
+    match search(index, key) {
+        Err(_) => None,
+        Ok(place) => Some(place),
+    }
 }
 
 /// Puts a span under a key. A span that stands there already gives way to it.

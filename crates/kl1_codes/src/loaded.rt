@@ -7,8 +7,8 @@ ghost use Rattle.kl1_clause.specs.Predicates.{AreSome};
 ghost use Rattle.kl1_codes.specs.Finding.{FindsIn};
 
 use crate::code_source::CodeSource;
-use crate::indexing::{Index, key_by, put_spans, span_near};
-use crate::span::{Span, part_within};
+use crate::indexing::{Index, key_by, put_spans, place_near};
+use crate::span::part;
 use kl1_clause::{Code, Predicate};
 use kl1_text::{CellName, NameValue};
 use std::alloc::{AllocError, Global};
@@ -114,27 +114,47 @@ impl<C: CodeSource> Loaded<C> {
         self.number
     }
 
-    /// The span of the clauses of a predicate, or nothing if there is none. This is the module's code.
-    #[inline(always)]
-    pub(crate) fn span_of(&self, code: &Code, name: CellName, count: usize) -> Option<Span>
+    /// The clauses of a predicate, or nothing if there is none. This is the module's code.
+    pub(crate) fn find_in<'a>(
+        &'a self,
+        code: &'a Code,
+        name: CellName,
+        count: usize,
+        hint: usize,
+    ) -> Option<(usize, Predicate<'a, CellName>)>
         requires { code.now ≡ self.now.content }
+        ensures finds { FindsIn self.now name count result }
+        ensures some { IfSome result (λ p. AreSome p.names.now p.clauses.now) }
+        ensures row { IfSome result (λ p. p.names.now ≡ self.now.row) }
     {
         // The clauses of a predicate stand together in a module that is the meaning of its source.
         let _ = code.source();
-        span_near(&self.index, key_by(name, count))
-    }
-
-    /// The clauses in a span, or nothing if it isn't one of places of these. This is the module's code.
-    #[inline(always)]
-    pub(crate) fn clauses_in<'a>(&'a self, code: &'a Code, span: Span) -> Option<Predicate<'a, CellName>>
-        requires { code.now ≡ self.now.content }
-    {
-        match part_within(code.clauses(), span) {
-            None => None,
-            Some(clauses) => Some(Predicate {
+        let place = place_near(&self.index, key_by(name, count), hint)?;
+        let span = self.index[place].1;
+        let clauses = part(code.clauses(), span);
+        Some((
+            place,
+            Predicate {
                 names: &self.row,
                 clauses,
-            }),
-        }
+            },
+        ))
+    }
+
+    /// The clauses of a predicate, or nothing if there is none.
+    #[inline(always)]
+    pub(crate) fn find<'a>(
+        &'a self,
+        codes: &'a C,
+        name: CellName,
+        count: usize,
+        hint: usize,
+    ) -> Option<(usize, Predicate<'a, CellName>)>
+        requires { C.has codes.now self.now.place }
+        ensures finds { FindsIn self.now name count result }
+        ensures some { IfSome result (λ p. AreSome p.names.now p.clauses.now) }
+        ensures row { IfSome result (λ p. p.names.now ≡ self.now.row) }
+    {
+        self.find_in(self.code(codes), name, count, hint)
     }
 }

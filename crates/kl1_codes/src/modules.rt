@@ -8,7 +8,7 @@ ghost use Rattle.kl1_codes.specs.Finding.{Finds, is_numbered, TellsModule};
 
 use crate::code_source::CodeSource;
 use crate::loaded::Loaded;
-use crate::predicate_place::{module_in, packed, span_in};
+use crate::place::{Located, module_in, place_of, row_in};
 use indexmap::IndexMap;
 use kl1_clause::Predicate;
 use kl1_text::CellName;
@@ -74,41 +74,24 @@ impl<C: CodeSource> Modules<C> {
         self.loaded.contains_key(&name.number)
     }
 
-    /// Where the clauses of the predicate with name `name` and `count` arguments in a module stand, packed, or nothing if there is none.
+    /// The predicate with name `name` and `count` arguments in a module, or nothing if there is none. It is looked for first at a place.
     #[inline(always)]
-    pub fn locate(
-        &self,
-        codes: &C,
+    pub fn find<'a>(
+        &'a self,
+        codes: &'a C,
         module_name: CellName,
         name: CellName,
         count: usize,
-    ) -> Result<Option<u64>, AllocError>
+        hint: u64,
+    ) -> Option<Located<'a>>
         requires { ArePlaced (C.has codes.now) self.now.loaded }
     {
-        let Some(place) = place_under(&self.loaded, module_name.number) else {
-            return Ok(None);
-        };
-        let Some((_, loaded)) = self.loaded.get_index(place) else {
-            return Ok(None);
-        };
-        match loaded.span_of(loaded.code(codes), name, count) {
-            None => Ok(None),
-            Some(span) => match packed(place, span) {
-                None => Err(AllocError),
-                Some(place) => Ok(Some(place)),
-            },
-        }
-    }
-
-    /// The clauses of the predicate that stands at a packed place, or nothing if none stands there.
-    #[inline(always)]
-    pub fn predicate_at<'a>(&'a self, codes: &'a C, place: u64) -> Option<Predicate<'a, CellName>>
-        requires { ArePlaced (C.has codes.now) self.now.loaded }
-    {
-        match self.loaded.get_index(module_in(place)) {
-            None => None,
-            Some((_, loaded)) => loaded.clauses_in(loaded.code(codes), span_in(place)),
-        }
+        let (module, loaded) = loaded_under(&self.loaded, module_name.number, module_in(hint))?;
+        let (row, predicate) = loaded.find(codes, name, count, row_in(hint))?;
+        Some(Located {
+            place: place_of(module, row),
+            predicate,
+        })
     }
 
     /// Makes room for `more` modules more. If memory is refused, the modules are as before.
@@ -132,21 +115,33 @@ impl<C: CodeSource> Modules<C> {
     }
 }
 
-/// The place of the module under a number, or nothing if there is none.
+/// The module under a number and its place, or nothing if there is none. It is looked for first at a place.
 #[inline(always)]
-fn place_under<C: CodeSource>(modules: &IndexMap<u64, Loaded<C>>, number: u64) -> Option<usize>
+fn loaded_under<C: CodeSource>(
+    modules: &IndexMap<u64, Loaded<C>>,
+    number: u64,
+    hint: usize,
+) -> Option<(usize, &Loaded<C>)>
 {
+    if let Some((other, loaded)) = modules.get_index(hint) {
+        if *other == number {
+            return Some((hint, loaded));
+        }
+    }
     for place in 0..FEW {
         match modules.get_index(place) {
             None => break,
-            Some((other, _)) => {
+            Some((other, loaded)) => {
                 if *other == number {
-                    return Some(place);
+                    return Some((place, loaded));
                 }
             }
         }
     }
-    modules.get_index_of(&number)
+    match modules.get_full(&number) {
+        None => None,
+        Some((place, _, loaded)) => Some((place, loaded)),
+    }
 }
 
 /// Puts a module under a number that none has, if there is room.

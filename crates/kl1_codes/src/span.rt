@@ -19,13 +19,3 @@ pub(crate) fn part(clauses: &[CompiledClause], span: Span) -> &[CompiledClause]
 {
     &clauses[span.start..span.end]
 }
-
-/// The clauses in a span, or nothing if it isn't one of places of these.
-pub(crate) fn part_within(clauses: &[CompiledClause], span: Span) -> Option<&[CompiledClause]>
-    ensures { MatchOption result (IsWithin (length clauses.now) span → ⊥) (λ found. found.now ≡ take (span.end - span.start) (drop span.start clauses.now)) }
-{
-    if span.start < span.end && span.end <= clauses.len() {
-        return Some(part(clauses, span));
-    }
-    None
-}

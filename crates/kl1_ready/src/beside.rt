@@ -34,22 +34,23 @@ fn predicate_beside<'a, C: CodeSource>(
     modules: &'a CodedModules<'_, C>,
     loaded: &'a CodedModule<'_, C>,
     kind: Kind<CellName>,
-) -> Result<Located<'a>, AllocError>
+) -> Located<'a>
     requires { is_numbered modules.now.loaded (number_of loaded.now) ≡ false }
 {
     match kind {
-        Kind::Calls(call) => {
-            let found =
-                modules.find_beside(loaded, call.module_name, call.name, call.count)?;
-            Ok(located_or_none(found))
-        }
-        Kind::Unifies(_, _) => Ok(located_or_none(None)),
-        Kind::Assigns(_, _) => Ok(located_or_none(None)),
-        Kind::Spells(_, _) => Ok(located_or_none(None)),
-        Kind::Executes(_) => Ok(located_or_none(None)),
-        Kind::Goes => Ok(located_or_none(None)),
-        Kind::Waits(_) => Ok(located_or_none(None)),
-        Kind::Nothing => Ok(located_or_none(None)),
+        Kind::Calls(call) => located_or_none(modules.find_beside(
+            loaded,
+            call.module_name,
+            call.name,
+            call.count,
+        )),
+        Kind::Unifies(_, _) => located_or_none(None),
+        Kind::Assigns(_, _) => located_or_none(None),
+        Kind::Spells(_, _) => located_or_none(None),
+        Kind::Executes(_) => located_or_none(None),
+        Kind::Goes => located_or_none(None),
+        Kind::Waits(_) => located_or_none(None),
+        Kind::Nothing => located_or_none(None),
     }
 }
 
@@ -69,7 +70,7 @@ fn clause_beside<C: CodeSource>(
     ensures grown { HasGrown store.old store.new }
 {
     let kind = kind_of_qualified(store, cell);
-    let located = predicate_beside(modules, loaded, kind)?;
+    let located = predicate_beside(modules, loaded, kind);
     ready_or_suspend(store, modules.rules(), kind, located, trial, number)
 }
 

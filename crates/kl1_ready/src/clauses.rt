@@ -15,7 +15,7 @@ ghost use Rattle.kl1_user_effects.specs.Kept.{IsTaskIn, AreShoensIn};
 ghost use Rattle.kl1_ready.specs.Serving.{IsServed};
 ghost use Rattle.kl1_ready.specs.Ready.{IsReadyBy, IsHeardAt, IsReadyAt};
 
-use crate::call_cache::{CallCache, predicate_for};
+use crate::call_cache::{CallCache, predicate_of};
 use kl1_codes::{CodeSource, Located};
 use kl1_goals::{Goal, Rules, Standing, Task};
 use kl1_goals_moves::{Kind, Trial, kind_of_qualified, standing_of, substitute_standing};
@@ -74,7 +74,7 @@ fn clause_of_goal<C: CodeSource>(
     ensures grown { HasGrown store.old store.new }
 {
     let kind = kind_of_qualified(store, cell);
-    let located = predicate_for(store, calls, kind)?;
+    let located = predicate_of(calls.modules, kind, calls.hint);
     ready_or_suspend(store, calls.modules.rules(), kind, located, trial, number)
 }
 

@@ -96,7 +96,7 @@ fn plan_anew<'a, C: CodeSource>(
 ) -> Result<Option<Plan<'a>>, AllocError>
 {
     let kind = kind_of_qualified(store, cell);
-    let located = predicate_of(modules, kind)?;
+    let located = predicate_of(modules, kind, 0);
     let rules = modules.rules();
     let Some(made) = move_of(store, rules, kind, located.predicate, clause, trial)? else {
         return Ok(None);
@@ -122,15 +122,13 @@ fn plan_commit<'a, C: CodeSource>(
     let Some(call) = call_at(store, cell) else {
         return Ok(None);
     };
-    let Some(predicate) = modules.predicate_at(place) else {
-        return Ok(None);
-    };
-    let Some(made) = commit_as_judged(store, call, predicate, clause, trial)? else {
+    let located = located_or_none(modules.find(call.module_name, call.name, call.count, place));
+    let Some(made) = commit_as_judged(store, call, located.predicate, clause, trial)? else {
         return Ok(None);
     };
     Ok(Some(Plan::Moves(PlannedMove {
         cell,
-        located: Located { place, predicate },
+        located,
         made,
     })))
 }

@@ -97,8 +97,7 @@ impl Machine {
                 self.step_goal(scan, predicate, made, trial, cells, &goal, cell)?;
                 let calls = CallCache {
                     modules,
-                    known: Some(cell),
-                    located,
+                    hint: located.place,
                 };
                 self.reschedule(&calls, trial, goal.shoen)?;
                 Ok(None)

@@ -13,8 +13,8 @@ ghost use Rattle.kl1_machine.specs.Rescheduling.{Wakes, Schedules, Shifts, all_t
 
 use crate::machine::Machine;
 use kl1_codes::{CodeSource, CodedModules};
-use kl1_goals_moves::{Kind, Trial};
-use kl1_ready::{CallCache, enable_each, may_step, predicate_of, put_in_order, ready_clause};
+use kl1_goals_moves::Trial;
+use kl1_ready::{CallCache, enable_each, may_step, put_in_order, ready_clause};
 use kl1_text::CellName;
 use std::alloc::AllocError;
 
@@ -176,8 +176,7 @@ impl Machine {
     {
         let calls = CallCache {
             modules,
-            known: None,
-            located: predicate_of(modules, Kind::Nothing)?,
+            hint: 0,
         };
         self.reschedule(&calls, trial, 0)
     }

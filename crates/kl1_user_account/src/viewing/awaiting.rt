@@ -70,7 +70,7 @@ fn await_as_goal<C: CodeSource>(
     ensures { OnOk result ((shoens : List (Shoen CellName)) (shoen : ℕ) → Awaits modules.now shoens store.now.held shoen (Reduces cell) trial.new.awaited.items) }
 {
     let kind = kind_of_qualified(store, cell);
-    let located = predicate_of(modules, kind)?;
+    let located = predicate_of(modules, kind, 0);
     let (rules, predicate) = (modules.rules(), located.predicate);
     let _standing = standing_of(store, rules, kind, predicate, located.place, trial)?;
     Ok(())
