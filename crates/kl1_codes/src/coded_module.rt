@@ -69,6 +69,6 @@ impl<'a, C: CodeSource> CodedModule<'a, C> {
         ensures some { IfSome result (λ p. AreSome p.names.now p.clauses.now) }
         ensures row { IfSome result (λ p. p.names.now ≡ self.now.row) }
     {
-        self.loaded.find_in(self.code, name, count, 0)
+        self.loaded.find(self.code, name, count)
     }
 }

@@ -68,7 +68,8 @@ fn span_of(index: &[(Key, Span)], key: Key) -> Option<Span>
 }
 
 /// Whether a key stands at a place.
-pub(crate) fn is_at(index: &[(Key, Span)], key: Key, place: usize) -> bool
+#[inline(always)]
+fn is_at(index: &[(Key, Span)], key: Key, place: usize) -> bool
     requires { place < length index.now }
     ensures { IsTrue result → IsAt index.now key place }
 {
@@ -76,15 +77,23 @@ pub(crate) fn is_at(index: &[(Key, Span)], key: Key, place: usize) -> bool
     other.0 == key.0 && other.1 == key.1
 }
 
-/// Where the span of a key stands, or nothing if it has none: at the place where it may stand, or else where it is found. The first few
-/// keys are compared one by one.
-pub(crate) fn place_near(index: &[(Key, Span)], key: Key, hint: usize) -> Option<usize>
+/// The span of a key, if it stands at this place.
+#[inline(always)]
+pub(crate) fn span_on(index: &[(Key, Span)], key: Key, place: usize) -> Option<Span>
+    requires { IsInOrder index.now }
+    ensures { IfSome result (λ span. span_at index.now key ≡ Some span) }
+{
+    if place < index.len() && is_at(index, key, place) {
+        return Some(index[place].1);
+    }
+    None
+}
+
+/// Where the span of a key stands, or nothing if it has none. The first few keys are compared one by one.
+pub(crate) fn place_near(index: &[(Key, Span)], key: Key) -> Option<usize>
     requires { IsInOrder index.now }
     ensures { MatchOption result (span_at index.now key ≡ None) (IsAt index.now key) }
 {
-    if hint < index.len() && is_at(index, key, hint) {
-        return Some(hint);
-    }
     for place in 0..FEW.min(index.len()) {
         if is_at(index, key, place) {
             return Some(place);

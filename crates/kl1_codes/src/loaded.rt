@@ -7,8 +7,8 @@ ghost use Rattle.kl1_clause.specs.Predicates.{AreSome};
 ghost use Rattle.kl1_codes.specs.Finding.{FindsIn};
 
 use crate::code_source::CodeSource;
-use crate::indexing::{Index, key_by, put_spans, place_near};
-use crate::span::part;
+use crate::indexing::{Index, key_by, place_near, put_spans, span_on};
+use crate::span::{Span, part};
 use kl1_clause::{Code, Predicate};
 use kl1_text::{CellName, NameValue};
 use std::alloc::{AllocError, Global};
@@ -114,47 +114,39 @@ impl<C: CodeSource> Loaded<C> {
         self.number
     }
 
-    /// The clauses of a predicate, or nothing if there is none. This is the module's code.
-    pub(crate) fn find_in<'a>(
+    /// The clauses in a span. This is the module's code.
+    #[inline(always)]
+    fn clauses_in<'a>(&'a self, code: &'a Code, span: Span) -> Predicate<'a, CellName> {
+        Predicate {
+            names: &self.row,
+            clauses: part(code.clauses(), span),
+        }
+    }
+
+    /// The row of a predicate in the index and its clauses, or nothing if there is none. This is the module's code.
+    pub(crate) fn find<'a>(
         &'a self,
         code: &'a Code,
         name: CellName,
         count: usize,
-        hint: usize,
-    ) -> Option<(usize, Predicate<'a, CellName>)>
-        requires { code.now ≡ self.now.content }
-        ensures finds { FindsIn self.now name count result }
-        ensures some { IfSome result (λ p. AreSome p.names.now p.clauses.now) }
-        ensures row { IfSome result (λ p. p.names.now ≡ self.now.row) }
-    {
+    ) -> Option<(usize, Predicate<'a, CellName>)> {
         // The clauses of a predicate stand together in a module that is the meaning of its source.
         let _ = code.source();
-        let place = place_near(&self.index, key_by(name, count), hint)?;
-        let span = self.index[place].1;
-        let clauses = part(code.clauses(), span);
-        Some((
-            place,
-            Predicate {
-                names: &self.row,
-                clauses,
-            },
-        ))
+        let row = place_near(&self.index, key_by(name, count))?;
+        Some((row, self.clauses_in(code, self.index[row].1)))
     }
 
-    /// The clauses of a predicate, or nothing if there is none.
+    /// The clauses of a predicate, if it stands in this row of the index. This is the module's code.
     #[inline(always)]
-    pub(crate) fn find<'a>(
+    pub(crate) fn find_on<'a>(
         &'a self,
-        codes: &'a C,
+        code: &'a Code,
         name: CellName,
         count: usize,
-        hint: usize,
-    ) -> Option<(usize, Predicate<'a, CellName>)>
-        requires { C.has codes.now self.now.place }
-        ensures finds { FindsIn self.now name count result }
-        ensures some { IfSome result (λ p. AreSome p.names.now p.clauses.now) }
-        ensures row { IfSome result (λ p. p.names.now ≡ self.now.row) }
-    {
-        self.find_in(self.code(codes), name, count, hint)
+        row: usize,
+    ) -> Option<Predicate<'a, CellName>> {
+        let _ = code.source();
+        let span = span_on(&self.index, key_by(name, count), row)?;
+        Some(self.clauses_in(code, span))
     }
 }

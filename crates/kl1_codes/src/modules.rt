@@ -74,7 +74,46 @@ impl<C: CodeSource> Modules<C> {
         self.loaded.contains_key(&name.number)
     }
 
-    /// The predicate with name `name` and `count` arguments in a module, or nothing if there is none. It is looked for first at a place.
+    /// The predicate with name `name` and `count` arguments in a module, or nothing if there is none.
+    #[inline(never)]
+    fn search<'a>(
+        &'a self,
+        codes: &'a C,
+        module_name: CellName,
+        name: CellName,
+        count: usize,
+    ) -> Option<Located<'a>>
+        requires { ArePlaced (C.has codes.now) self.now.loaded }
+    {
+        let (module, loaded) = loaded_under(&self.loaded, module_name.number)?;
+        let (row, predicate) = loaded.find(loaded.code(codes), name, count)?;
+        Some(Located {
+            place: place_of(module, row),
+            predicate,
+        })
+    }
+
+    /// The clauses of the predicate with name `name` and `count` arguments in a module, if it stands at a place.
+    #[inline(always)]
+    fn find_at<'a>(
+        &'a self,
+        codes: &'a C,
+        module_name: CellName,
+        name: CellName,
+        count: usize,
+        place: u64,
+    ) -> Option<Predicate<'a, CellName>>
+        requires { ArePlaced (C.has codes.now) self.now.loaded }
+    {
+        let (number, loaded) = self.loaded.get_index(module_in(place))?;
+        if *number != module_name.number {
+            return None;
+        }
+        loaded.find_on(loaded.code(codes), name, count, row_in(place))
+    }
+
+    /// The predicate with name `name` and `count` arguments in a module, or nothing if there is none. It is looked for first at the place
+    /// that `hint` says.
     #[inline(always)]
     pub fn find<'a>(
         &'a self,
@@ -86,12 +125,13 @@ impl<C: CodeSource> Modules<C> {
     ) -> Option<Located<'a>>
         requires { ArePlaced (C.has codes.now) self.now.loaded }
     {
-        let (module, loaded) = loaded_under(&self.loaded, module_name.number, module_in(hint))?;
-        let (row, predicate) = loaded.find(codes, name, count, row_in(hint))?;
-        Some(Located {
-            place: place_of(module, row),
-            predicate,
-        })
+        match self.find_at(codes, module_name, name, count, hint) {
+            None => self.search(codes, module_name, name, count),
+            Some(predicate) => Some(Located {
+                place: hint,
+                predicate,
+            }),
+        }
     }
 
     /// Makes room for `more` modules more. If memory is refused, the modules are as before.
@@ -115,19 +155,12 @@ impl<C: CodeSource> Modules<C> {
     }
 }
 
-/// The module under a number and its place, or nothing if there is none. It is looked for first at a place.
-#[inline(always)]
+/// The module under a number and its place, or nothing if there is none.
 fn loaded_under<C: CodeSource>(
     modules: &IndexMap<u64, Loaded<C>>,
     number: u64,
-    hint: usize,
 ) -> Option<(usize, &Loaded<C>)>
 {
-    if let Some((other, loaded)) = modules.get_index(hint) {
-        if *other == number {
-            return Some((hint, loaded));
-        }
-    }
     for place in 0..FEW {
         match modules.get_index(place) {
             None => break,
@@ -138,10 +171,8 @@ fn loaded_under<C: CodeSource>(
             }
         }
     }
-    match modules.get_full(&number) {
-        None => None,
-        Some((place, _, loaded)) => Some((place, loaded)),
-    }
+    let (place, _, loaded) = modules.get_full(&number)?;
+    Some((place, loaded))
 }
 
 /// Puts a module under a number that none has, if there is room.
