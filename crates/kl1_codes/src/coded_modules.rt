@@ -1,6 +1,6 @@
 // The modules of an account with their codes at hand, and its rules.
 
-ghost use Rattle.std.specs.Prelude.{◌≡◌, false, [], ◌∷◌, ◌++◌, length, slice_get, IfSome};
+ghost use Rattle.std.specs.Prelude.{◌≡◌, false, [], ◌∷◌, ◌++◌, length, slice_get, option_map, IfSome};
 ghost use Rattle.kl1_codes.specs.Numbered.{number_of, ArePlaced};
 ghost use Rattle.kl1_clause.specs.Predicates.{AreSome};
 ghost use Rattle.kl1_codes.specs.Finding.{Finds, is_numbered};
@@ -85,6 +85,8 @@ impl<'a, C: CodeSource> CodedModules<'a, C> {
         count: usize,
         hint: u64,
     ) -> Option<Located<'_>>
+        ensures finds { Finds self.now.loaded module_name name count (option_map (λ l. l.predicate) result) }
+        ensures some { IfSome result (λ l. AreSome l.predicate.names.now l.predicate.clauses.now) }
     {
         self.modules
             .find(self.code_source, module_name, name, count, hint)
@@ -99,6 +101,8 @@ impl<'a, C: CodeSource> CodedModules<'a, C> {
         count: usize,
     ) -> Option<Located<'b>>
         requires { is_numbered self.now.loaded (number_of draft.now) ≡ false }
+        ensures finds { Finds (self.now.loaded ++ draft.now ∷ []) module_name name count (option_map (λ l. l.predicate) result) }
+        ensures some { IfSome result (λ l. AreSome l.predicate.names.now l.predicate.clauses.now) }
     {
         if draft.number().number != module_name.number {
             return self.find(module_name, name, count, 0);

@@ -1,6 +1,6 @@
 // The spans of a module's predicates, by name and number of arguments.
 
-ghost use Rattle.std.specs.Prelude.{◌≡◌, ℕ, List, ◌+◌, ◌^◌, ◌<◌, ◌≤◌, [], length, map, IfOk, IfErr, IsTrue, slice_index_or, vec_len, vec_capacity};
+ghost use Rattle.std.specs.Prelude.{◌≡◌, ℕ, List, ◌+◌, ◌^◌, ◌<◌, ◌≤◌, [], length, map, Some, None, IfOk, IfErr, IfSome, IsTrue, MatchOption, slice_index_or, vec_len, vec_capacity};
 ghost use Rattle.kl1_text.specs.Reading.{Reads};
 ghost use Rattle.kl1_text.specs.declared.cell_name.CellName.{CellName};
 ghost use Rattle.kl1_clause.specs.Instructions.{IsPlaced, text_in};

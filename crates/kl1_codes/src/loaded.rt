@@ -1,9 +1,11 @@
 // One module with the numbers of its names.
 
-ghost use Rattle.std.specs.Prelude.{◌≡◌, length, IfOk, IfSome};
+ghost use Rattle.std.specs.Prelude.{◌≡◌, ◌-◌, length, take, drop, option_map, Some, IfOk, IfSome};
 ghost use Rattle.kl1_text.specs.BuiltIns.{built_in_of};
 ghost use Rattle.kl1_codes.specs.Numbered.{own_names, number_by, number_of};
+ghost use Rattle.kl1_clause.specs.Clauses.{AreCompiled};
 ghost use Rattle.kl1_clause.specs.Predicates.{AreSome};
+ghost use Rattle.kl1_codes.specs.Spans.{IsWithin};
 ghost use Rattle.kl1_codes.specs.Finding.{FindsIn};
 
 use crate::code_source::CodeSource;
@@ -116,7 +118,13 @@ impl<C: CodeSource> Loaded<C> {
 
     /// The clauses in a span. This is the module's code.
     #[inline(always)]
-    fn clauses_in<'a>(&'a self, code: &'a Code, span: Span) -> Predicate<'a, CellName> {
+    fn clauses_in<'a>(&'a self, code: &'a Code, span: Span) -> Predicate<'a, CellName>
+        requires code { code.now ≡ self.now.content }
+        requires span { IsWithin (length self.now.content.clauses) span }
+        ensures some { AreSome result.names.now result.clauses.now }
+        ensures row { result.names.now ≡ self.now.row }
+        ensures are { AreCompiled (own_names self.now.content) result.clauses.now (take (span.end - span.start) (drop span.start self.now.content.clauses)) }
+    {
         Predicate {
             names: &self.row,
             clauses: part(code.clauses(), span),
@@ -129,7 +137,12 @@ impl<C: CodeSource> Loaded<C> {
         code: &'a Code,
         name: CellName,
         count: usize,
-    ) -> Option<(usize, Predicate<'a, CellName>)> {
+    ) -> Option<(usize, Predicate<'a, CellName>)>
+        requires { code.now ≡ self.now.content }
+        ensures finds { FindsIn self.now name count (option_map (λ p. p.1) result) }
+        ensures some { IfSome result (λ p. AreSome p.1.names.now p.1.clauses.now) }
+        ensures row { IfSome result (λ p. p.1.names.now ≡ self.now.row) }
+    {
         // The clauses of a predicate stand together in a module that is the meaning of its source.
         let _ = code.source();
         let row = place_near(&self.index, key_by(name, count))?;
@@ -144,7 +157,11 @@ impl<C: CodeSource> Loaded<C> {
         name: CellName,
         count: usize,
         row: usize,
-    ) -> Option<Predicate<'a, CellName>> {
+    ) -> Option<Predicate<'a, CellName>>
+        requires { code.now ≡ self.now.content }
+        ensures finds { IfSome result (λ p. FindsIn self.now name count (Some p)) }
+        ensures some { IfSome result (λ p. AreSome p.names.now p.clauses.now) }
+    {
         let _ = code.source();
         let span = span_on(&self.index, key_by(name, count), row)?;
         Some(self.clauses_in(code, span))

@@ -1,6 +1,6 @@
 // The modules of an account.
 
-ghost use Rattle.std.specs.Prelude.{◌≡◌, ℕ, ◌+◌, ◌<◌, ◌≤◌, false, [], ◌∷◌, ◌++◌, length, slice_get, option_copied, OnOk, IfSome, None, nat_eq};
+ghost use Rattle.std.specs.Prelude.{◌≡◌, ℕ, ◌+◌, ◌<◌, ◌≤◌, false, [], ◌∷◌, ◌++◌, length, slice_get, option_copied, option_map, OnOk, IfSome, Some, None, nat_eq};
 ghost use Rattle.indexmap.specs.IndexMap.{get, spare};
 ghost use Rattle.kl1_codes.specs.Numbered.{number_of, ArePlaced};
 ghost use Rattle.kl1_clause.specs.Predicates.{AreSome};
@@ -84,6 +84,8 @@ impl<C: CodeSource> Modules<C> {
         count: usize,
     ) -> Option<Located<'a>>
         requires { ArePlaced (C.has codes.now) self.now.loaded }
+        ensures finds { Finds self.now.loaded module_name name count (option_map (λ l. l.predicate) result) }
+        ensures some { IfSome result (λ l. AreSome l.predicate.names.now l.predicate.clauses.now) }
     {
         let (module, loaded) = loaded_under(&self.loaded, module_name.number)?;
         let (row, predicate) = loaded.find(loaded.code(codes), name, count)?;
@@ -104,6 +106,8 @@ impl<C: CodeSource> Modules<C> {
         place: u64,
     ) -> Option<Predicate<'a, CellName>>
         requires { ArePlaced (C.has codes.now) self.now.loaded }
+        ensures finds { IfSome result (λ p. Finds self.now.loaded module_name name count (Some p)) }
+        ensures some { IfSome result (λ p. AreSome p.names.now p.clauses.now) }
     {
         let (number, loaded) = self.loaded.get_index(module_in(place))?;
         if *number != module_name.number {
@@ -124,6 +128,8 @@ impl<C: CodeSource> Modules<C> {
         hint: u64,
     ) -> Option<Located<'a>>
         requires { ArePlaced (C.has codes.now) self.now.loaded }
+        ensures finds { Finds self.now.loaded module_name name count (option_map (λ l. l.predicate) result) }
+        ensures some { IfSome result (λ l. AreSome l.predicate.names.now l.predicate.clauses.now) }
     {
         match self.find_at(codes, module_name, name, count, hint) {
             None => self.search(codes, module_name, name, count),
@@ -160,6 +166,7 @@ fn loaded_under<C: CodeSource>(
     modules: &IndexMap<u64, Loaded<C>>,
     number: u64,
 ) -> Option<(usize, &Loaded<C>)>
+    ensures { option_map (λ p. p.1.now) result ≡ get nat_eq modules.now number }
 {
     for place in 0..FEW {
         match modules.get_index(place) {

@@ -1,7 +1,7 @@
 // What goals could do.
 
 ghost use Rattle.std.specs.Prelude.{◌≡◌};
-ghost use Rattle.kl1_goals.specs.Readies.{clause_of};
+ghost use Rattle.kl1_goals.specs.Readies.{clause_in};
 
 /// What a goal could do as of the last change, whether it may step or not.
 #[derive(Clone, Copy)]
@@ -35,7 +35,7 @@ pub enum Standing {
 impl Standing {
     /// The number of the clause by which the goal could step, from 1, and 0 if it needs none; nothing if it waits.
     pub fn clause(&self) -> Option<u64>
-        ensures { result ≡ clause_of self.now }
+        ensures { result ≡ clause_in self.now }
     {
         match *self {
             Standing::Waits => None,

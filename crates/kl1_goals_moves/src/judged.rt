@@ -1,4 +1,26 @@
-// What goals that were judged do.
+// What goals do that were judged: no clause is tried, no expression is reckoned, and no order is looked at again.
+
+ghost use Rattle.std.specs.Prelude.{◌≡◌, ℕ, ◌<◌, List, Some, IfOk, IfSome, MatchOption, length};
+ghost use Rattle.kl1_model.specs.Term.{Term};
+ghost use Rattle.kl1_model.specs.Module.{Module};
+ghost use Rattle.kl1_model.specs.declared.rules.Rules.{Rules};
+ghost use Rattle.kl1_model.specs.code.Waits.{term_clause};
+ghost use Rattle.kl1_text.specs.Reading.{Reads};
+ghost use Rattle.kl1_store.specs.Held.{IsIn, arguments_of};
+ghost use Rattle.kl1_store.specs.Meaning.{term_of};
+ghost use Rattle.kl1_store.specs.InModules.{qualified_term};
+ghost use Rattle.kl1_clause.specs.declared.predicate.Predicate.{Predicate};
+ghost use Rattle.kl1_clause.specs.Predicates.{AreSome};
+ghost use Rattle.kl1_match.specs.declared.place.Place.{Place};
+ghost use Rattle.kl1_goals.specs.Readies.{clause_in};
+ghost use Rattle.kl1_goals_moves.specs.declared.kind.Kind.TheVariants.{Calls};
+ghost use Rattle.kl1_model.specs.Look as model;
+ghost use Rattle.kl1_goals_moves.specs.declared.order.ExecuteArguments.{ExecuteArguments};
+ghost use Rattle.kl1_goals_moves.specs.Calls.{cell_of, CalledBetween, CalledInside};
+ghost use Rattle.kl1_goals_moves.specs.Kinds.{IsCall};
+ghost use Rattle.kl1_goals_moves.specs.Orders.{IsOrder, order_at};
+ghost use Rattle.kl1_goals_moves.specs.Judged.{IsCalling, DoesAs, IsNoCommit, pair, order_goal};
+ghost use Rattle.kl1_goals_moves.specs.Moves.{taken_places, HasPredicate, MoveIn, MovesAs};
 
 use crate::call::Call;
 use crate::calling::{Callee, called, called_in};
@@ -15,27 +37,55 @@ use kl1_store::{Cell, Qualified, Store};
 use kl1_text::NameValue;
 use std::alloc::AllocError;
 
-/// What is called by a goal that is in no module of a name.
-#[inline(never)]
-fn callee_of_whole<N: NameValue>(store: &Store<N>, goal: Cell<N>) -> Callee<N>
+/// The two arguments of a goal, if it has two.
+#[inline(always)]
+fn two_of<N: NameValue>(store: &Store<N>, goal: Cell<N>) -> Option<(Cell<N>, Cell<N>)>
+    requires { IsIn store.now.held goal }
+    ensures inside { IfSome result (λ two. IsIn store.now.held two.0 × IsIn store.now.held two.1) }
+    ensures two { (f : N → List ℕ) (name : List ℕ) (a b : Term) → term_of f store.now.held goal ≡ pair name a b → MatchOption result ⊥ (λ two. (term_of f store.now.held two.0 ≡ a) × (term_of f store.now.held two.1 ≡ b)) }
 {
     match shape_of(store, goal) {
-        Shape::Two(_, left, right) => called(store, left, right),
-        Shape::Variable(_) => Callee::Nothing,
-        Shape::Atom(_) => Callee::Nothing,
-        Shape::Other => Callee::Nothing,
+        Shape::Two(_, left, right) => Some((left, right)),
+        Shape::Variable(_) => None,
+        Shape::Atom(_) => None,
+        Shape::Other => None,
     }
 }
 
-/// The call that a goal is which is known to be one.
-#[inline(always)]
-pub fn call_at<N: NameValue>(store: &Store<N>, goal: Qualified<N>) -> Option<Call<N>>
+/// What is called by a goal that is in no module of a name, if it has two arguments.
+#[inline(never)]
+fn callee_of_whole<N: NameValue>(store: &Store<N>, goal: Cell<N>) -> Callee<N>
+    requires { IsIn store.now.held goal }
+    ensures inside { CalledInside store.now.held result }
+    ensures called { (f : N → List ℕ) (name : List ℕ) (a b : Term) → term_of f store.now.held goal ≡ pair name a b → CalledBetween f store.now.held a b result }
 {
-    let callee = match goal.module_name {
+    match two_of(store, goal) {
+        None => Callee::Nothing,
+        Some((left, right)) => called(store, left, right),
+    }
+}
+
+/// What is called by a goal.
+#[inline(always)]
+fn callee_of<N: NameValue>(store: &Store<N>, goal: Qualified<N>) -> Callee<N>
+    requires { IsIn store.now.held goal.cell }
+    ensures inside { CalledInside store.now.held result }
+    ensures called { (f : N → List ℕ) (name : List ℕ) (a b : Term) → qualified_term f store.now.held goal ≡ pair name a b → CalledBetween f store.now.held a b result }
+{
+    match goal.module_name {
         None => callee_of_whole(store, goal.cell),
         Some(name) => called_in(store, name, goal.cell),
-    };
-    match callee {
+    }
+}
+
+/// The call that a goal is which was judged to be one.
+#[inline(always)]
+pub fn call_at<N: NameValue>(store: &Store<N>, goal: Qualified<N>) -> Option<Call<N>>
+    requires { IsIn store.now.held goal.cell }
+    ensures inside { IfSome result (λ call. IsIn store.now.held (cell_of call)) }
+    ensures call { (f : N → List ℕ) → Reads N.built f → IsCalling (qualified_term f store.now.held goal) → MatchOption result ⊥ (IsCall f store.now.held (qualified_term f store.now.held goal)) }
+{
+    match callee_of(store, goal) {
         Callee::Calls(call) => Some(call),
         Callee::Waits(_) => None,
         Callee::Nothing => None,
@@ -53,12 +103,11 @@ pub fn commit_as_judged<N: NameValue>(
     trial: &mut Trial<N>,
 ) -> Result<Option<Move<N>>, AllocError>
     requires call { IsIn store.now.held (cell_of call) }
-    requires number { 0 < number }
     requires predicate { AreSome predicate.names.now predicate.clauses.now }
     ensures inside { IfOk result (MoveIn store.now.held predicate.entry (taken_places trial.new) trial.new.text) }
-    ensures commits { IfOk result (λ found. (f : N → List ℕ) → Reads N.built f → (cs : List Clause) → AreCompiled (map f predicate.entry.names.now) predicate.entry.clauses.now cs → least_clause cs (arguments_at f store.now.held call) ≡ Some number → CommitsAs f store.now.held call predicate.entry cs number (taken_places trial.new) found) }
+    ensures moves { IfOk result (λ found. (f : N → List ℕ) → Reads N.built f → (rules : Rules) (modules : List Module) (t : Term) → IsCall f store.now.held t call → HasPredicate f store.now.held modules (Calls call) predicate.entry → 0 < number → term_clause rules modules t ≡ Some number → MovesAs f store.now.held rules modules t number predicate.entry (taken_places trial.new) trial.new.text found) }
 {
-    let place = (number - 1) as usize;
+    let place = number.wrapping_sub(1) as usize;
     if place >= predicate.clauses.len() {
         return Ok(None);
     }
@@ -75,26 +124,22 @@ pub fn commit_as_judged<N: NameValue>(
     Ok(Some(Move::Commits(place)))
 }
 
-/// The two arguments of a goal.
-#[inline(always)]
-fn two_of<N: NameValue>(store: &Store<N>, goal: Cell<N>) -> Option<(Cell<N>, Cell<N>)>
-{
-    match shape_of(store, goal) {
-        Shape::Two(_, left, right) => Some((left, right)),
-        Shape::Variable(_) => None,
-        Shape::Atom(_) => None,
-        Shape::Other => None,
-    }
-}
-
-/// The structure of the order that a goal gives.
+/// The structure of the six arguments of an order that a goal gives, if it gives one.
 fn order_of<N: NameValue>(store: &Store<N>, goal: Qualified<N>) -> Option<u32>
+    requires { IsIn store.now.held goal.cell }
+    ensures inside { IfSome result (λ s. (s < length store.now.held.structures) × (length (arguments_of store.now.held s) ≡ 6)) }
+    ensures order { (f : N → List ℕ) (o : model.ExecuteArguments) → qualified_term f store.now.held goal ≡ order_goal o → MatchOption result ⊥ (λ s. (x : ExecuteArguments N) → IsOrder store.now.held s x → order_at f store.now.held x ≡ o) }
 {
-    let call = call_at(store, goal)?;
+    let Callee::Calls(call) = callee_of(store, goal) else {
+        return None;
+    };
+    if call.count != 6 {
+        return None;
+    }
     call.structure
 }
 
-/// What a goal does that stands so and is no call of a user's predicate.
+/// What a goal does that was judged and stands so, if it doesn't commit to a clause.
 #[inline(always)]
 pub fn move_as_judged<N: NameValue>(
     store: &Store<N>,
@@ -103,6 +148,9 @@ pub fn move_as_judged<N: NameValue>(
     standing: Standing,
     trial: &mut Trial<N>,
 ) -> Option<Move<N>>
+    requires { IsIn store.now.held goal.cell }
+    ensures inside { (p : Predicate N) (places : List (Place N)) → MoveIn store.now.held p places trial.new.text result }
+    ensures moves { (f : N → List ℕ) → Reads N.built f → IsNoCommit standing → DoesAs rules (qualified_term f store.now.held goal) standing → (modules : List Module) (number : ℕ) → clause_in standing ≡ Some number → term_clause rules modules (qualified_term f store.now.held goal) ≡ Some number → (p : Predicate N) (places : List (Place N)) → MovesAs f store.now.held rules modules (qualified_term f store.now.held goal) number p places trial.new.text result }
 {
     match standing {
         Standing::Waits => None,
@@ -119,8 +167,8 @@ pub fn move_as_judged<N: NameValue>(
         Standing::Overflows => Some(Move::Raises(BuiltIn::Overflow)),
         Standing::Misuses => Some(Move::Raises(BuiltIn::IllegalInput)),
         Standing::Names => {
-            let (codes, target) = two_of(store, goal.cell)?;
-            naming(target, spell(store, rules, codes, &mut trial.text))
+            let (list, target) = two_of(store, goal.cell)?;
+            naming(target, spell(store, rules, list, &mut trial.text))
         }
         Standing::Opens => {
             let structure = order_of(store, goal)?;

@@ -3,14 +3,13 @@
 ghost use Rattle.std.specs.Prelude.{◌≡◌, ℕ, ◌<◌, List, map, Some, IfOk};
 ghost use Rattle.kl1_model.specs.Module.{Clause, Module};
 ghost use Rattle.kl1_model.specs.Term.{Term};
-ghost use Rattle.kl1_model.specs.code.Waits.{least_clause};
 ghost use Rattle.kl1_text.specs.Reading.{Reads};
 ghost use Rattle.kl1_store.specs.Held.{IsIn};
 ghost use Rattle.kl1_clause.specs.Clauses.{AreCompiled};
 ghost use Rattle.kl1_clause.specs.Predicates.{AreSome};
-ghost use Rattle.kl1_goals_moves.specs.Calls.{cell_of, arguments_at};
+ghost use Rattle.kl1_goals_moves.specs.Calls.{cell_of};
 ghost use Rattle.kl1_goals_moves.specs.Kinds.{IsKind, KindIn};
-ghost use Rattle.kl1_goals_moves.specs.Moves.{taken_places, HasPredicate, MoveIn, FailsAs, CommitsAs, IsJudged, MovesAs};
+ghost use Rattle.kl1_goals_moves.specs.Moves.{taken_places, HasPredicate, MoveIn, FailsAs, CommitsAs, MovesAs};
 
 use crate::assigning::assigned;
 use crate::call::Call;
@@ -55,7 +54,7 @@ pub fn move_of<N: NameValue>(
     requires kind { KindIn store.now.held kind }
     requires predicate { AreSome predicate.names.now predicate.clauses.now }
     ensures inside { IfOk result (MoveIn store.now.held predicate.entry (taken_places trial.new) trial.new.text) }
-    ensures moves { IfOk result (λ found. (f : N → List ℕ) → Reads N.built f → (modules : List Module) (t : Term) → IsKind f store.now.held t kind → HasPredicate f store.now.held modules kind predicate.entry → IsJudged rules modules t clause is_judged → MovesAs f store.now.held rules modules t clause predicate.entry (taken_places trial.new) trial.new.text found) }
+    ensures moves { IfOk result (λ found. (f : N → List ℕ) → Reads N.built f → (modules : List Module) (t : Term) → IsKind f store.now.held t kind → HasPredicate f store.now.held modules kind predicate.entry → MovesAs f store.now.held rules modules t clause predicate.entry (taken_places trial.new) trial.new.text found) }
 {
     match kind {
         Kind::Calls(call) => {

@@ -9,7 +9,7 @@ ghost use Rattle.kl1_clause.specs.Predicates.{AreSome};
 ghost use Rattle.kl1_match.specs.Waiting.{AreUnbound};
 ghost use Rattle.kl1_goals_moves.specs.Kinds.{IsKind, KindIn};
 ghost use Rattle.kl1_goals_moves.specs.Moves.{HasPredicate};
-ghost use Rattle.kl1_goals_moves.specs.Standing.{StandsAs};
+ghost use Rattle.kl1_goals_moves.specs.Standing.{standing_by, becoming, StandsAs};
 
 use crate::kind::Kind;
 use crate::look::Look;
@@ -26,7 +26,9 @@ use kl1_text::NameValue;
 use std::alloc::AllocError;
 
 /// What a call does by the least clause that accepts it, of the predicate at a place.
-fn called(clause: Option<u64>, place: u64) -> Standing {
+fn called(clause: Option<u64>, place: u64) -> Standing
+    ensures { result ≡ standing_by clause place }
+{
     match clause {
         None => Standing::Waits,
         Some(number) => {
@@ -39,7 +41,9 @@ fn called(clause: Option<u64>, place: u64) -> Standing {
 }
 
 /// What a goal does whose first argument becomes a number.
-fn becoming(number: Number) -> Standing {
+fn becoming(number: Number) -> Standing
+    ensures { result ≡ becoming number }
+{
     match number {
         Number::Value(integer) => Standing::Becomes(integer),
         Number::Overflow => Standing::Overflows,
@@ -62,7 +66,7 @@ pub fn standing_of<N: NameValue>(
     requires predicate { AreSome predicate.names.now predicate.clauses.now }
     ensures unbound { OnOk result (AreUnbound store.now.held trial.new.awaited.items) }
     ensures remembers { OnOk result (Remembers N.built store.now.held trial.new.scratch.same) }
-    ensures standing { IfOk result (λ clause. (f : N → List ℕ) → Reads N.built f → (modules : List Module) (t : Term) → IsKind f store.now.held t kind → HasPredicate f store.now.held modules kind predicate.entry → StandsAs rules modules t trial.new.awaited.items clause) }
+    ensures standing { IfOk result (λ standing. (f : N → List ℕ) → Reads N.built f → (modules : List Module) (t : Term) → IsKind f store.now.held t kind → HasPredicate f store.now.held modules kind predicate.entry → StandsAs rules modules t trial.new.awaited.items standing) }
 {
     trial.awaited.clear();
     store.forget(&mut trial.scratch.same);

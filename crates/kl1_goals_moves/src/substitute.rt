@@ -1,10 +1,13 @@
 // What substitutes can do.
 
-ghost use Rattle.std.specs.Prelude.{◌≡◌, ℕ, List, OnOk, IfOk};
+ghost use Rattle.std.specs.Prelude.{◌≡◌, ℕ, List, Some, OnOk, IfOk};
+ghost use Rattle.kl1_model.specs.Term.{Term};
 ghost use Rattle.kl1_text.specs.Reading.{Reads};
 ghost use Rattle.kl1_store.specs.Held.{IsIn};
 ghost use Rattle.kl1_store.specs.Meaning.{term_of};
 ghost use Rattle.kl1_match.specs.Waiting.{AreUnbound};
+ghost use Rattle.kl1_goals.specs.Readies.{clause_in};
+ghost use Rattle.kl1_goals_moves.specs.Judged.{SubstituteDoes};
 ghost use Rattle.kl1_goals_moves.specs.Substitutes.{giving_way, SubstituteMoves, SubstituteStands};
 
 use crate::look::Look;
@@ -51,7 +54,7 @@ pub fn substitute_standing<N: NameValue>(
 ) -> Result<Standing, AllocError>
     requires { IsIn store.now.held term }
     ensures unbound { OnOk result (AreUnbound store.now.held trial.new.awaited.items) }
-    ensures standing { IfOk result (λ clause. (f : N → List ℕ) → Reads N.built f → SubstituteStands (term_of f store.now.held term) trial.new.awaited.items clause) }
+    ensures standing { IfOk result (λ standing. (f : N → List ℕ) → Reads N.built f → SubstituteStands (term_of f store.now.held term) trial.new.awaited.items standing) }
 {
     trial.awaited.clear();
     match look_at_goal(store, term) {
@@ -66,10 +69,20 @@ pub fn substitute_standing<N: NameValue>(
 
 /// What a substitute does that stands so.
 pub fn substitute_as_judged<N: Copy>(standing: Standing) -> Option<Move<N>>
+    ensures { (t : Term) → SubstituteDoes t standing → clause_in standing ≡ Some 0 → SubstituteMoves t 0 result }
 {
     match standing {
         Standing::GivesWay => Some(Move::GivesWay),
         Standing::Misuses => Some(Move::Raises(BuiltIn::IllegalInput)),
-        _ => None,
+        Standing::Waits => None,
+        Standing::Commits(_, _) => None,
+        Standing::Fails => None,
+        Standing::Unifies => None,
+        Standing::Becomes(_) => None,
+        Standing::Overflows => None,
+        Standing::Names => None,
+        Standing::Opens => None,
+        Standing::Goes => None,
+        Standing::Reads => None,
     }
 }

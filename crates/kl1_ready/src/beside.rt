@@ -1,4 +1,4 @@
-// The clauses by which goals can step when a module is loaded.
+// What goals can do when a module is loaded.
 
 ghost use Rattle.std.specs.Prelude.{◌≡◌, ℕ, ◌++◌, false, List, [], ◌∷◌, IfOk};
 ghost use Rattle.kl1_model.specs.Term.{Term};
@@ -18,7 +18,7 @@ ghost use Rattle.kl1_user_effects.specs.Kept.{IsTaskIn, AreShoensIn};
 ghost use Rattle.kl1_user_effects.specs.Works.{Knows};
 ghost use Rattle.kl1_ready.specs.Ready.{IsReadyAt};
 
-use crate::clauses::{clause_of_monitor, clause_of_substitute, ready_or_suspend};
+use crate::clauses::{standing_of_monitor, standing_of_substitute, ready_or_suspend};
 use crate::call_cache::located_or_none;
 use kl1_codes::{CodeSource, CodedModule, CodedModules, Located};
 use kl1_goals::{Goal, Standing, Task};
@@ -36,6 +36,8 @@ fn predicate_beside<'a, C: CodeSource>(
     kind: Kind<CellName>,
 ) -> Located<'a>
     requires { is_numbered modules.now.loaded (number_of loaded.now) ≡ false }
+    ensures some { AreSome result.predicate.names.now result.predicate.clauses.now }
+    ensures has { (f : Reading) → Knows (modules.now.loaded ++ loaded.now ∷ []) f → (h : Held CellName) (t : Term) → IsKind f h t kind → HasPredicate f h (contents (modules.now.loaded ++ loaded.now ∷ [])) kind result.predicate }
 {
     match kind {
         Kind::Calls(call) => located_or_none(modules.find_beside(
@@ -54,8 +56,8 @@ fn predicate_beside<'a, C: CodeSource>(
     }
 }
 
-/// The clause by which goal `number`, which is for a cell, can step, or none. The number is hung on each variable that the goal waits for.
-fn clause_beside<C: CodeSource>(
+/// What goal `number` can do, which is for a cell. The number is hung on each variable that the goal waits for.
+fn standing_beside<C: CodeSource>(
     store: &mut Store<CellName>,
     modules: &CodedModules<'_, C>,
     loaded: &CodedModule<'_, C>,
@@ -65,7 +67,7 @@ fn clause_beside<C: CodeSource>(
 ) -> Result<Standing, AllocError>
     requires cell { IsIn store.old.held cell.cell }
     requires new { is_numbered modules.now.loaded (number_of loaded.now) ≡ false }
-    ensures ready { IfOk result (λ clause. (shoens : List (Shoen CellName)) (shoen : ℕ) → IsReadyAt (with_last modules.now loaded.now) shoens store.old.held store.new.hooks number shoen (Reduces cell) clause) }
+    ensures ready { IfOk result (λ standing. (shoens : List (Shoen CellName)) (shoen : ℕ) → IsReadyAt (with_last modules.now loaded.now) shoens store.old.held store.new.hooks number shoen (Reduces cell) standing) }
     ensures held { store.new.held ≡ store.old.held }
     ensures grown { HasGrown store.old store.new }
 {
@@ -74,8 +76,8 @@ fn clause_beside<C: CodeSource>(
     ready_or_suspend(store, modules.rules(), kind, located, trial, number)
 }
 
-/// Like `ready_clause`, with one module more.
-pub fn ready_clause_beside<C: CodeSource>(
+/// Like `judge`, with one module more.
+pub fn judge_beside<C: CodeSource>(
     store: &mut Store<CellName>,
     shoens: &ShoenTree<CellName>,
     modules: &CodedModules<'_, C>,
@@ -86,13 +88,13 @@ pub fn ready_clause_beside<C: CodeSource>(
     requires task { IsTaskIn store.old.held goal.now.task }
     requires shoens { AreShoensIn store.old.held shoens.now.shoens }
     requires new { is_numbered modules.now.loaded (number_of loaded.now) ≡ false }
-    ensures ready { IfOk result (λ clause. IsReadyAt (with_last modules.now loaded.now) shoens.now.shoens store.old.held store.new.hooks goal.now.number goal.now.shoen goal.now.task clause) }
+    ensures ready { IfOk result (λ standing. IsReadyAt (with_last modules.now loaded.now) shoens.now.shoens store.old.held store.new.hooks goal.now.number goal.now.shoen goal.now.task standing) }
     ensures held { store.new.held ≡ store.old.held }
     ensures grown { HasGrown store.old store.new }
 {
     match goal.task {
-        Task::Monitor => clause_of_monitor(store, shoens, goal.number, goal.shoen),
-        Task::Reduces(cell) => clause_beside(store, modules, loaded, trial, goal.number, cell),
-        Task::Substitutes(term) => clause_of_substitute(store, trial, goal.number, term),
+        Task::Monitor => standing_of_monitor(store, shoens, goal.number, goal.shoen),
+        Task::Reduces(cell) => standing_beside(store, modules, loaded, trial, goal.number, cell),
+        Task::Substitutes(term) => standing_of_substitute(store, trial, goal.number, term),
     }
 }

@@ -1,16 +1,17 @@
 // The clauses of the predicates that goals call.
 
-ghost use Rattle.std.specs.Prelude.{◌≡◌};
+ghost use Rattle.std.specs.Prelude.{ℕ, List, map, option_map, IfSome};
 ghost use Rattle.kl1_model.specs.Term.{Term};
+ghost use Rattle.kl1_model.specs.Module.{Clause};
 ghost use Rattle.kl1_text.specs.declared.cell_name.CellName.{CellName};
 ghost use Rattle.kl1_store.specs.Held.{Held};
-ghost use Rattle.kl1_clause.specs.Predicates.{AreSome};
+ghost use Rattle.kl1_clause.specs.Clauses.{AreCompiled};
+ghost use Rattle.kl1_clause.specs.Predicates.{AreSome, FoundAs};
 ghost use Rattle.kl1_goals_moves.specs.Kinds.{IsKind};
 ghost use Rattle.kl1_goals_moves.specs.Moves.{HasPredicate};
 ghost use Rattle.kl1_codes.specs.Finding.{contents};
 ghost use Rattle.kl1_user_effects.specs.Fitting.{Reading};
 ghost use Rattle.kl1_user_effects.specs.Works.{Knows};
-ghost use Rattle.kl1_ready.specs.Serving.{Serves, calls_same, IsServed};
 
 use kl1_codes::{CodeSource, CodedModules, Located};
 use kl1_goals_moves::{Kind, or_none};
@@ -24,7 +25,11 @@ pub struct CallCache<'a, 'b, C: CodeSource> {
 }
 
 /// A predicate that was found, or one without clauses.
-pub(crate) fn located_or_none<'a>(found: Option<Located<'a>>) -> Located<'a> {
+pub(crate) fn located_or_none<'a>(found: Option<Located<'a>>) -> Located<'a>
+    requires { IfSome found (λ l. AreSome l.predicate.names.now l.predicate.clauses.now) }
+    ensures some { AreSome result.predicate.names.now result.predicate.clauses.now }
+    ensures clauses { (f : CellName → List ℕ) (cs : List Clause) → FoundAs f cs (option_map (λ l. l.predicate) found) → AreCompiled (map f result.predicate.names.now) result.predicate.clauses.now cs }
+{
     match found {
         None => Located {
             place: 0,
@@ -42,6 +47,8 @@ pub fn predicate_of<'a, C: CodeSource>(
     kind: Kind<CellName>,
     hint: u64,
 ) -> Located<'a>
+    ensures some { AreSome result.predicate.names.now result.predicate.clauses.now }
+    ensures has { (f : Reading) → Knows modules.now.loaded f → (h : Held CellName) (t : Term) → IsKind f h t kind → HasPredicate f h (contents modules.now.loaded) kind result.predicate }
 {
     match kind {
         Kind::Calls(call) => {

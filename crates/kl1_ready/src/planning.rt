@@ -4,7 +4,16 @@ ghost use Rattle.std.specs.Prelude.{◌≡◌, ℕ, true, List, Some, IfOk, Matc
 ghost use Rattle.kl1_text.specs.declared.cell_name.CellName.{CellName};
 ghost use Rattle.kl1_store.specs.Held.{IsIn};
 ghost use Rattle.kl1_match.specs.declared.place.Place.{Place};
-ghost use Rattle.kl1_goals_moves.specs.Moves.{taken_places};
+ghost use Rattle.kl1_text.specs.Reading.{Reads};
+ghost use Rattle.kl1_clause.specs.declared.predicate.Predicate.{Predicate};
+ghost use Rattle.kl1_goals.specs.declared.goal.Goal.{Goal};
+ghost use Rattle.kl1_goals.specs.declared.standing.Standing.TheVariants.{Commits};
+ghost use Rattle.kl1_goals.specs.Readies.{clause_in};
+ghost use Rattle.kl1_goals_moves.specs.Judged.{SubstituteDoes};
+ghost use Rattle.kl1_goals_moves.specs.Substitutes.{SubstituteMoves};
+ghost use Rattle.kl1_goals_moves.specs.Moves.{taken_places, MoveIn};
+ghost use Rattle.kl1_user_effects.specs.Fitting.{Reading, built};
+ghost use Rattle.kl1_user_effects.specs.Account.{meaning};
 ghost use Rattle.kl1_goals.specs.declared.task.Task.TheVariants.{Monitor, Reduces, Substitutes};
 ghost use Rattle.kl1_codes.specs.Shelves.{Program};
 ghost use Rattle.kl1_user_effects.specs.Kept.{IsTaskIn, AreShoensIn};
@@ -23,7 +32,7 @@ use kl1_stream::{Control, read_control};
 use kl1_text::CellName;
 use std::alloc::AllocError;
 
-/// A move that a goal is to make, which is this cell, and whose clauses are those of the predicate of goals of a kind.
+/// A move that a goal is to make, which is this cell, and the predicate that it calls, if it calls one.
 #[derive(Clone, Copy)]
 pub struct PlannedMove<'a> {
     pub cell: Qualified<CellName>,
@@ -78,6 +87,7 @@ fn plan_reading<'a>(
 /// Whether this is the clause by which a goal can step.
 #[inline(always)]
 fn stands_by(goal: &Goal<CellName>, clause: u64) -> bool
+    ensures { result ≡ true → clause_in goal.now.standing ≡ Some clause }
 {
     match goal.standing.clause() {
         None => false,
@@ -94,6 +104,8 @@ fn plan_anew<'a, C: CodeSource>(
     cell: Qualified<CellName>,
     clause: u64,
 ) -> Result<Option<Plan<'a>>, AllocError>
+    requires cell { IsIn store.now.held cell.cell }
+    ensures { IfOk result (λ o. (goal : Goal CellName) (w : Made) → goal.task ≡ Reduces cell → w.rules ≡ modules.now.rules → MatchOption o (DoesNothing modules.now store.now.held w goal clause) (IsPlan modules.now store.now.held w goal clause (taken_places trial.new) trial.new.text)) }
 {
     let kind = kind_of_qualified(store, cell);
     let located = predicate_of(modules, kind, 0);
@@ -118,6 +130,8 @@ fn plan_commit<'a, C: CodeSource>(
     clause: u64,
     place: u64,
 ) -> Result<Option<Plan<'a>>, AllocError>
+    requires cell { IsIn store.now.held cell.cell }
+    ensures { IfOk result (λ o. (goal : Goal CellName) (w : Made) → goal.task ≡ Reduces cell → goal.standing ≡ Commits clause place → w.rules ≡ modules.now.rules → MatchOption o (DoesNothing modules.now store.now.held w goal clause) (IsPlan modules.now store.now.held w goal clause (taken_places trial.new) trial.new.text)) }
 {
     let Some(call) = call_at(store, cell) else {
         return Ok(None);
@@ -143,6 +157,9 @@ fn plan_move<'a, C: CodeSource>(
     cell: Qualified<CellName>,
     clause: u64,
 ) -> Result<Option<Plan<'a>>, AllocError>
+    requires reduces { goal.now.task ≡ Reduces cell }
+    requires cell { IsIn store.now.held cell.cell }
+    ensures { IfOk result (λ o. (w : Made) → w.rules ≡ modules.now.rules → MatchOption o (DoesNothing modules.now store.now.held w goal.now clause) (IsPlan modules.now store.now.held w goal.now clause (taken_places trial.new) trial.new.text)) }
 {
     if !stands_by(goal, clause) {
         return plan_anew(store, modules, trial, cell, clause);
@@ -160,13 +177,17 @@ fn plan_move<'a, C: CodeSource>(
     })))
 }
 
-/// The move of a substitute by a clause, or nothing.
+/// The move of a substitute that waits for a cell by a clause, or nothing.
 fn given_way(
     store: &Store<CellName>,
     goal: &Goal<CellName>,
     term: Cell<CellName>,
     clause: u64,
-) -> Option<Move<CellName>> {
+) -> Option<Move<CellName>>
+    requires { IsIn store.now.held term }
+    ensures inside { (p : Predicate CellName) (places : List (Place CellName)) (text : List ℕ) → MoveIn store.now.held p places text result }
+    ensures moves { (f : Reading) → Reads built f → SubstituteDoes (meaning f store.now.held term) goal.now.standing → SubstituteMoves (meaning f store.now.held term) clause result }
+{
     if !stands_by(goal, clause) {
         return substitute_move(store, term, clause);
     }
@@ -180,9 +201,9 @@ fn plan_substitute<'a>(
     term: Cell<CellName>,
     clause: u64,
 ) -> Option<Plan<'a>>
-    requires substitutes { goal.task ≡ Substitutes term }
+    requires substitutes { goal.now.task ≡ Substitutes term }
     requires cell { IsIn store.now.held term }
-    ensures { (w : Made) (places : List (Place CellName)) (text : List ℕ) → MatchOption result (DoesNothing modules.now store.now.held w goal clause) (IsPlan modules.now store.now.held w goal clause places text) }
+    ensures { (program : Program) (w : Made) (places : List (Place CellName)) (text : List ℕ) → MatchOption result (DoesNothing program store.now.held w goal.now clause) (IsPlan program store.now.held w goal.now clause places text) }
 {
     let Some(made) = given_way(store, goal, term, clause) else {
         return None;
@@ -207,9 +228,9 @@ pub fn plan_of<'a, C: CodeSource>(
     goal: &Goal<CellName>,
     clause: u64,
 ) -> Result<Option<Plan<'a>>, AllocError>
-    requires task { IsTaskIn store.now.held goal.task }
+    requires task { IsTaskIn store.now.held goal.now.task }
     requires shoens { AreShoensIn store.now.held shoens.now.shoens }
-    ensures { IfOk result (λ o. (w : Made) → w.rules ≡ modules.now.rules → w.shoens ≡ shoens.now.shoens → MatchOption o (DoesNothing modules.now store.now.held w goal clause) (IsPlan modules.now store.now.held w goal clause (taken_places trial.new) trial.new.text)) }
+    ensures { IfOk result (λ o. (w : Made) → w.rules ≡ modules.now.rules → w.shoens ≡ shoens.now.shoens → MatchOption o (DoesNothing modules.now store.now.held w goal.now clause) (IsPlan modules.now store.now.held w goal.now clause (taken_places trial.new) trial.new.text)) }
 {
     match goal.task {
         Task::Monitor => Ok(plan_reading(store, shoens, *goal, clause)),

@@ -40,9 +40,9 @@ impl Machine {
         requires predicate { AreSome predicate.names.now predicate.clauses.now }
         requires inside { MoveIn self.old.store.held predicate (taken_places trial.old) trial.old.text (Some made) }
         requires cell { IsIn self.old.store.held cell.cell }
-        requires owned { IsOwned (length self.old.shoens.shoens) goal }
-        requires level { goal.priority ≤ MONITOR_PRIORITY }
-        ensures ok { OnOk result (MovesAs (record { predicate = predicate.entry; move = made; places = taken_places trial.old; text = trial.old.text }) goal cell self.old self.new) }
+        requires owned { IsOwned (length self.old.shoens.shoens) goal.now }
+        requires level { goal.now.priority ≤ MONITOR_PRIORITY }
+        ensures ok { OnOk result (MovesAs (record { predicate = predicate.entry; move = made; places = taken_places trial.old; text = trial.old.text }) goal.now cell self.old self.new) }
         ensures since { (b : Machine) → Since b self.old → StillSince result b self.new }
     {
         match made {
