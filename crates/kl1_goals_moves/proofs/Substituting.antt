@@ -4,9 +4,13 @@ use Rattle.std.specs.Prelude.{Option}
 use Rattle.kl1_model.specs.Term.{Term}
 use Rattle.kl1_model.specs.Look.{goal_look}
 use Rattle.kl1_model.specs.code.Steps as model
-use Rattle.kl1_model.specs.code.Waits.{look_clause, awaited_by_substitute}
+use Rattle.kl1_model.specs.code.Waits.{look_clause, substitute_clause, awaited_by_substitute}
 use Rattle.kl1_match.specs.Waiting.{AreSame}
 use Rattle.kl1_match.proofs.Naming.{same_as_itself}
+use Rattle.kl1_goals.specs.declared.standing.Standing.{Standing}
+use Rattle.kl1_goals.specs.declared.standing.Standing.TheVariants as standing
+use Rattle.kl1_goals.specs.Readies.{clause_in}
+use Rattle.kl1_goals_moves.specs.Judged.{SubstituteDoes}
 use Rattle.kl1_goals_moves.specs.declared.look.Look.{Look}
 use Rattle.kl1_goals_moves.specs.declared.look.Look.TheVariants as look
 use Rattle.kl1_goals_moves.specs.declared.moves.Move.{Move}
@@ -26,9 +30,19 @@ moves_as {N = N} t clause x found z own e =
     let Q : ℕ → Type 0 = λ n. SubstituteMoves t n found in
     subst Q (sym z) (subst P (sym own) (gives_as N t x e))
 
--- the clause by which it can step and what it waits for, by the look
-pub stands_as : (t : Term) (x : Look) (awaited : List ℕ) (clause : Option ℕ) → look_of x ≡ goal_look t → awaited ≡ awaited_by_found (look_of x) → clause ≡ look_clause (look_of x) → SubstituteStands t awaited clause
-stands_as t x awaited clause e a k = record {
-  clause_is = k ∙ ap look_clause e;
-  awaits = subst (λ (vs : List ℕ). AreSame vs (awaited_by_substitute t)) (sym (a ∙ ap awaited_by_found e)) (same_as_itself (awaited_by_substitute t));
-}
+-- how it stands by the look
+abbrev pub giving_by : Look → Standing
+giving_by look.Right = standing.GivesWay
+giving_by (look.Waits v) = standing.Waits
+giving_by look.Wrong = standing.Misuses
+
+-- and what it waits for
+pub stands_as : (t : Term) (x : Look) (awaited : List ℕ) → look_of x ≡ goal_look t → awaited ≡ awaited_by_found (look_of x) → SubstituteStands t awaited (giving_by x)
+stands_as t x awaited e a =
+    let d = by x (sym e) in
+    record { clause_is = d.0; does = d.1; awaits = subst (λ (vs : List ℕ). AreSame vs (awaited_by_substitute t)) (sym (a ∙ ap awaited_by_found e)) (same_as_itself (awaited_by_substitute t)) }
+  where
+    by : (x : Look) → goal_look t ≡ look_of x → (clause_in (giving_by x) ≡ substitute_clause t) × SubstituteDoes t (giving_by x)
+    by look.Right e = (sym (ap look_clause e), e)
+    by (look.Waits v) e = (sym (ap look_clause e), tt)
+    by look.Wrong e = (sym (ap look_clause e), e)
