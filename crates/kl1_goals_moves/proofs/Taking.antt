@@ -64,7 +64,7 @@ use Rattle.kl1_goals.specs.Readies.{clause_in}
 use Rattle.kl1_goals_moves.specs.Judged.{pair, IsCalling, DoesAs}
 use Rattle.kl1_goals_moves.specs.Standing.{standing_by, becoming, StandsAs}
 use Rattle.kl1_goals_moves.proofs.Candidates.{none_behind, fails_by, goes_on_by, commits_by, by_zero}
-use Rattle.kl1_model.specs.Found.{found}
+use Rattle.kl1_model.specs.Found as looks
 use Rattle.kl1_model.specs.code.Awaited.{awaited_by_found}
 
 -- ---- compiled clauses of a predicate
@@ -283,7 +283,7 @@ waits_by (Awaits v) = v ∷ []
 waits_by IsNoExpression = []
 
 -- by a number that an expression comes to
-number_does : (rules : Rules) (t a b : Term) (k : Number) → t ≡ pair (codes ":=") a b → evaluated b ≡ found k → call_of t ≡ None → built_in_move rules t ≡ Some (model_moves.becomes a k) → (clause_in (becoming k) ≡ Some 0) × DoesAs rules t (becoming k)
+number_does : (rules : Rules) (t a b : Term) (k : Number) → t ≡ pair (codes ":=") a b → evaluated b ≡ looks.found k → call_of t ≡ None → built_in_move rules t ≡ Some (model_moves.becomes a k) → (clause_in (becoming k) ≡ Some 0) × DoesAs rules t (becoming k)
 number_does rules t a b (Value z) is comes e m = (refl, record { left = a; right = b; is = is; comes = comes })
 number_does rules t a b Overflow is comes e m = (refl, record { left = a; right = b; is = is; comes = comes })
 number_does rules t a b ZeroDivisor is comes e m = (refl, record { call = e; move = m })
@@ -410,9 +410,16 @@ kind_executes {N = N} f h rules modules t k s o x awaited e at value waits is =
     let P : Kind N → Type 0 = λ y. IsKind f h t y in
     execution_stands f h rules modules t s o x awaited (subst P e is) at value waits
 
-pub kind_stands : {N : Type 0} (built : BuiltIn → N) (f : N → List ℕ) (h : Held N) (rules : Rules) (modules : List Module) (t : Term) (k : Kind N) (c : Call N) (goal : Cell N) (p : Predicate N) (before after : List ℕ) (choice : Option ℕ) (place : ℕ) → Reads built f → k ≡ kind.Calls c → goal ≡ cell_of c → before ≡ [] →
-    IsChoice built p.names.now p.clauses.now h goal before after choice → IsKind f h t k → HasPredicate f h modules k p → StandsAs rules modules t after (standing_by choice place)
-kind_stands {N = N} built f h rules modules t k c goal p before after choice place r e own empty chosen is has =
+-- and `atom_from` by what its codes spell
+pub kind_spells : {N : Type 0} (f : N → List ℕ) (h : Held N) (rules : Rules) (modules : List Module) (t : Term) (k : Kind N) (list target : Cell N) (x : Spelling) (text awaited : List ℕ) → k ≡ kind.Spells list target → spelling_of x text ≡ spelling (most_spelled rules) (term_of f h list) → awaited ≡ waits_by_spelling x →
+    IsKind f h t k → StandsAs rules modules t awaited (naming_by x)
+kind_spells {N = N} f h rules modules t k list target x text awaited e spells waits is =
+    let P : Kind N → Type 0 = λ y. IsKind f h t y in
+    spelling_stands f h rules modules t list target x text awaited (subst P e is) spells waits
+
+pub kind_stands : {N : Type 0} (built : BuiltIn → N) (f : N → List ℕ) (h : Held N) (rules : Rules) (modules : List Module) (t : Term) (k : Kind N) (c : Call N) (goal : Cell N) (p : Predicate N) (before after : List ℕ) (choice : Option ℕ) (place : ℕ) (made : Standing) → Reads built f → k ≡ kind.Calls c → goal ≡ cell_of c → before ≡ [] →
+    IsChoice built p.names.now p.clauses.now h goal before after choice → IsKind f h t k → HasPredicate f h modules k p → made ≡ standing_by choice place → StandsAs rules modules t after made
+kind_stands {N = N} built f h rules modules t k c goal p before after choice place made r e own empty chosen is has so =
     let P : Kind N → Type 0 = λ x. IsKind f h t x in
     let Q : Kind N → Type 0 = λ x. HasPredicate f h modules x p in
-    call_stands f h rules modules t c goal chosen.named after choice place (subst P e is) own (chosen.awaited ∙ ap (λ l. l ++ chosen.named) empty) (chosen.chooses f r (clauses_of modules (call_at f h c)) (subst Q e has))
+    subst (λ (s : Standing). StandsAs rules modules t after s) (sym so) (call_stands f h rules modules t c goal chosen.named after choice place (subst P e is) own (chosen.awaited ∙ ap (λ l. l ++ chosen.named) empty) (chosen.chooses f r (clauses_of modules (call_at f h c)) (subst Q e has)))
