@@ -5,7 +5,7 @@ use Rattle.kl1_match.specs.Kept.{kept_places}
 use Rattle.kl1_match_verdict.specs.Candidates.{found_places}
 use Rattle.kl1_goals_moves.specs.Moves.{CommitsBy}
 use Rattle.kl1_goals_moves.proofs.Taking.{are_clauses, none_left, judged}
-use Rattle.kl1_goals_moves.proofs.moves.committing_as_judged.Goals as goal
+use Rattle.kl1_goals_moves.proofs.judged.commit_as_judged.Goals as goal
 
 found_taken : {N : Type 0} (b : Bool) (s : Scratch N) (places : List (Place N)) → found_places b s places ≡ (if b then kept_places s else places)
 found_taken true s places = refl
