@@ -7,3 +7,4 @@ pub mod Taking
 pub mod Bodies
 pub mod Hooked
 pub mod Substituting
+pub mod JudgedStays

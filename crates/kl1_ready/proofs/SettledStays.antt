@@ -1,5 +1,5 @@
 -- Goals that nothing woke stay as they stood.
-use Rattle.kl1_ready.proofs.Words.{◌≡◌, ℕ, suc, true, false, if◌then◌else◌, List, [], ◌∷◌, map, refl, sym, ap, ◌∙◌, arith, subst, Contains, Option, Some, None, ne_eqb, Term, substituted, Replacement, awaits_message, control_of, awaited_by_control, awaited_by_found, LeavesEach, term_clause, awaited_by_term, awaited_by_substitute, look_clause, substitute_clause, control_substituted, values_of, replaced_is, substitutes_stay, term_stays, is_replaced, left_alone, control_stays, CellName, Cell, Hook, Held, IsIn, term_of, bound_since, IsFormed, Grown, is_later, Task, Monitor, Reduces, Substitutes, Goal, Shoen, shoen_in, contents, Program, HangsOnEach, Reading, meaning, task_with, aim, IsTaskIn, AreShoensIn, control_at, front_with, control_with, control_clause, monitor_clause, awaited_by_monitor, task_clause, awaited_by_task, IsSettled, aim_later, all_then, found_shoen_in, inl, inr, option_cases}
+use Rattle.kl1_ready.proofs.Words.{◌≡◌, ℕ, suc, true, false, if◌then◌else◌, List, [], ◌∷◌, map, refl, sym, ap, ◌∙◌, arith, subst, Contains, Option, Some, None, ne_eqb, Term, substituted, Replacement, awaits_message, control_of, awaited_by_control, awaited_by_found, LeavesEach, term_clause, awaited_by_term, awaited_by_substitute, look_clause, substitute_clause, control_substituted, values_of, replaced_is, substitutes_stay, term_stays, is_replaced, left_alone, control_stays, CellName, Cell, Hook, Held, IsIn, term_of, bound_since, IsFormed, Grown, is_later, Task, Monitor, Reduces, Substitutes, Goal, Shoen, shoen_in, contents, Program, HangsOnEach, Reading, meaning, task_with, aim, IsTaskIn, AreShoensIn, control_at, front_with, control_with, control_clause, monitor_clause, awaited_by_monitor, task_clause, awaited_by_task, TaskDoes, DoesAs, SubstituteDoes, does_stays, substitute_does_stays, IsSettled, Standing, aim_later, all_then, found_shoen_in, inl, inr, option_cases}
 use Rattle.kl1_model.specs.Control.{Control}
 
 -- a number hangs on no variable of these
@@ -51,11 +51,12 @@ monitor_stays f hooks old new n (Some y) formed grown i free hung =
 
 -- ---- one goal
 
--- what a task that hangs on no variable that was bound waits for, and its clause, stay
+-- what a task that hangs on no variable that was bound waits for, its clause, and what it is stay
 abbrev TaskStays : Reading → Held CellName → Held CellName → Program → List (Shoen CellName) → List (Shoen CellName) → ℕ → Task CellName → Type 0
 TaskStays f old new program before after n t =
     (task_clause program.rules (contents program.loaded) (control_with (meaning f new) after n) (task_with (meaning f new) t) ≡ task_clause program.rules (contents program.loaded) (control_with (meaning f old) before n) (task_with (meaning f old) t))
     × (awaited_by_task program.rules (contents program.loaded) (control_with (meaning f new) after n) (task_with (meaning f new) t) ≡ awaited_by_task program.rules (contents program.loaded) (control_with (meaning f old) before n) (task_with (meaning f old) t))
+    × ((s : Standing) → TaskDoes program.rules (task_with (meaning f old) t) s → TaskDoes program.rules (task_with (meaning f new) t) s)
 
 -- a store has grown from one that was formed, and the shoens that were there have its cells; a goal hangs on no variable that was bound
 -- since, and has the control stream before it that it had, if it's a monitor
@@ -71,29 +72,37 @@ pub stays_settled : (f : Reading) (hooks : List Hook) (old new : Held CellName) 
     IsSettled f hooks new program after g
 stays_settled f hooks old new program before after g a i s =
     let r = by_task g.task refl i s.hung in
-    record { standing = s.standing ∙ sym r.0; hung = subst (HangsOnEach hooks g.number) (sym r.1) s.hung }
+    record { standing = s.standing ∙ sym r.0; does = r.2 g.standing s.does; hung = subst (HangsOnEach hooks g.number) (sym r.1) s.hung }
   where
     by_task : (t : Task CellName) → g.task ≡ t → IsTaskIn old t → HangsOnEach hooks g.number (awaited_by_task program.rules (contents program.loaded) (control_with (meaning f old) before g.shoen) (task_with (meaning f old) t)) → TaskStays f old new program before after g.shoen t
     by_task Monitor e i hung =
         let stays = monitor_stays f hooks old new g.number (control_at before g.shoen) a.formed a.grown (λ y c. control_in old before g.shoen y a.inside c) a.free hung in
         let is = a.same e in
-        (ap (λ x. monitor_clause (front_with (meaning f new) x)) is ∙ stays.0, ap (λ x. awaited_by_monitor (front_with (meaning f new) x)) is ∙ stays.1)
+        (ap (λ x. monitor_clause (front_with (meaning f new) x)) is ∙ stays.0, ap (λ x. awaited_by_monitor (front_with (meaning f new) x)) is ∙ stays.1, λ s d. tt)
     by_task (Reduces x) e i hung =
         let l = is_later f old new a.formed a.grown in
         let t = aim f old x in
         let is : aim f new x ≡ substituted (values_of l.replacements) t = aim_later f old new x l i ∙ replaced_is l.replacements t in
-        let stays = term_stays program.rules (contents program.loaded) (values_of l.replacements) t (leaves_hung l.replacements hooks g.number (awaited_by_term program.rules (contents program.loaded) t) hung (subst (HangsOnNone hooks g.number) (sym l.numbers) a.free)) in
-        (ap (term_clause program.rules (contents program.loaded)) is ∙ stays.0, ap (awaited_by_term program.rules (contents program.loaded)) is ∙ stays.1)
+        let leaves = leaves_hung l.replacements hooks g.number (awaited_by_term program.rules (contents program.loaded) t) hung (subst (HangsOnNone hooks g.number) (sym l.numbers) a.free) in
+        let stays = term_stays program.rules (contents program.loaded) (values_of l.replacements) t leaves in (
+          ap (term_clause program.rules (contents program.loaded)) is ∙ stays.0,
+          ap (awaited_by_term program.rules (contents program.loaded)) is ∙ stays.1,
+          λ s d. subst (λ u. DoesAs program.rules u s) (sym is) (does_stays program.rules (contents program.loaded) (values_of l.replacements) t s leaves d),
+        )
     by_task (Substitutes x) e i hung =
         let l = is_later f old new a.formed a.grown in
         let t = term_of f old x in
         let is : term_of f new x ≡ substituted (values_of l.replacements) t = l.means x i ∙ replaced_is l.replacements t in
-        let stays = substitutes_stay (values_of l.replacements) t (leaves_hung l.replacements hooks g.number (awaited_by_substitute t) hung (subst (HangsOnNone hooks g.number) (sym l.numbers) a.free)) in
-        (ap substitute_clause is ∙ ap look_clause stays, ap awaited_by_substitute is ∙ ap awaited_by_found stays)
+        let leaves = leaves_hung l.replacements hooks g.number (awaited_by_substitute t) hung (subst (HangsOnNone hooks g.number) (sym l.numbers) a.free) in
+        let stays = substitutes_stay (values_of l.replacements) t leaves in (
+          ap substitute_clause is ∙ ap look_clause stays,
+          ap awaited_by_substitute is ∙ ap awaited_by_found stays,
+          λ s d. subst (λ u. SubstituteDoes u s) (sym is) (substitute_does_stays (values_of l.replacements) t s leaves d),
+        )
 
 -- and stays so if more is hung
 pub settled_more : (f : Reading) (hooks more : List Hook) (h : Held CellName) (program : Program) (shoens : List (Shoen CellName)) (g : Goal CellName) → ((k : Hook) → Contains hooks k → Contains more k) → IsSettled f hooks h program shoens g → IsSettled f more h program shoens g
 settled_more f hooks more h program shoens g up s =
     let hook : ℕ → Hook = λ v. record { variable = v; number = g.number } in
     let awaited = awaited_by_task program.rules (contents program.loaded) (control_with (meaning f h) shoens g.shoen) (task_with (meaning f h) g.task) in
-    record { standing = s.standing; hung = all_then (λ v. Contains hooks (hook v)) (λ v. Contains more (hook v)) (λ v c. up (hook v) c) awaited s.hung }
+    record { standing = s.standing; does = s.does; hung = all_then (λ v. Contains hooks (hook v)) (λ v. Contains more (hook v)) (λ v c. up (hook v) c) awaited s.hung }
