@@ -41,12 +41,13 @@ goal_does program h w c g f x rules task s is =
     ∙ ap (λ (ms : List Module). option_map (moves (aim f h x)) (move_by w.rules ms (aim f h x) c)) is
     ∙ ap (λ (r : Rules). option_map (moves (aim f h x)) (move_by r (contents program.loaded) (aim f h x) c)) rules
 
--- it stands so, and by this clause, as its store tells its term
-pub judged_as : {program : Program} {h : Held CellName} {g : Goal CellName} {f : Reading} (x : Qualified CellName) (c : ℕ) → g.task ≡ Reduces x → clause_in g.standing ≡ Some c → Judges program h g f →
-    DoesAs program.rules (qualified_term f h x) g.standing × (term_clause program.rules (contents program.loaded) (qualified_term f h x) ≡ Some c)
-judged_as {program = program} {h = h} {g = g} {f = f} x c task stands judges =
-    subst (λ (t : Term). DoesAs program.rules t g.standing × (term_clause program.rules (contents program.loaded) t ≡ Some c)) (aim_is f h x)
-    (subst (λ (k : Task CellName). TaskDoes program.rules (task_with (meaning f h) k) g.standing) task judges.does, judges.judged x c task stands)
+-- it stands so, and by this clause, as its store tells its term, for rules that are the account's
+pub judged_as : {program : Program} {h : Held CellName} {g : Goal CellName} {f : Reading} {r : Rules} (x : Qualified CellName) (c : ℕ) → r ≡ program.rules → g.task ≡ Reduces x → clause_in g.standing ≡ Some c → Judges program h g f →
+    DoesAs r (qualified_term f h x) g.standing × (term_clause r (contents program.loaded) (qualified_term f h x) ≡ Some c)
+judged_as {program = program} {h = h} {g = g} {f = f} x c rules task stands judges =
+    let Both : Rules → Term → Type 0 = λ r t. DoesAs r t g.standing × (term_clause r (contents program.loaded) t ≡ Some c) in
+    let does = subst (λ (k : Task CellName). TaskDoes program.rules (task_with (meaning f h) k) g.standing) task judges.does in
+    subst (λ (r : Rules). Both r (qualified_term f h x)) (sym rules) (subst (Both program.rules) (aim_is f h x) (does, judges.judged x c task stands))
 
 -- a substitute makes the move of what its variable is, if there is one
 pub substitute_does : (program : Program) (h : Held CellName) (w : Made) (c : ℕ) (g : Goal CellName) (f : Reading) (y : Cell CellName) → g.task ≡ Substitutes y → CanDo program h w g c f (option_map (moves (aim f h (whole y))) (move_by_clause (meaning f h y) c))
@@ -135,6 +136,24 @@ goal_found {program = program} {h = h} {w = w} {g = g} {c = c} {places = places}
   is = λ f judges. subst (λ (t : Term). MovesAs f h program.rules (contents program.loaded) t c p places text o) (sym (aim_is f h x)) (found f judges);
   does = λ f judges. goal_does program h w c g f x a.rules a.task;
 }
+
+-- what a substitute can do was found
+pub substitute_found : {program : Program} {h : Held CellName} {w : Made} {g : Goal CellName} {c : ℕ} {places : List (Place CellName)} {text : List ℕ} {y : Cell CellName} {p : Predicate CellName} {o : Option (Move CellName)} → g.task ≡ Substitutes y → IsIn h y → MoveIn h p places text o →
+    ((f : Reading) → Reads built f → SubstituteDoes (meaning f h y) g.standing → SubstituteMoves (meaning f h y) c o) → IsFound program h w g c places text (whole y) p o
+substitute_found {program = program} {h = h} {w = w} {g = g} {c = c} {places = places} {text = text} {y = y} {p = p} {o = o} task cell inside found = record {
+  reduces = ap is_monitor_task task;
+  cell = cell;
+  inside = inside;
+  move = λ f. move_by_clause (meaning f h y) c;
+  is = λ f judges.
+      let does = subst (λ (k : Task CellName). TaskDoes program.rules (task_with (meaning f h) k) g.standing) task judges.does in
+      (substitute_moves f h (move_by_clause (meaning f h y) c) p places text o (found f judges.knows.reads does)).0;
+  does = λ f judges. substitute_does program h w c g f y task;
+}
+
+-- a predicate without clauses
+pub no_predicate : Predicate CellName
+no_predicate = record { names = record { ref_ptr = (0, 0); now = [] }; clauses = record { ref_ptr = (0, 0); now = [] } }
 
 -- if nothing was found, it can do nothing
 pub nothing_found : {program : Program} {h : Held CellName} {w : Made} {g : Goal CellName} {c : ℕ} {places : List (Place CellName)} {text : List ℕ} {x : Qualified CellName} {p : Predicate CellName} {o : Option (Move CellName)} → o ≡ None → IsFound program h w g c places text x p o → DoesNothing program h w g c

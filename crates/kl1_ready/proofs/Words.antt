@@ -10,6 +10,7 @@ pub use Rattle.std.proofs.lemmas.Map.Keys.{IsStrictlyIncreasing-dedup}
 pub use Rattle.std.proofs.lemmas.Option.{MatchOption-at_some, slice_get-get_or}
 pub use Rattle.std.proofs.lemmas.Result.{IfOk-weaker}
 pub use Rattle.std.specs.List.{dedup}
+pub use Rattle.std.proofs.Common.{◌<◌}
 pub use Rattle.std.specs.Prelude.{Contains, MatchOption, option_copied}
 pub use Rattle.std.specs.Vec.{vec_len}
 pub use Rattle.kl1_model.proofs.ControlStays.{control_stays}
@@ -44,7 +45,7 @@ pub use Rattle.kl1_goals.specs.declared.standing.Standing.TheVariants.{Commits, 
 pub use Rattle.kl1_goals_moves.proofs.Hooked.{hangs_on_same}
 pub use Rattle.kl1_goals_moves.proofs.JudgedStays.{does_stays, substitute_does_stays}
 pub use Rattle.kl1_goals_moves.specs.Calls.{call_at}
-pub use Rattle.kl1_goals_moves.specs.Judged.{DoesAs, SubstituteDoes}
+pub use Rattle.kl1_goals_moves.specs.Judged.{DoesAs, IsCalling, SubstituteDoes}
 pub use Rattle.kl1_goals_moves.specs.Kinds.{IsCall}
 pub use Rattle.kl1_goals_moves.specs.Moves.{HasPredicate, IsMove, MoveIn, MovesAs, taken_places}
 pub use Rattle.kl1_goals_moves.specs.Orders.{order_at}
