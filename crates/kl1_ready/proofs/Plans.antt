@@ -1,5 +1,5 @@
 -- What goals are to do: moves that are found are those of the definitions.
-use Rattle.kl1_ready.proofs.Words.{◌≡◌, ℕ, ◌==◌, if◌then◌else◌, Bool, true, false, List, [], length, get_or, refl, sym, ap, ◌∙◌, arith, subst, Option, Some, None, MatchOption, option_map, eq-eqb, ne_eqb, MatchOption-at_some, slice_get-get_or, text_of, Term, Module, goal_look, Rules, reads, moves, read_action, task_action, substitute_move, monitor_action, move_by, term_clause, Reads, CellName, no_names, Cell, Variable, Qualified, Held, IsIn, arguments_of, Control, Awaits, control_as, Predicate, AreSome, Place, Move, ExecuteArguments, order_at, IsOrder, IsMove, MoveIn, move_by_clause, substitute_move_of, SubstituteMoves, Monitor, Reduces, Substitutes, Goal, is_monitor, Shoen, shoen_in, contents, Program, Reading, built, reading_of, reading_fits, meaning, task_with, shoen_with, aim, whole, worked, Made, found_in, Plan, PlannedMove, Judges, CanDo, ReadsBy, MovesBy, IsPlan, DoesNothing, is_read, move_or_go, MovesAs, DoesAs, SubstituteDoes, TaskDoes, Standing, clause_in, qualified_term, aim_is, Task, is_monitor_task}
+use Rattle.kl1_ready.proofs.Words.{◌≡◌, ℕ, ◌<◌, ◌==◌, slice_get, if◌then◌else◌, Bool, true, false, List, [], length, get_or, refl, sym, ap, ◌∙◌, arith, subst, Option, Some, None, MatchOption, option_map, eq-eqb, ne_eqb, MatchOption-at_some, slice_get-get_or, text_of, Term, Module, goal_look, Rules, reads, moves, read_action, task_action, substitute_move, monitor_action, move_by, term_clause, Reads, CellName, no_names, Cell, Variable, Qualified, Held, IsIn, arguments_of, Control, Awaits, control_as, Predicate, AreSome, Place, Move, ExecuteArguments, order_at, IsOrder, IsMove, MoveIn, move_by_clause, substitute_move_of, SubstituteMoves, Monitor, Reduces, Substitutes, Goal, is_monitor, Shoen, shoen_in, contents, Program, Reading, built, reading_of, reading_fits, meaning, task_with, shoen_with, aim, whole, worked, Made, found_in, Plan, PlannedMove, Judges, CanDo, ReadsBy, MovesBy, IsPlan, DoesNothing, is_read, move_or_go, MovesAs, DoesAs, SubstituteDoes, TaskDoes, Standing, clause_in, qualified_term, aim_is, Task, is_monitor_task}
 use Rattle.kl1_model.specs.Control as model_control
 use Rattle.kl1_model.specs.State as model
 use Rattle.kl1_model.specs.Reduction as reduction
@@ -64,16 +64,9 @@ order_there : (h : Held CellName) (s : ℕ) → length (arguments_of h s) ≡ 6 
 order_there h s n =
     let xs = arguments_of h s in
     let none : Cell CellName = Variable 0 in
-    let o : ExecuteArguments CellName = record { goal = get_or xs 0 none; low = get_or xs 1 none; high = get_or xs 2 none; allowance = get_or xs 3 none; control = get_or xs 4 none; reports = get_or xs 5 none } in (
-      o,
-      record {
-        goal_is = slice_get-get_or xs 0 none (omega (arith, n));
-        low_is = slice_get-get_or xs 1 none (omega (arith, n));
-        high_is = slice_get-get_or xs 2 none (omega (arith, n));
-        allowance_is = slice_get-get_or xs 3 none (omega (arith, n));
-        control_is = slice_get-get_or xs 4 none (omega (arith, n));
-        reports_is = slice_get-get_or xs 5 none (omega (arith, n));
-      },
+    let at : (k : ℕ) → k < 6 → slice_get xs k ≡ Some (get_or xs k none) = λ k lt. slice_get-get_or xs k none (omega (arith, n, lt)) in (
+      record { goal = get_or xs 0 none; low = get_or xs 1 none; high = get_or xs 2 none; allowance = get_or xs 3 none; control = get_or xs 4 none; reports = get_or xs 5 none },
+      record { goal_is = at 0 (omega arith); low_is = at 1 (omega arith); high_is = at 2 (omega arith); allowance_is = at 3 (omega arith); control_is = at 4 (omega arith); reports_is = at 5 (omega arith) },
     )
 
 gives : (o : Option reduction.Move) (m : reduction.Move) → o ≡ Some m → o ≡ Some (move_or_go o)

@@ -1,5 +1,5 @@
 -- Goals that nothing woke stay as they stood.
-use Rattle.kl1_ready.proofs.Words.{◌≡◌, ℕ, suc, true, false, if◌then◌else◌, List, [], ◌∷◌, map, refl, sym, ap, ◌∙◌, arith, subst, Contains, Option, Some, None, ne_eqb, Term, substituted, Replacement, awaits_message, control_of, awaited_by_control, awaited_by_found, LeavesEach, term_clause, awaited_by_term, awaited_by_substitute, look_clause, substitute_clause, control_substituted, values_of, replaced_is, substitutes_stay, term_stays, is_replaced, left_alone, control_stays, CellName, Cell, Hook, Held, IsIn, term_of, bound_since, IsFormed, Grown, is_later, Task, Monitor, Reduces, Substitutes, Goal, Shoen, shoen_in, contents, Program, HangsOnEach, Reading, meaning, task_with, aim, IsTaskIn, AreShoensIn, control_at, front_with, control_with, control_clause, monitor_clause, awaited_by_monitor, task_clause, awaited_by_task, TaskDoes, DoesAs, SubstituteDoes, does_stays, substitute_does_stays, IsSettled, Standing, aim_later, all_then, found_shoen_in, inl, inr, option_cases}
+use Rattle.kl1_ready.proofs.Words.{◌≡◌, ℕ, suc, true, false, if◌then◌else◌, List, [], ◌∷◌, map, refl, sym, ap, ◌∙◌, arith, subst, Contains, Option, Some, None, ne_eqb, Term, substituted, Replacement, awaits_message, control_of, awaited_by_control, awaited_by_found, LeavesEach, awaited_by_term, awaited_by_substitute, look_clause, control_substituted, values_of, replaced_is, substitutes_stay, term_stays, is_replaced, left_alone, control_stays, CellName, Cell, Hook, Held, IsIn, term_of, bound_since, IsFormed, Grown, is_later, Task, Monitor, Reduces, Substitutes, Goal, Shoen, shoen_in, contents, Program, HangsOnEach, Reading, meaning, task_with, aim, IsTaskIn, AreShoensIn, control_at, front_with, control_with, control_clause, awaited_by_monitor, task_clause, awaited_by_task, TaskDoes, does_stays, substitute_does_stays, IsSettled, Standing, aim_later, all_then, found_shoen_in, inl, inr, option_cases}
 use Rattle.kl1_model.specs.Control.{Control}
 use Rattle.kl1_model.specs.State as model
 use Rattle.kl1_model.specs.State.{monitor, reduces, substitutes}

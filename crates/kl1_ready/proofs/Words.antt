@@ -1,6 +1,6 @@
 -- The words that this crate's proofs use, and where they come from.
 pub use Rattle.std.proofs.Math.Dec.{eqb}
-pub use Rattle.std.proofs.lemmas.Bool.{or_right}
+pub use Rattle.std.proofs.lemmas.Bool.{and_parts, or_right}
 pub use Rattle.std.proofs.lemmas.Bool.Decides.{same_from_decides}
 pub use Rattle.std.proofs.lemmas.List.{nil_from_length}
 pub use Rattle.std.proofs.lemmas.List.Filters.{dedup_is}
@@ -11,7 +11,7 @@ pub use Rattle.std.proofs.lemmas.Option.{MatchOption-at_some, slice_get-get_or}
 pub use Rattle.std.proofs.lemmas.Result.{IfOk-weaker}
 pub use Rattle.std.specs.List.{dedup}
 pub use Rattle.std.proofs.Common.{◌<◌}
-pub use Rattle.std.specs.Prelude.{Contains, MatchOption, option_copied}
+pub use Rattle.std.specs.Prelude.{Contains, MatchOption, option_copied, slice_get}
 pub use Rattle.std.specs.Vec.{vec_len}
 pub use Rattle.kl1_model.proofs.ControlStays.{control_stays}
 pub use Rattle.kl1_model.proofs.LookStays.{substitutes_stay}

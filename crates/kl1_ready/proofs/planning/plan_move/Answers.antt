@@ -1,4 +1,4 @@
-use Rattle.kl1_ready.proofs.Words.{◌≡◌, List, [], CellName, Made, Place, Predicate, taken_places, contents, qualified_term}
+use Rattle.kl1_ready.proofs.Words.{◌≡◌, List, [], CellName, Made, Place, Predicate, taken_places, contents}
 use Rattle.kl1_ready.proofs.Plans.{judged_as, IsFound, goal_found, nothing_found, move_found, no_predicate}
 use Rattle.kl1_ready.proofs.planning.plan_move.Goals.{After-move_as_judged}
 use Rattle.kl1_ready.proofs.planning.plan_move.Goals as goal
