@@ -351,6 +351,7 @@ execution_is g m a b o e l x k = let both = by b x k in under g (codes ":") a b 
   where
     one : {o q : model_look.ExecuteArguments} → Some o ≡ Some q → o ≡ q
     one k = cc
+
     those : (ts : Terms) (p : List ℕ) → execute_arguments (structure p ts) ≡ Some o → ts ≡ six o
     those none p k = absurd (cc)
     those (more t none) p k = absurd (cc)
@@ -360,6 +361,7 @@ execution_is g m a b o e l x k = let both = by b x k in under g (codes ":") a b 
     those (more t (more u (more v (more w (more y none))))) p k = absurd (cc)
     those (more t (more u (more v (more w (more y (more z none)))))) p k = ap six (one k)
     those (more t (more u (more v (more w (more y (more z (more s ts))))))) p k = absurd (cc)
+
     by : (b : Term) → is_execute m b ≡ true → execute_arguments b ≡ Some o → (m ≡ codes "shoen") × (b ≡ structure (codes "execute") (six o))
     by (variable n) x k = absurd (cc)
     by (integer n) x k = absurd (cc)
