@@ -41,7 +41,7 @@ use Rattle.kl1_model.specs.code.Awaited.{awaited_by_found}
 
 -- ---- under another name than `:`
 
-other_name : (f : List ℕ) (a b : Term) → bytes_eq f (codes ":") ≡ false → call_of (structure f (more a (more b none))) ≡ None
+pub other_name : (f : List ℕ) (a b : Term) → bytes_eq f (codes ":") ≡ false → call_of (structure f (more a (more b none))) ≡ None
 other_name f (variable n) b e = refl
 other_name f (integer n) b e = refl
 other_name f (structure g us) b e = refl
@@ -288,7 +288,7 @@ order_by_parts m p count (structure q ts) b e n' o =
     ap (λ l. bytes_eq m (codes "shoen") && (bytes_eq l (codes "execute") && count_of ts == 6)) (some_text e)
     ∙ ap (λ k. bytes_eq m (codes "shoen") && (bytes_eq p (codes "execute") && k == 6)) n' ∙ o
 
-order_as : {N : Type 0} (f : N → List ℕ) (h : Held N) (t : Term) (c : Call N) (b : Bool) → IsOf f h t c → is_order f c ≡ b → is_execute (f c.module_name) t ≡ b
+pub order_as : {N : Type 0} (f : N → List ℕ) (h : Held N) (t : Term) (c : Call N) (b : Bool) → IsOf f h t c → is_order f c ≡ b → is_execute (f c.module_name) t ≡ b
 order_as f h t c b k e = order_by_parts (f c.module_name) (f c.name) c.count t b k.name_is k.counted e
 
 six_cells : {N : Type 0} (f : N → List ℕ) (h : Held N) (xs : List (Cell N)) (o : ExecuteArguments N) → length xs ≡ 6 →
@@ -320,7 +320,7 @@ six_cells {N = N} f h (x ∷ y ∷ z ∷ u ∷ v ∷ w ∷ []) o n a b c d e g p
     some_cell e = cc
 six_cells f h (x ∷ y ∷ z ∷ u ∷ v ∷ w ∷ k ∷ xs) o n a b c d e g p = absurd (omega arith)
 
-order_in : {N : Type 0} (f : N → List ℕ) (h : Held N) (s : ℕ) (o : ExecuteArguments N) → IsFormed h → s < length h.structures → length (arguments_of h s) ≡ 6 → IsOrder h s o → execute_arguments (term_of f h (Structure s)) ≡ Some (order_at f h o)
+pub order_in : {N : Type 0} (f : N → List ℕ) (h : Held N) (s : ℕ) (o : ExecuteArguments N) → IsFormed h → s < length h.structures → length (arguments_of h s) ≡ 6 → IsOrder h s o → execute_arguments (term_of f h (Structure s)) ≡ Some (order_at f h o)
 order_in f h s o p lt six k =
     let r = named h s lt in
     ap execute_arguments (term_of-Structure f h s r.0 p r.1) ∙ six_cells f h (arguments_of h s) o six k.goal_is k.low_is k.high_is k.allowance_is k.control_is k.reports_is (f r.0)
@@ -373,7 +373,7 @@ execution_is g m a b o e l x k = let both = by b x k in under g (codes ":") a b 
 
 -- ---- what is called as a goal's kind
 
-is_call : {N : Type 0} (f : N → List ℕ) (h : Held N) (g : List ℕ) (a b : Term) (c : Call N) → bytes_eq g (codes ":") ≡ true → Calls f h a b c → is_order f c ≡ false → IsCall f h (structure g (more a (more b none))) c
+pub is_call : {N : Type 0} (f : N → List ℕ) (h : Held N) (g : List ℕ) (a b : Term) (c : Call N) → bytes_eq g (codes ":") ≡ true → Calls f h a b c → is_order f c ≡ false → IsCall f h (structure g (more a (more b none))) c
 is_call f h g a b c e k n =
     let other = order_as f h b c false k.goal_is n in
     record {
@@ -384,7 +384,7 @@ is_call f h g a b c e k n =
     }
 
 -- the goal of a call whose structure is this
-cell_by : {N : Type 0} (c : Call N) (s : ℕ) → c.structure ≡ Some s → cell_of c ≡ Structure s
+pub cell_by : {N : Type 0} (c : Call N) (s : ℕ) → c.structure ≡ Some s → cell_of c ≡ Structure s
 cell_by c s e = ap (cell_in c.name) e
 
 is_execution : {N : Type 0} (f : N → List ℕ) (h : Held N) (g : List ℕ) (a b : Term) (c : Call N) (s : ℕ) → IsFormed h → bytes_eq g (codes ":") ≡ true → Calls f h a b c → is_order f c ≡ true → c.structure ≡ Some s → s < length h.structures → length (arguments_of h s) ≡ 6 →

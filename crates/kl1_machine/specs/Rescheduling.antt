@@ -26,7 +26,7 @@ unready g = record g { standing = Waits }
 abbrev pub unlooked : Goal CellName → Goal CellName
 unlooked g = record g { standing = Waits; is_enabled = false }
 
--- goals were looked at: they are the same but for their clauses and whether they may step, and more hangs
+-- goals were looked at: they are the same but for what they can do and whether they may step, and more hangs
 pub record Looks (m n : Machine) : Type 0 where
   pub goals : map unlooked n.goals.goals ≡ map unlooked m.goals.goals
   pub held : n.store.held ≡ m.store.held
@@ -72,15 +72,15 @@ pub record Shifts (m n : Machine) : Type 0 where
 abbrev pub all_told : Machine → List ℕ
 all_told m = m.told.items ++ told_by (drop m.mark.sizes.bindings m.store.held.bindings) m.store.hooks
 
--- goals were looked at again: they are the same but for their clauses and whether they may step, more hangs, and nothing else is otherwise
--- but which numbers were told
+-- goals were looked at again: they are the same but for what they can do and whether they may step, more hangs, and nothing else is
+-- otherwise but which numbers were told
 pub record Reschedules (m n : Machine) : Type 0 where
   pub machine : IsMachine n
   pub goals : map unlooked n.goals.goals ≡ map unlooked m.goals.goals
   pub held : n.store.held ≡ m.store.held
   pub rest : n ≡ record m { store = n.store; goals = record m.goals { goals = n.goals.goals }; told = n.told }
 
--- all goals can step by the clauses that they have, and hang on what they wait for
+-- all goals stand as they can, and hang on what they wait for
 abbrev pub AllSettled : Program → Machine → Type 0
 AllSettled program m = (f : Reading) → Knows program.loaded f → AreSettled f m.store.hooks m.store.held program m.shoens.shoens m.goals.goals
 

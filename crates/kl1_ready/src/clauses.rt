@@ -37,7 +37,7 @@ pub(crate) fn ready_or_suspend(
 ) -> Result<Standing, AllocError>
     requires kind { KindIn store.old.held kind }
     requires predicate { AreSome located.predicate.names.now located.predicate.clauses.now }
-    ensures ready { IfOk result (λ standing. IsReadyBy rules store.old.held store.new.hooks kind located.predicate.entry number standing) }
+    ensures ready { IfOk result (λ standing. IsReadyBy rules store.old.held store.new.hooks kind located.entry.predicate number standing) }
     ensures held { store.new.held ≡ store.old.held }
     ensures grown { HasGrown store.old store.new }
 {

@@ -32,14 +32,7 @@ impl Machine {
         let Some(goal) = self.goals.get(number) else {
             return Ok(());
         };
-        let standing = judge_beside(
-            &mut self.store,
-            &self.shoens,
-            modules,
-            loaded,
-            trial,
-            &goal,
-        )?;
+        let standing = judge_beside(&mut self.store, &self.shoens, modules, loaded, trial, &goal)?;
         self.goals.set_standing(number, standing)
     }
 

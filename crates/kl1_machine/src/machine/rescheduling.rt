@@ -13,7 +13,7 @@ ghost use Rattle.kl1_machine.specs.Rescheduling.{Wakes, Schedules, Shifts, all_t
 use crate::machine::Machine;
 use kl1_codes::{CodeSource, CodedModules};
 use kl1_goals_moves::Trial;
-use kl1_ready::{CallCache, enable_each, may_step, put_in_order, judge};
+use kl1_ready::{CallCache, enable_each, judge, may_step, put_in_order};
 use kl1_text::CellName;
 use std::alloc::AllocError;
 
@@ -157,7 +157,7 @@ impl Machine {
         self.shift()
     }
 
-    /// Ends an event as `reschedule` does, with no clauses looked up before, and no shoen known that lets its goals step.
+    /// Ends an event as `reschedule` does, with no place known where a predicate may stand, and no shoen known that lets its goals step.
     pub(crate) fn reschedule_anew<C: CodeSource>(
         &mut self,
         modules: &CodedModules<'_, C>,
@@ -168,10 +168,7 @@ impl Machine {
         ensures rested { (b : Machine) → IsBegun b → Since b self.old → IsRested modules.now b → OnOk result (IsRested modules.now self.new) }
         ensures keeps { Keeps self.old self.new }
     {
-        let calls = CallCache {
-            modules,
-            hint: 0,
-        };
+        let calls = CallCache { modules, hint: 0 };
         self.reschedule(&calls, trial, 0)
     }
 }
