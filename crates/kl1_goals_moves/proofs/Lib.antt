@@ -8,3 +8,4 @@ pub mod Bodies
 pub mod Hooked
 pub mod Substituting
 pub mod JudgedStays
+pub mod JudgedMoves
