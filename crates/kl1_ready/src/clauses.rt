@@ -41,14 +41,7 @@ pub(crate) fn ready_or_suspend(
     ensures held { store.new.held ≡ store.old.held }
     ensures grown { HasGrown store.old store.new }
 {
-    let standing = standing_of(
-        store,
-        rules,
-        kind,
-        located.predicate,
-        located.place,
-        trial,
-    )?;
+    let standing = standing_of(store, rules, kind, located.predicate, located.place, trial)?;
     if !trial.awaited.is_empty() {
         store.keep_rests(&trial.scratch.same)?;
         hang_on(store, trial.awaited.as_slice(), number)?;
