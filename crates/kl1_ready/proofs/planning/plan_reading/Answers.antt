@@ -1,4 +1,4 @@
-use Rattle.kl1_ready.proofs.Words.{◌≡◌, List, Bool, true, false, if◌then◌else◌, refl, sym, ap, ◌∙◌, Some, None, option_copied, CellName, Shoen, shoen_in, found_shoen_in, Program, Made, Reading, Reads, built, reads, control_as, CanDo, is_read}
+use Rattle.kl1_ready.proofs.Words.{◌≡◌, List, Bool, true, false, if◌then◌else◌, refl, sym, ap, ◌∙◌, Some, None, option_copied, CellName, Shoen, shoen_in, found_shoen_in, Program, Made, Reading, Reads, built, reads, control_as, CanDo}
 use Rattle.kl1_ready.proofs.Plans.{monitor_does, monitor_takes, monitor_reads}
 use Rattle.kl1_ready.proofs.planning.plan_reading.Goals.{After-is_read}
 use Rattle.kl1_ready.proofs.planning.plan_reading.Goals as goal
