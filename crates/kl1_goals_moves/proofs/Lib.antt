@@ -7,3 +7,5 @@ pub mod Taking
 pub mod Bodies
 pub mod Hooked
 pub mod Substituting
+pub mod JudgedStays
+pub mod JudgedMoves

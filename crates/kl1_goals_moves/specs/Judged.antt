@@ -1,5 +1,5 @@
 -- What goals are to do that were judged.
-use Rattle.std.specs.Prelude.{◌≡◌, ℕ, ◌<◌, List, codes, Option, Some, None, ⊤}
+use Rattle.std.specs.Prelude.{◌≡◌, ℕ, ◌<◌, List, codes, Some, None}
 use Rattle.kl1_model.specs.Term.{Term, atom, structure, Terms, none, more}
 use Rattle.kl1_model.specs.Match.{Call, call_of}
 use Rattle.kl1_model.specs.Arithmetic.{evaluated}

@@ -1,5 +1,5 @@
 -- What a goal can do, by the definitions, told of cells and compiled clauses.
-use Rattle.std.specs.Prelude.{◌≡◌, ℕ, ◌<◌, Bool, true, IsTrue, List, length, map, Option, Some, None, slice_get, if◌then◌else◌}
+use Rattle.std.specs.Prelude.{◌≡◌, ℕ, ◌<◌, IsTrue, List, length, map, Option, Some, None, slice_get, if◌then◌else◌}
 use Rattle.kl1_model.specs.declared.built_in.BuiltIn.TheVariants.{Failure}
 use Rattle.kl1_model.specs.declared.rules.Rules.{Rules}
 use Rattle.kl1_model.specs.Text.{is_text, text_of}

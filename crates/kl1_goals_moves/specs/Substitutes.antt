@@ -1,5 +1,5 @@
 -- What substitutes can do, and what they wait for.
-use Rattle.std.specs.Prelude.{◌≡◌, ℕ, ◌==◌, if◌then◌else◌, List, Option, Some, None, option_map}
+use Rattle.std.specs.Prelude.{◌≡◌, ℕ, ◌==◌, if◌then◌else◌, List, Option, Some, None}
 use Rattle.kl1_model.specs.declared.built_in.BuiltIn.TheVariants.{IllegalInput}
 use Rattle.kl1_model.specs.Text.{text_of}
 use Rattle.kl1_model.specs.Term.{Term}

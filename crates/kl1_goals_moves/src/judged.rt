@@ -130,6 +130,8 @@ fn order_of<N: NameValue>(store: &Store<N>, goal: Qualified<N>) -> Option<u32>
     ensures inside { IfSome result (λ s. (s < length store.now.held.structures) × (length (arguments_of store.now.held s) ≡ 6)) }
     ensures order { (f : N → List ℕ) (o : model.ExecuteArguments) → qualified_term f store.now.held goal ≡ order_goal o → MatchOption result ⊥ (λ s. (x : ExecuteArguments N) → IsOrder store.now.held s x → order_at f store.now.held x ≡ o) }
 {
+    // Only for the proof: what the store holds is formed.
+    let _ = store.mark();
     let Callee::Calls(call) = callee_of(store, goal) else {
         return None;
     };

@@ -3,11 +3,14 @@
 ghost use Rattle.std.specs.Prelude.{◌≡◌, ℕ, List, Some, OnOk, IfOk};
 ghost use Rattle.kl1_model.specs.Term.{Term};
 ghost use Rattle.kl1_text.specs.Reading.{Reads};
-ghost use Rattle.kl1_store.specs.Held.{IsIn};
+ghost use Rattle.kl1_store.specs.Held.{Held, IsIn};
 ghost use Rattle.kl1_store.specs.Meaning.{term_of};
+ghost use Rattle.kl1_clause.specs.declared.predicate.Predicate.{Predicate};
+ghost use Rattle.kl1_match.specs.declared.place.Place.{Place};
 ghost use Rattle.kl1_match.specs.Waiting.{AreUnbound};
 ghost use Rattle.kl1_goals.specs.Readies.{clause_in};
 ghost use Rattle.kl1_goals_moves.specs.Judged.{SubstituteDoes};
+ghost use Rattle.kl1_goals_moves.specs.Moves.{MoveIn};
 ghost use Rattle.kl1_goals_moves.specs.Substitutes.{giving_way, SubstituteMoves, SubstituteStands};
 
 use crate::look::Look;
@@ -69,7 +72,8 @@ pub fn substitute_standing<N: NameValue>(
 
 /// What a substitute does that stands so.
 pub fn substitute_as_judged<N: Copy>(standing: Standing) -> Option<Move<N>>
-    ensures { (t : Term) → SubstituteDoes t standing → clause_in standing ≡ Some 0 → SubstituteMoves t 0 result }
+    ensures inside { (h : Held N) (p : Predicate N) (places : List (Place N)) (text : List ℕ) → MoveIn h p places text result }
+    ensures moves { (t : Term) → SubstituteDoes t standing → clause_in standing ≡ Some 0 → SubstituteMoves t 0 result }
 {
     match standing {
         Standing::GivesWay => Some(Move::GivesWay),

@@ -18,8 +18,8 @@ ghost use Rattle.kl1_user_effects.specs.Kept.{IsTaskIn, AreShoensIn};
 ghost use Rattle.kl1_user_effects.specs.Works.{Knows};
 ghost use Rattle.kl1_ready.specs.Ready.{IsReadyAt};
 
-use crate::clauses::{standing_of_monitor, standing_of_substitute, ready_or_suspend};
 use crate::call_cache::located_or_none;
+use crate::clauses::{ready_or_suspend, standing_of_monitor, standing_of_substitute};
 use kl1_codes::{CodeSource, CodedModule, CodedModules, Located};
 use kl1_goals::{Goal, Standing, Task};
 use kl1_goals_moves::{Kind, Trial, kind_of_qualified};

@@ -28,7 +28,7 @@ pub struct CallCache<'a, 'b, C: CodeSource> {
 pub(crate) fn located_or_none<'a>(found: Option<Located<'a>>) -> Located<'a>
     requires { IfSome found (λ l. AreSome l.predicate.names.now l.predicate.clauses.now) }
     ensures some { AreSome result.predicate.names.now result.predicate.clauses.now }
-    ensures clauses { (f : CellName → List ℕ) (cs : List Clause) → FoundAs f cs (option_map (λ l. l.predicate) found) → AreCompiled (map f result.predicate.names.now) result.predicate.clauses.now cs }
+    ensures clauses { (f : CellName → List ℕ) (cs : List Clause) → FoundAs f cs (option_map (λ l. l.predicate) found.entry) → AreCompiled (map f result.predicate.names.now) result.predicate.clauses.now cs }
 {
     match found {
         None => Located {

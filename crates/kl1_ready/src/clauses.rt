@@ -37,18 +37,11 @@ pub(crate) fn ready_or_suspend(
 ) -> Result<Standing, AllocError>
     requires kind { KindIn store.old.held kind }
     requires predicate { AreSome located.predicate.names.now located.predicate.clauses.now }
-    ensures ready { IfOk result (λ standing. IsReadyBy rules store.old.held store.new.hooks kind located.predicate.entry number standing) }
+    ensures ready { IfOk result (λ standing. IsReadyBy rules store.old.held store.new.hooks kind located.entry.predicate number standing) }
     ensures held { store.new.held ≡ store.old.held }
     ensures grown { HasGrown store.old store.new }
 {
-    let standing = standing_of(
-        store,
-        rules,
-        kind,
-        located.predicate,
-        located.place,
-        trial,
-    )?;
+    let standing = standing_of(store, rules, kind, located.predicate, located.place, trial)?;
     if !trial.awaited.is_empty() {
         store.keep_rests(&trial.scratch.same)?;
         hang_on(store, trial.awaited.as_slice(), number)?;

@@ -24,7 +24,8 @@ use crate::call_cache::{located_or_none, predicate_of};
 use kl1_codes::{CodeSource, CodedModules, Located};
 use kl1_goals::{Goal, Standing, Task};
 use kl1_goals_moves::{
-    Kind, Move, Trial, call_at, commit_as_judged, kind_of_qualified, move_as_judged, move_of, substitute_as_judged, substitute_move,
+    Kind, Move, Trial, call_at, commit_as_judged, kind_of_qualified, move_as_judged, move_of,
+    substitute_as_judged, substitute_move,
 };
 use kl1_shoen::ShoenTree;
 use kl1_store::{Cell, Qualified, Store};

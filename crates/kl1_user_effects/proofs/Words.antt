@@ -119,7 +119,7 @@ pub use Rattle.kl1_user_effects.specs.Moving.{priorities_by}
 pub use Rattle.kl1_user_effects.specs.Naming.{AreNumbersOf, AreSmall, Grows, Keeps, ReadsDraft}
 pub use Rattle.kl1_user_effects.specs.Outlines.{KeepsOthers, KeepsOutlines, outline}
 pub use Rattle.kl1_user_effects.specs.Reports.{unheard}
-pub use Rattle.kl1_user_effects.specs.Settled.{AreSettled, IsSettled, awaited_by_task, control_with, task_clause}
+pub use Rattle.kl1_user_effects.specs.Settled.{AreSettled, IsSettled, TaskDoes, awaited_by_task, control_with, task_clause}
 pub use Rattle.kl1_user_effects.specs.Shelving.{AreKnown, known_of}
 pub use Rattle.kl1_user_effects.specs.Walks.{EndsLives, EndsOne, ended_in, ending_in, ends_in, reached_in, terminated}
 pub use Rattle.kl1_user_effects.specs.Wholes.{IsWhole}
