@@ -17,7 +17,7 @@ pub returns-in_ok-left-in-Becomes-clause-moves : goal.returns-in_ok-left-in-Beco
 returns-in_ok-left-in-Becomes-clause-moves g c = λ f r no d modules n k j p places.
     let h = c.args.store.now.held in
     let fits : FitsSigned w64 c.in-Becomes.value = search rules in
-    becomes_judged f h c.args.rules modules c.args.goal c.in_ok-left-in-Becomes.left c.in_ok-left-in-Becomes.field-0-1 c.args.standing c.in-Becomes.value n c.in-Becomes.is (c.in_ok-left-in-Becomes.ensures.two f) d k
+    becomes_judged f h c.args.rules modules c.args.goal c.in_ok-left-in-Becomes.left _ c.args.standing c.in-Becomes.value n c.in-Becomes.is (c.in_ok-left-in-Becomes.ensures.two f) d k
     ∙ ap (λ i. Some (unifies (term_of f h c.in_ok-left-in-Becomes.left) (term_of f h (Integer i)))) (sym (to_z-of_z w64 c.in-Becomes.value fits))
 
 pub returns-in_ok-list-in-Names-clause-moves : goal.returns-in_ok-list-in-Names-clause-moves
