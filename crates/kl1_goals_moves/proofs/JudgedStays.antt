@@ -1,12 +1,12 @@
 -- What goals do that were judged, when variables are replaced.
 use Rattle.std.proofs.Common.{◌≡◌, ℕ, Bool, true, false, if◌then◌else◌, List, [], ◌++◌, refl, sym, ap, subst, ◌∙◌}
 use Rattle.std.specs.Prelude.{codes, bytes_eq, Option, Some, None, option_map, ◌&&◌}
-use Rattle.kl1_model.specs.Term.{Term, variable, integer, atom, structure, Terms, none, more, count_of, substituted, each_substituted}
+use Rattle.kl1_model.specs.Term.{Term, variable, integer, atom, structure, Terms, none, more, substituted, each_substituted}
 use Rattle.kl1_model.specs.Match.{call_of}
 use Rattle.kl1_model.specs.Module.{Module}
 use Rattle.kl1_model.specs.Arithmetic.{evaluated}
 use Rattle.kl1_model.specs.Goal.{is_execute, is_called}
-use Rattle.kl1_model.specs.Look.{spelling, goal_look, ExecuteArguments, arguments_look}
+use Rattle.kl1_model.specs.Look.{spelling, ExecuteArguments, arguments_look}
 use Rattle.kl1_model.specs.Found.{Found, found, awaits, wrong}
 use Rattle.kl1_model.specs.declared.number.Number.{Number}
 use Rattle.kl1_model.specs.declared.number.Number.TheVariants.{Value, Overflow, ZeroDivisor}
@@ -24,7 +24,7 @@ use Rattle.kl1_model.proofs.LookStays.{spelling_stays, order_substituted, order_
 use Rattle.kl1_model.proofs.TermStays.{head_stays}
 use Rattle.kl1_goals.specs.declared.standing.Standing.{Standing}
 use Rattle.kl1_goals.specs.declared.standing.Standing.TheVariants as standing
-use Rattle.kl1_goals_moves.specs.Judged.{IsCalling, IsUnifying, IsComputing, IsNaming, IsOrdering, IsMisusing, DoesAs, SubstituteDoes}
+use Rattle.kl1_goals_moves.specs.Judged.{IsCalling, IsComputing, IsNaming, IsOrdering, IsMisusing, DoesAs, SubstituteDoes}
 
 -- ---- what was found waits for nothing
 

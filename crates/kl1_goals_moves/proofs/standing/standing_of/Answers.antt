@@ -1,7 +1,8 @@
 use Rattle.std.proofs.Common.{[], ◌∷◌, ◌++◌, ap, ◌∙◌}
 use Rattle.kl1_goals_moves.specs.declared.look.Look.TheVariants as look
 use Rattle.kl1_goals_moves.specs.declared.spelling.Spelling.TheVariants as spelling
-use Rattle.kl1_goals_moves.proofs.Taking.{are_clauses, kind_executes, kind_spells, kind_stands}
+use Rattle.kl1_goals_moves.proofs.Taking.{are_clauses}
+use Rattle.kl1_goals_moves.proofs.Standings.{kind_executes, kind_spells, kind_stands}
 use Rattle.kl1_goals_moves.proofs.standing.standing_of.Goals as goal
 
 pub choose-requires-clause-clauses : goal.choose-requires-clause-clauses
