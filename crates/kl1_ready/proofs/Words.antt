@@ -10,7 +10,6 @@ pub use Rattle.std.proofs.lemmas.Map.Keys.{IsStrictlyIncreasing-dedup}
 pub use Rattle.std.proofs.lemmas.Option.{MatchOption-at_some, slice_get-get_or}
 pub use Rattle.std.proofs.lemmas.Result.{IfOk-weaker}
 pub use Rattle.std.specs.List.{dedup}
-pub use Rattle.std.proofs.Common.{◌<◌}
 pub use Rattle.std.specs.Prelude.{Contains, MatchOption, option_copied, slice_get}
 pub use Rattle.std.specs.Vec.{vec_len}
 pub use Rattle.kl1_model.proofs.ControlStays.{control_stays}
@@ -56,7 +55,7 @@ pub use Rattle.kl1_goals_moves.specs.declared.kind.Kind.TheVariants.{Calls}
 pub use Rattle.kl1_goals_moves.specs.declared.moves.Move.{Move}
 pub use Rattle.kl1_user_effects.proofs.Lists.{all_then}
 pub use Rattle.kl1_user_effects.proofs.States.{aim_is, aim_later, found_in, found_shoen_in, kind_at}
-pub use Rattle.kl1_user_effects.proofs.Words.{AreNames, AreShoensIn, Bool, Cell, CellName, Clause, ExecuteArguments, Goal, Grown, HangsOnEach, Held, Hook, IsFormed, IsIn, IsKind, IsOrder, IsPermutation, IsSettled, IsTaskIn, Kind, Knows, List, Made, Module, Monitor, None, Numbered, Option, Program, Qualified, Reading, Reads, Reduces, Replacement, Rules, Shoen, Some, Substitutes, Task, TaskDoes, Term, Variable, [], aim, among_contains, ap, arguments_of, arith, awaited_by_task, built, contains_among, contents, control_of, control_with, drop, eq-eqb, eqb-true, false, get_or, if◌then◌else◌, inl, inr, is_among, is_monitor, is_monitor_task, length, map, meaning, ne_eqb, option_map, qualified_term, reading_fits, reading_of, refl, rules, shoen_in, shoen_with, subst, suc, sym, task_clause, task_with, text_of, true, worked, ℕ, ◌&&◌, ◌++◌, ◌==◌, ◌||◌, ◌∙◌, ◌∷◌, ◌≡◌}
+pub use Rattle.kl1_user_effects.proofs.Words.{AreNames, AreShoensIn, Bool, Cell, CellName, Clause, ExecuteArguments, Goal, Grown, HangsOnEach, Held, Hook, IsFormed, IsIn, IsKind, IsOrder, IsPermutation, IsSettled, IsTaskIn, Kind, Knows, List, Made, Module, Monitor, None, Numbered, Option, Program, Qualified, Reading, Reads, Reduces, Replacement, Rules, Shoen, Some, Substitutes, Task, TaskDoes, Term, Variable, [], aim, among_contains, ap, arguments_of, arith, awaited_by_task, built, contains_among, contents, control_of, control_with, drop, eq-eqb, eqb-true, false, get_or, if◌then◌else◌, inl, inr, is_among, is_monitor, is_monitor_task, length, map, meaning, ne_eqb, option_map, qualified_term, reading_fits, reading_of, refl, rules, shoen_in, shoen_with, subst, suc, sym, task_clause, task_with, text_of, true, worked, ℕ, ◌&&◌, ◌++◌, ◌<◌, ◌==◌, ◌||◌, ◌∙◌, ◌∷◌, ◌≡◌}
 unfoldable pub use Rattle.kl1_user_effects.proofs.Words.{path_within, term_of}
 pub use Rattle.kl1_user_effects.specs.Account.{whole}
 pub use Rattle.kl1_user_effects.specs.Installing.{shifted_by}

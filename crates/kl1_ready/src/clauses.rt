@@ -25,7 +25,8 @@ use kl1_stream::{Control, read_control};
 use kl1_text::CellName;
 use std::alloc::AllocError;
 
-/// What goal `number`, which is of a kind, can do by these rules and the clauses of its predicate. The number is hung on each variable that the goal waits for then; if memory is refused, it may hang on some of them.
+/// What goal `number`, which is of a kind, can do by these rules and the clauses of its predicate. The number is hung on each
+/// variable that the goal waits for then; if memory is refused, it may hang on some of them.
 #[inline(always)]
 pub(crate) fn ready_or_suspend(
     store: &mut Store<CellName>,
@@ -68,8 +69,7 @@ fn standing_of_goal<C: CodeSource>(
     ready_or_suspend(store, calls.modules.rules(), kind, located, trial, number)
 }
 
-/// What monitor `number` can do that reads this control stream. The number is
-/// hung on the variable that it waits for then.
+/// What monitor `number` can do that reads this control stream. The number is hung on the variable that it waits for then.
 fn standing_of_control(
     store: &mut Store<CellName>,
     control: Cell<CellName>,
