@@ -3,8 +3,8 @@ use Rattle.std.proofs.Common.{◌≡◌, ℕ, zero, suc, ◌-◌, List, [], ◌�
 use Rattle.std.specs.Prelude.{Some, None}
 use Rattle.kl1_model.specs.Module.{Clause, Module, is_of}
 use Rattle.kl1_text.specs.declared.cell_name.CellName.{CellName}
-use Rattle.kl1_text.specs.Reading.{Reads}
 use Rattle.kl1_clause.specs.declared.compiled_clause.CompiledClause.{CompiledClause}
+use Rattle.kl1_clause.specs.declared.predicate.Predicate.{Predicate}
 use Rattle.kl1_clause.specs.Clauses.{AreCompiled}
 use Rattle.kl1_clause.specs.Modules.{IsMeant}
 use Rattle.kl1_clause.specs.Predicates.{from_first, front_run, AreSome}
@@ -12,7 +12,8 @@ use Rattle.kl1_clause.proofs.Together.{together, run_is_all}
 use Rattle.kl1_codes.specs.declared.span.Span.{Span}
 use Rattle.kl1_codes.specs.Spans.{IsSpan, SpanIs}
 use Rattle.kl1_codes.specs.Indexes.{Rows, key_by, span_at, IsIndexed}
-use Rattle.kl1_codes.specs.Numbered.{Numbered, built, own_names}
+use Rattle.kl1_codes.specs.Numbered.{Numbered, own_names}
+use Rattle.kl1_codes.specs.Finding.{FindsIn}
 
 front : (names : List (List ℕ)) (cs : List CompiledClause) (ds : List Clause) (n : ℕ) → AreCompiled names cs ds → AreCompiled names (take n cs) (take n ds)
 front names cs ds zero a = tt
@@ -29,7 +30,7 @@ rest names (c ∷ cs) [] (suc n) a = absurd a
 rest names (c ∷ cs) (d ∷ ds) (suc n) a = rest names cs ds n a.1
 
 -- a part of compiled clauses is the part of the clauses
-part : (names : List (List ℕ)) (cs : List CompiledClause) (ds : List Clause) (s : Span) → AreCompiled names cs ds → AreCompiled names (take (s.end - s.start) (drop s.start cs)) (take (s.end - s.start) (drop s.start ds))
+pub part : (names : List (List ℕ)) (cs : List CompiledClause) (ds : List Clause) (s : Span) → AreCompiled names cs ds → AreCompiled names (take (s.end - s.start) (drop s.start cs)) (take (s.end - s.start) (drop s.start ds))
 part names cs ds s a = front names (drop s.start cs) (drop s.start ds) (s.end - s.start) (rest names cs ds s.start a)
 
 -- the clauses of a predicate, if none begins
@@ -42,19 +43,18 @@ there source m name count s meant is =
     sym is.run ∙ ap (front_run (is_of name count)) (sym is.first) ∙ run_is_all (is_of name count) m.clauses (together source m name count meant)
 
 -- what the rows don't have is no predicate
-pub missed : (source : List ℕ) (l : Numbered) (rows : Rows) (capacity : ℕ) (name : CellName) (count : ℕ) (f : CellName → List ℕ) → IsMeant source l.content → IsIndexed l.content l.row rows capacity → span_at rows (key_by name count) ≡ None → Reads built f → map f l.row ≡ own_names l.content →
-    filter (is_of (f name) count) l.content.clauses ≡ []
-missed source l rows capacity name count f meant i e r m =
+pub missed : (source : List ℕ) (l : Numbered) (rows : Rows) (capacity : ℕ) (name : CellName) (count : ℕ) → IsMeant source l.content → IsIndexed l.content l.row rows capacity → span_at rows (key_by name count) ≡ None → FindsIn l name count None
+missed source l rows capacity name count meant i e f r m =
     not_there source l.content (f name) count meant (subst (SpanIs (is_of (f name) count) l.content.clauses 0) e (i.spans.spans f r m name count))
 
 -- and the span that they have is that of the predicate's clauses
-pub found : (source : List ℕ) (l : Numbered) (rows : Rows) (capacity : ℕ) (cs : List CompiledClause) (name : CellName) (count : ℕ) (s : Span) (f : CellName → List ℕ) → IsMeant source l.content → IsIndexed l.content l.row rows capacity → span_at rows (key_by name count) ≡ Some s → AreCompiled (own_names l.content) cs l.content.clauses → Reads built f → map f l.row ≡ own_names l.content →
-    AreCompiled (map f l.row) (take (s.end - s.start) (drop s.start cs)) (filter (is_of (f name) count) l.content.clauses)
-found source l rows capacity cs name count s f meant i e a r m =
+pub found : (source : List ℕ) (l : Numbered) (rows : Rows) (capacity : ℕ) (name : CellName) (count : ℕ) (s : Span) (p : Predicate CellName) → IsMeant source l.content → IsIndexed l.content l.row rows capacity → span_at rows (key_by name count) ≡ Some s → p.names.now ≡ l.row → AreCompiled (own_names l.content) p.clauses.now (take (s.end - s.start) (drop s.start l.content.clauses)) →
+    FindsIn l name count (Some p)
+found source l rows capacity name count s p meant i e n a f r m =
     let is : IsSpan (is_of (f name) count) l.content.clauses 0 s = subst (SpanIs (is_of (f name) count) l.content.clauses 0) e (i.spans.spans f r m name count) in
-    let P : List (List ℕ) → Type 0 = λ names. AreCompiled names (take (s.end - s.start) (drop s.start cs)) (filter (is_of (f name) count) l.content.clauses) in
-    let Q : List Clause → Type 0 = λ ds. AreCompiled (own_names l.content) (take (s.end - s.start) (drop s.start cs)) ds in
-    subst P (sym m) (subst Q (there source l.content (f name) count s meant is) (part (own_names l.content) cs l.content.clauses s a))
+    let P : List (List ℕ) → Type 0 = λ names. AreCompiled names p.clauses.now (filter (is_of (f name) count) l.content.clauses) in
+    let Q : List Clause → Type 0 = λ ds. AreCompiled (own_names l.content) p.clauses.now ds in
+    subst P (sym (ap (map f) n ∙ m)) (subst Q (there source l.content (f name) count s meant is) a)
 
 -- a part of a module's clauses is some clauses
 pub some_part : (l : Numbered) (cs : List CompiledClause) (s : Span) → length l.row ≡ length (own_names l.content) → AreCompiled (own_names l.content) cs l.content.clauses → AreSome l.row (take (s.end - s.start) (drop s.start cs))

@@ -145,6 +145,10 @@ searched rows key (Err i) s range parted =
 pub span_hit : (rows : Rows) (key : Key) (place : ℕ) → IsInOrder rows → IsAt rows key place → (d : Key × Span) → span_at rows key ≡ Some (get_or rows place d).1
 span_hit rows key place s at d = hit key_total rows place key s at.within at.is d
 
+-- what is read there
+pub span_read : (rows : Rows) (key : Key) (place : ℕ) (row : Key × Span) → IsInOrder rows → IsAt rows key place → row ≡ get_or rows place row → span_at rows key ≡ Some row.1
+span_read rows key place row s at e = span_hit rows key place s at row ∙ ap (λ r. Some r.1) (sym e)
+
 pub span_miss : (rows : Rows) (key : Key) (place : ℕ) → IsGap rows key place → span_at rows key ≡ None
 span_miss rows key place gap = miss key_total rows place key gap.less gap.greater
 

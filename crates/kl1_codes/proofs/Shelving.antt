@@ -1,6 +1,6 @@
 -- Modules found by the numbers of their names.
 use Rattle.std.proofs.Common.{◌≡◌, ℕ, ◌==◌, ◌||◌, cond, if◌then◌else◌, Bool, true, false, List, [], ◌∷◌, ◌++◌, filter, refl, sym, ap, ◌∙◌, subst, bytes_eq}
-use Rattle.std.specs.Prelude.{Option, Some, None, option_map, is_some, nat_eq}
+use Rattle.std.specs.Prelude.{Option, Some, None, IfSome, option_map, is_some, nat_eq}
 use Rattle.std.specs.Map.{lookup, values_of}
 use Rattle.std.specs.HashMap.{HashMap}
 use Rattle.indexmap.specs.IndexMap.{get, insert_entry}
@@ -148,6 +148,12 @@ finds_some es ls l module_name name count found k same e finds =
     subst (λ (x : List Numbered). Finds x module_name name count found) same
     (λ f r a call asks.
     found_in f (contents (values_of es)) l module_name name count call found r (read_at f es module_name.number l a e) asks (looked_up f r es module_name k a ∙ ap (λ o. option_map (λ x. x.content) o) e) finds)
+
+-- if something is found in a module at a place
+pub finds_at : (es : List (ℕ × Numbered)) (ls : List Numbered) (l : Numbered) (module_name name : CellName) (count : ℕ) (found : Option (Predicate CellName)) → AreKeyed es → values_of es ≡ ls → lookup (nat_eq module_name.number) es ≡ Some l → IfSome found (λ p. FindsIn l name count (Some p)) →
+    IfSome found (λ p. Finds ls module_name name count (Some p))
+finds_at es ls l module_name name count None k same e finds = tt
+finds_at es ls l module_name name count (Some p) k same e finds = finds_some es ls l module_name name count (Some p) k same e finds
 
 pub tells_value : (ls : List Numbered) (n : CellName) (b : Bool) → b ≡ is_numbered ls n → TellsModule ls n b
 tells_value ls n b e f r a = e ∙ tells ls n f r a

@@ -1,6 +1,6 @@
 // A module with its code at hand.
 
-ghost use Rattle.std.specs.Prelude.{◌≡◌, IfSome};
+ghost use Rattle.std.specs.Prelude.{◌≡◌, option_map, IfSome};
 ghost use Rattle.kl1_codes.specs.Numbered.{number_of};
 ghost use Rattle.kl1_clause.specs.Predicates.{AreSome};
 ghost use Rattle.kl1_codes.specs.Finding.{FindsIn};
@@ -64,11 +64,11 @@ impl<'a, C: CodeSource> CodedModule<'a, C> {
     }
 
     /// The clauses of a predicate, or nothing if there is none.
-    pub fn find(&self, name: CellName, count: usize) -> Option<Predicate<'_, CellName>>
-        ensures finds { FindsIn self.now name count result }
-        ensures some { IfSome result (λ p. AreSome p.names.now p.clauses.now) }
-        ensures row { IfSome result (λ p. p.names.now ≡ self.now.row) }
+    pub fn find(&self, name: CellName, count: usize) -> Option<(usize, Predicate<'_, CellName>)>
+        ensures finds { FindsIn self.now name count (option_map (λ p. p.1) result) }
+        ensures some { IfSome result (λ p. AreSome p.1.names.now p.1.clauses.now) }
+        ensures row { IfSome result (λ p. p.1.names.now ≡ self.now.row) }
     {
-        self.loaded.find_in(self.code, name, count)
+        self.loaded.find(self.code, name, count)
     }
 }

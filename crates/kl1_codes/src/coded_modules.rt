@@ -1,6 +1,6 @@
 // The modules of an account with their codes at hand, and its rules.
 
-ghost use Rattle.std.specs.Prelude.{◌≡◌, false, [], ◌∷◌, ◌++◌, length, slice_get, IfSome};
+ghost use Rattle.std.specs.Prelude.{◌≡◌, false, [], ◌∷◌, ◌++◌, length, slice_get, option_map, IfSome};
 ghost use Rattle.kl1_codes.specs.Numbered.{number_of, ArePlaced};
 ghost use Rattle.kl1_clause.specs.Predicates.{AreSome};
 ghost use Rattle.kl1_codes.specs.Finding.{Finds, is_numbered};
@@ -8,6 +8,7 @@ ghost use Rattle.kl1_codes.specs.Finding.{Finds, is_numbered};
 use crate::code_source::CodeSource;
 use crate::coded_module::CodedModule;
 use crate::modules::Modules;
+use crate::place::{Located, place_of};
 use kl1_clause::Predicate;
 use kl1_model::Rules;
 use kl1_text::CellName;
@@ -75,19 +76,20 @@ impl<'a, C: CodeSource> CodedModules<'a, C> {
         }
     }
 
-    /// The clauses of the predicate with name `name` and `count` arguments in a module, or nothing if there is none.
+    /// The predicate with name `name` and `count` arguments in a module, or nothing if there is none. It is looked for first at a place.
     #[inline(always)]
     pub fn find(
         &self,
         module_name: CellName,
         name: CellName,
         count: usize,
-    ) -> Option<Predicate<'_, CellName>>
-        ensures finds { Finds self.now.loaded module_name name count result }
-        ensures some { IfSome result (λ p. AreSome p.names.now p.clauses.now) }
+        hint: u64,
+    ) -> Option<Located<'_>>
+        ensures finds { Finds self.now.loaded module_name name count (option_map (λ l. l.predicate) result) }
+        ensures some { IfSome result (λ l. AreSome l.predicate.names.now l.predicate.clauses.now) }
     {
         self.modules
-            .find(self.code_source, module_name, name, count)
+            .find(self.code_source, module_name, name, count, hint)
     }
 
     /// Like `find`, with one module more, which is drafted and none of these.
@@ -97,14 +99,18 @@ impl<'a, C: CodeSource> CodedModules<'a, C> {
         module_name: CellName,
         name: CellName,
         count: usize,
-    ) -> Option<Predicate<'b, CellName>>
+    ) -> Option<Located<'b>>
         requires { is_numbered self.now.loaded (number_of draft.now) ≡ false }
-        ensures finds { Finds (self.now.loaded ++ draft.now ∷ []) module_name name count result }
-        ensures some { IfSome result (λ p. AreSome p.names.now p.clauses.now) }
+        ensures finds { Finds (self.now.loaded ++ draft.now ∷ []) module_name name count (option_map (λ l. l.predicate) result) }
+        ensures some { IfSome result (λ l. AreSome l.predicate.names.now l.predicate.clauses.now) }
     {
-        if draft.number().number == module_name.number {
-            return draft.find(name, count);
+        if draft.number().number != module_name.number {
+            return self.find(module_name, name, count, 0);
         }
-        self.find(module_name, name, count)
+        let (row, predicate) = draft.find(name, count)?;
+        Some(Located {
+            place: place_of(self.len(), row),
+            predicate,
+        })
     }
 }

@@ -1,6 +1,6 @@
 // The spans of a module's predicates, by name and number of arguments.
 
-ghost use Rattle.std.specs.Prelude.{◌≡◌, ℕ, List, ◌+◌, ◌^◌, ◌<◌, ◌≤◌, [], length, map, IfOk, IfErr, IsTrue, slice_index_or, vec_len, vec_capacity};
+ghost use Rattle.std.specs.Prelude.{◌≡◌, ℕ, List, ◌+◌, ◌^◌, ◌<◌, ◌≤◌, [], length, map, Some, None, IfOk, IfErr, IfSome, IsTrue, MatchOption, slice_index_or, vec_len, vec_capacity};
 ghost use Rattle.kl1_text.specs.Reading.{Reads};
 ghost use Rattle.kl1_text.specs.declared.cell_name.CellName.{CellName};
 ghost use Rattle.kl1_clause.specs.Instructions.{IsPlaced, text_in};
@@ -68,6 +68,7 @@ fn span_of(index: &[(Key, Span)], key: Key) -> Option<Span>
 }
 
 /// Whether a key stands at a place.
+#[inline(always)]
 fn is_at(index: &[(Key, Span)], key: Key, place: usize) -> bool
     requires { place < length index.now }
     ensures { IsTrue result → IsAt index.now key place }
@@ -76,17 +77,32 @@ fn is_at(index: &[(Key, Span)], key: Key, place: usize) -> bool
     other.0 == key.0 && other.1 == key.1
 }
 
-/// The span of a key, or nothing if it has none, as `span_of` finds it. The first few keys are compared one by one.
-pub(crate) fn span_near(index: &[(Key, Span)], key: Key) -> Option<Span>
+/// The span of a key, if it stands at this place.
+#[inline(always)]
+pub(crate) fn span_on(index: &[(Key, Span)], key: Key, place: usize) -> Option<Span>
     requires { IsInOrder index.now }
-    ensures { result ≡ span_at index.now key }
+    ensures { IfSome result (λ span. span_at index.now key ≡ Some span) }
+{
+    if place < index.len() && is_at(index, key, place) {
+        return Some(index[place].1);
+    }
+    None
+}
+
+/// Where the span of a key stands, or nothing if it has none. The first few keys are compared one by one.
+pub(crate) fn place_near(index: &[(Key, Span)], key: Key) -> Option<usize>
+    requires { IsInOrder index.now }
+    ensures { MatchOption result (span_at index.now key ≡ None) (IsAt index.now key) }
 {
     for place in 0..FEW.min(index.len()) {
         if is_at(index, key, place) {
-            return Some(index[place].1);
+            return Some(place);
         }
     }
-    span_of(index, key)
+    match search(index, key) {
+        Err(_) => None,
+        Ok(place) => Some(place),
+    }
 }
 
 /// Puts a span under a key. A span that stands there already gives way to it.

@@ -1,14 +1,16 @@
 // One module with the numbers of its names.
 
-ghost use Rattle.std.specs.Prelude.{◌≡◌, length, IfOk, IfSome};
+ghost use Rattle.std.specs.Prelude.{◌≡◌, ◌-◌, length, take, drop, option_map, Some, IfOk, IfSome};
 ghost use Rattle.kl1_text.specs.BuiltIns.{built_in_of};
 ghost use Rattle.kl1_codes.specs.Numbered.{own_names, number_by, number_of};
+ghost use Rattle.kl1_clause.specs.Clauses.{AreCompiled};
 ghost use Rattle.kl1_clause.specs.Predicates.{AreSome};
+ghost use Rattle.kl1_codes.specs.Spans.{IsWithin};
 ghost use Rattle.kl1_codes.specs.Finding.{FindsIn};
 
 use crate::code_source::CodeSource;
-use crate::indexing::{Index, key_by, put_spans, span_near};
-use crate::span::part;
+use crate::indexing::{Index, key_by, place_near, put_spans, span_on};
+use crate::span::{Span, part};
 use kl1_clause::{Code, Predicate};
 use kl1_text::{CellName, NameValue};
 use std::alloc::{AllocError, Global};
@@ -92,6 +94,7 @@ impl<C: CodeSource> Loaded<C> {
     }
 
     /// The code, in the source where it stands.
+    #[inline(always)]
     pub fn code<'a>(&'a self, codes: &'a C) -> &'a Code
         requires { C.has codes.now self.now.place }
         ensures { result.now ≡ self.now.content }
@@ -113,41 +116,55 @@ impl<C: CodeSource> Loaded<C> {
         self.number
     }
 
-    /// The clauses of a predicate, or nothing if there is none. This is the module's code.
-    pub(crate) fn find_in<'a>(
+    /// The clauses in a span. This is the module's code.
+    #[inline(always)]
+    fn clauses_in<'a>(&'a self, code: &'a Code, span: Span) -> Predicate<'a, CellName>
+        requires code { code.now ≡ self.now.content }
+        requires span { IsWithin (length self.now.content.clauses) span }
+        ensures some { AreSome result.names.now result.clauses.now }
+        ensures row { result.names.now ≡ self.now.row }
+        ensures are { AreCompiled (own_names self.now.content) result.clauses.now (take (span.end - span.start) (drop span.start self.now.content.clauses)) }
+    {
+        Predicate {
+            names: &self.row,
+            clauses: part(code.clauses(), span),
+        }
+    }
+
+    /// The row of a predicate in the index and its clauses, or nothing if there is none. This is the module's code.
+    pub(crate) fn find<'a>(
         &'a self,
         code: &'a Code,
         name: CellName,
         count: usize,
-    ) -> Option<Predicate<'a, CellName>>
+    ) -> Option<(usize, Predicate<'a, CellName>)>
         requires { code.now ≡ self.now.content }
-        ensures finds { FindsIn self.now name count result }
-        ensures some { IfSome result (λ p. AreSome p.names.now p.clauses.now) }
-        ensures row { IfSome result (λ p. p.names.now ≡ self.now.row) }
+        ensures finds { FindsIn self.now name count (option_map (λ p. p.1) result) }
+        ensures some { IfSome result (λ p. AreSome p.1.names.now p.1.clauses.now) }
+        ensures row { IfSome result (λ p. p.1.names.now ≡ self.now.row) }
     {
         // The clauses of a predicate stand together in a module that is the meaning of its source.
         let _ = code.source();
-        match span_near(&self.index, key_by(name, count)) {
-            None => None,
-            Some(span) => Some(Predicate {
-                names: &self.row,
-                clauses: part(code.clauses(), span),
-            }),
-        }
+        let row = place_near(&self.index, key_by(name, count))?;
+        Some((row, self.clauses_in(code, self.index[row].1)))
     }
 
-    /// The clauses of a predicate, or nothing if there is none.
-    pub fn find<'a>(
+    /// The clauses of a predicate, if it stands in this row of the index. This is the module's code.
+    #[inline(always)]
+    pub(crate) fn find_on<'a>(
         &'a self,
-        codes: &'a C,
+        code: &'a Code,
         name: CellName,
         count: usize,
+        row: usize,
     ) -> Option<Predicate<'a, CellName>>
-        requires { C.has codes.now self.now.place }
-        ensures finds { FindsIn self.now name count result }
+        requires { code.now ≡ self.now.content }
+        ensures finds { IfSome result (λ p. FindsIn self.now name count (Some p)) }
         ensures some { IfSome result (λ p. AreSome p.names.now p.clauses.now) }
-        ensures row { IfSome result (λ p. p.names.now ≡ self.now.row) }
     {
-        self.find_in(self.code(codes), name, count)
+        // As in `find`: the clauses of a predicate stand together in a module that is the meaning of its source.
+        let _ = code.source();
+        let span = span_on(&self.index, key_by(name, count), row)?;
+        Some(self.clauses_in(code, span))
     }
 }

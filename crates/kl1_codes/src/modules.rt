@@ -1,6 +1,6 @@
 // The modules of an account.
 
-ghost use Rattle.std.specs.Prelude.{◌≡◌, ℕ, ◌+◌, ◌<◌, ◌≤◌, false, [], ◌∷◌, ◌++◌, length, slice_get, option_copied, OnOk, IfSome, None, nat_eq};
+ghost use Rattle.std.specs.Prelude.{◌≡◌, ℕ, ◌+◌, ◌<◌, ◌≤◌, false, [], ◌∷◌, ◌++◌, length, slice_get, option_copied, option_map, OnOk, IfSome, Some, None, nat_eq};
 ghost use Rattle.indexmap.specs.IndexMap.{get, spare};
 ghost use Rattle.kl1_codes.specs.Numbered.{number_of, ArePlaced};
 ghost use Rattle.kl1_clause.specs.Predicates.{AreSome};
@@ -8,6 +8,7 @@ ghost use Rattle.kl1_codes.specs.Finding.{Finds, is_numbered, TellsModule};
 
 use crate::code_source::CodeSource;
 use crate::loaded::Loaded;
+use crate::place::{Located, module_in, place_of, row_in};
 use indexmap::IndexMap;
 use kl1_clause::Predicate;
 use kl1_text::CellName;
@@ -73,7 +74,50 @@ impl<C: CodeSource> Modules<C> {
         self.loaded.contains_key(&name.number)
     }
 
-    /// The clauses of the predicate with name `name` and `count` arguments in a module, or nothing if there is none.
+    /// The predicate with name `name` and `count` arguments in a module, or nothing if there is none.
+    #[inline(never)]
+    fn search<'a>(
+        &'a self,
+        codes: &'a C,
+        module_name: CellName,
+        name: CellName,
+        count: usize,
+    ) -> Option<Located<'a>>
+        requires { ArePlaced (C.has codes.now) self.now.loaded }
+        ensures finds { Finds self.now.loaded module_name name count (option_map (λ l. l.predicate) result) }
+        ensures some { IfSome result (λ l. AreSome l.predicate.names.now l.predicate.clauses.now) }
+    {
+        let (module, loaded) = loaded_under(&self.loaded, module_name.number)?;
+        let (row, predicate) = loaded.find(loaded.code(codes), name, count)?;
+        Some(Located {
+            place: place_of(module, row),
+            predicate,
+        })
+    }
+
+    /// The clauses of the predicate with name `name` and `count` arguments in a module, if it stands at a place.
+    #[inline(always)]
+    fn find_at<'a>(
+        &'a self,
+        codes: &'a C,
+        module_name: CellName,
+        name: CellName,
+        count: usize,
+        place: u64,
+    ) -> Option<Predicate<'a, CellName>>
+        requires { ArePlaced (C.has codes.now) self.now.loaded }
+        ensures finds { IfSome result (λ p. Finds self.now.loaded module_name name count (Some p)) }
+        ensures some { IfSome result (λ p. AreSome p.names.now p.clauses.now) }
+    {
+        let (number, loaded) = self.loaded.get_index(module_in(place))?;
+        if *number != module_name.number {
+            return None;
+        }
+        loaded.find_on(loaded.code(codes), name, count, row_in(place))
+    }
+
+    /// The predicate with name `name` and `count` arguments in a module, or nothing if there is none. It is looked for first at the place
+    /// that `hint` says.
     #[inline(always)]
     pub fn find<'a>(
         &'a self,
@@ -81,14 +125,18 @@ impl<C: CodeSource> Modules<C> {
         module_name: CellName,
         name: CellName,
         count: usize,
-    ) -> Option<Predicate<'a, CellName>>
+        hint: u64,
+    ) -> Option<Located<'a>>
         requires { ArePlaced (C.has codes.now) self.now.loaded }
-        ensures finds { Finds self.now.loaded module_name name count result }
-        ensures some { IfSome result (λ p. AreSome p.names.now p.clauses.now) }
+        ensures finds { Finds self.now.loaded module_name name count (option_map (λ l. l.predicate) result) }
+        ensures some { IfSome result (λ l. AreSome l.predicate.names.now l.predicate.clauses.now) }
     {
-        match loaded_under(&self.loaded, module_name.number) {
-            None => None,
-            Some(loaded) => loaded.find(codes, name, count),
+        match self.find_at(codes, module_name, name, count, hint) {
+            None => self.search(codes, module_name, name, count),
+            Some(predicate) => Some(Located {
+                place: hint,
+                predicate,
+            }),
         }
     }
 
@@ -113,25 +161,25 @@ impl<C: CodeSource> Modules<C> {
     }
 }
 
-/// The module under a number, or nothing if there is none.
-#[inline(always)]
+/// The module under a number and its place, or nothing if there is none.
 fn loaded_under<C: CodeSource>(
     modules: &IndexMap<u64, Loaded<C>>,
     number: u64,
-) -> Option<&Loaded<C>>
-    ensures { option_copied result ≡ get nat_eq modules.now number }
+) -> Option<(usize, &Loaded<C>)>
+    ensures { option_map (λ p. p.1.now) result ≡ get nat_eq modules.now number }
 {
     for place in 0..FEW {
         match modules.get_index(place) {
             None => break,
             Some((other, loaded)) => {
                 if *other == number {
-                    return Some(loaded);
+                    return Some((place, loaded));
                 }
             }
         }
     }
-    modules.get(&number)
+    let (place, _, loaded) = modules.get_full(&number)?;
+    Some((place, loaded))
 }
 
 /// Puts a module under a number that none has, if there is room.

@@ -5,14 +5,14 @@ use Rattle.std.proofs.lemmas.Bool.{false≢true, lt-ltb, le-ltb}
 use Rattle.kl1_queue.specs.Ranks.{rank_of, AreNone, IsFirst}
 use Rattle.kl1_goals.specs.declared.goal.Goal.{Goal}
 use Rattle.kl1_goals.specs.declared.slot.Slot.{Slot}
-use Rattle.kl1_goals.specs.Readies.{Ready, goes_first, stands, ready_by, ready_of, better, first_from}
+use Rattle.kl1_goals.specs.Readies.{clause_in, Ready, goes_first, stands, ready_by, ready_of, better, first_from}
 use Rattle.kl1_goals.specs.Tables.{Ascend}
 use Rattle.kl1_goals.specs.Slots.{goals_in, numbers_of, rank_in, IsHeldAt}
 use Rattle.kl1_goals.proofs.Changing.{field_read}
 
 -- the clause by which a goal can step
 abbrev pub standing_in : {N : Type 0} → Goal N → Option ℕ
-standing_in g = cond g.is_enabled g.standing None
+standing_in g = cond g.is_enabled (clause_in g.standing) None
 
 some_if : (b : Bool) (o : Option ℕ) → (b && is_some o) ≡ is_some (cond b o None)
 some_if false o = refl
@@ -23,10 +23,10 @@ ready_if g false o = refl
 ready_if g true o = refl
 
 pub stands_is : {N : Type 0} (g : Goal N) → stands g ≡ is_some (standing_in g)
-stands_is g = some_if g.is_enabled g.standing
+stands_is g = some_if g.is_enabled (clause_in g.standing)
 
 ready_is : {N : Type 0} (g : Goal N) → ready_of g ≡ option_map (ready_by g) (standing_in g)
-ready_is g = ready_if g g.is_enabled g.standing
+ready_is g = ready_if g g.is_enabled (clause_in g.standing)
 
 -- what a rank says of a place
 rank_some : (b t : Bool) (p : ℕ) → b ≡ true → t ≡ true → rank_of (cond (b && t) (Some p) None) ≡ p + 1
@@ -60,15 +60,15 @@ has_clause : (b : Bool) (o : Option ℕ) → (b && is_some o) ≡ true → is_so
 has_clause false o e = absurd (false≢true e)
 has_clause true o e = e
 
-pub stands_some : {N : Type 0} (g : Goal N) → stands g ≡ true → is_some g.standing ≡ true
-stands_some g = has_clause g.is_enabled g.standing
+pub stands_some : {N : Type 0} (g : Goal N) → stands g ≡ true → is_some (clause_in g.standing) ≡ true
+stands_some g = has_clause g.is_enabled (clause_in g.standing)
 
 same_clause : (b : Bool) (o : Option ℕ) (c : ℕ) → (b && is_some o) ≡ true → o ≡ Some c → cond b o None ≡ Some c
 same_clause false o c e f = absurd (false≢true e)
 same_clause true o c e f = f
 
-stands_by : {N : Type 0} (g : Goal N) (c : ℕ) → stands g ≡ true → g.standing ≡ Some c → standing_in g ≡ Some c
-stands_by g c = same_clause g.is_enabled g.standing c
+stands_by : {N : Type 0} (g : Goal N) (c : ℕ) → stands g ≡ true → clause_in g.standing ≡ Some c → standing_in g ≡ Some c
+stands_by g c = same_clause g.is_enabled (clause_in g.standing) c
 
 better_none : (best : Option Ready) → better best None ≡ best
 better_none None = refl
@@ -185,7 +185,7 @@ first_at best from (t ∷ ss) (suc k) s c a h stood less leads =
     first_on best t.is_held t.goal (goals_in ss)
     ∙ first_at (cond t.is_held (better best (ready_of t.goal)) best) (suc t.goal.number) ss k s c a.1 (record { within = omega (arith, w); at = h.at; number = refl; held = h.held }) stood lower (record { greatest = λ j. leads.greatest (suc j); least = λ j p. leads.least (suc j) (omega arith) })
 
-pub picked : {N : Type 0} (ss : List (Slot N)) (ranks : List ℕ) (k : ℕ) (s : Slot N) (c : ℕ) → Ascend 0 (numbers_of ss) → ranks ≡ map rank_in ss → IsFirst ranks k → k < length ss → s ≡ get_or ss k s → s.goal.standing ≡ Some c →
+pub picked : {N : Type 0} (ss : List (Slot N)) (ranks : List ℕ) (k : ℕ) (s : Slot N) (c : ℕ) → Ascend 0 (numbers_of ss) → ranks ≡ map rank_in ss → IsFirst ranks k → k < length ss → s ≡ get_or ss k s → clause_in s.goal.standing ≡ Some c →
     first_from None (goals_in ss) ≡ Some (ready_by s.goal c)
 picked ss ranks k s c a r f w e stood =
     let F : List ℕ → Type 0 = λ rs. IsFirst rs k in

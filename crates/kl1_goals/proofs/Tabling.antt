@@ -4,6 +4,7 @@ use Rattle.std.specs.List.{filter, find, list_any}
 use Rattle.std.proofs.lemmas.Bool.{ltb-true, lt-ltb, le-ltb, cases_lt}
 use Rattle.std.proofs.lemmas.List.{length_push}
 use Rattle.kl1_model.specs.declared.limits.TheConstants.{MONITOR_PRIORITY}
+use Rattle.kl1_goals.specs.declared.standing.Standing.{Standing}
 use Rattle.kl1_goals.specs.declared.goal.Goal.{Goal}
 use Rattle.kl1_goals.specs.declared.slot.Slot.{Slot}
 use Rattle.kl1_goals.specs.declared.tally.Tally.{Tally}
@@ -108,17 +109,17 @@ missing_stay f n [] other e = refl
 missing_stay f n (g ∷ gs) other e = let m = missing_head (g.number == n) g (find (has_number n) gs) e in rw (other g m.0) (ap (λ l. g ∷ l) (missing_stay f n gs other m.1))
 
 -- what is changed of the goal with a number alone
-pub stood_other : {N : Type 0} (n : ℕ) (clause : Option ℕ) (g : Goal N) → (g.number == n) ≡ false → stood_by n clause g ≡ g
-stood_other n clause g e = rw e refl
+pub stood_other : {N : Type 0} (n : ℕ) (standing : Standing) (g : Goal N) → (g.number == n) ≡ false → stood_by n standing g ≡ g
+stood_other n standing g e = rw e refl
 
-pub stood_here : {N : Type 0} (n : ℕ) (clause : Option ℕ) (s : Slot N) → s.goal.number ≡ n → (looked_in clause s.goal.is_enabled s).goal ≡ stood_by n clause s.goal
-stood_here n clause s e = rw (eq-eqb s.goal.number n e) refl
+pub stood_here : {N : Type 0} (n : ℕ) (standing : Standing) (s : Slot N) → s.goal.number ≡ n → (looked_in standing s.goal.is_enabled s).goal ≡ stood_by n standing s.goal
+stood_here n standing s e = rw (eq-eqb s.goal.number n e) refl
 
-pub looked_here : {N : Type 0} (n : ℕ) (clause : Option ℕ) (b : Bool) (s : Slot N) → s.goal.number ≡ n → (looked_in clause b s).goal ≡ looked_at n clause b s.goal
-looked_here n clause b s e = rw (eq-eqb s.goal.number n e) refl
+pub looked_here : {N : Type 0} (n : ℕ) (standing : Standing) (b : Bool) (s : Slot N) → s.goal.number ≡ n → (looked_in standing b s).goal ≡ looked_at n standing b s.goal
+looked_here n standing b s e = rw (eq-eqb s.goal.number n e) refl
 
-pub looked_other : {N : Type 0} (n : ℕ) (clause : Option ℕ) (b : Bool) (g : Goal N) → (g.number == n) ≡ false → looked_at n clause b g ≡ g
-looked_other n clause b g e = rw e refl
+pub looked_other : {N : Type 0} (n : ℕ) (standing : Standing) (b : Bool) (g : Goal N) → (g.number == n) ≡ false → looked_at n standing b g ≡ g
+looked_other n standing b g e = rw e refl
 
 -- if not just one goal passes, it doesn't matter whether one that is left out does
 most_left : (b : Bool) (count : ℕ) → (count ≡ 1 → ⊥) → nat_lt 1 count ≡ nat_lt (cond b 1 0) count

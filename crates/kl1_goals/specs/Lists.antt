@@ -1,7 +1,8 @@
 -- Lists of goals, as they are kept.
-use Rattle.std.specs.Prelude.{ℕ, ◌==◌, nat_lt, not, ◌&&◌, Bool, true, false, if◌then◌else◌, Option}
+use Rattle.std.specs.Prelude.{ℕ, ◌==◌, nat_lt, not, ◌&&◌, Bool, true, false, if◌then◌else◌}
 use Rattle.kl1_goals.specs.declared.task.Task.{Task}
 use Rattle.kl1_goals.specs.declared.task.Task.TheVariants.{Monitor, Reduces, Substitutes}
+use Rattle.kl1_goals.specs.declared.standing.Standing.{Standing}
 use Rattle.kl1_goals.specs.declared.goal.Goal.{Goal}
 
 -- whether a task is a monitor's
@@ -38,9 +39,9 @@ is_monitor_of n g = g.shoen == n && is_monitor g
 abbrev pub is_goal_of : {N : Type 0} → ℕ → Goal N → Bool
 is_goal_of n g = g.shoen == n && not (is_monitor g)
 
--- a goal, which could step by this clause from now on if it has the number
-abbrev pub stood_by : {N : Type 0} → ℕ → Option ℕ → Goal N → Goal N
-stood_by n clause g = record g { standing = if g.number == n then clause else g.standing }
+-- a goal, which stands so from now on if it has the number
+abbrev pub stood_by : {N : Type 0} → ℕ → Standing → Goal N → Goal N
+stood_by n s g = record g { standing = if g.number == n then s else g.standing }
 
 -- whether a goal is of a shoen, as its monitor too
 abbrev pub is_in : {N : Type 0} → ℕ → Goal N → Bool
@@ -50,6 +51,6 @@ is_in n g = g.shoen == n
 abbrev pub enabled_in : {N : Type 0} → ℕ → Bool → Goal N → Goal N
 enabled_in n b g = record g { is_enabled = if is_goal_of n g then b else g.is_enabled }
 
--- a goal, which could step by this clause and may step, or may not, from now on if it has the number
-abbrev pub looked_at : {N : Type 0} → ℕ → Option ℕ → Bool → Goal N → Goal N
-looked_at n clause b g = record g { standing = if g.number == n then clause else g.standing; is_enabled = if g.number == n then b else g.is_enabled }
+-- a goal, which stands so and may step, or may not, from now on if it has the number
+abbrev pub looked_at : {N : Type 0} → ℕ → Standing → Bool → Goal N → Goal N
+looked_at n s b g = record g { standing = if g.number == n then s else g.standing; is_enabled = if g.number == n then b else g.is_enabled }

@@ -2,6 +2,7 @@
 use Rattle.std.specs.Prelude.{◌≡◌, ℕ, zero, suc, ◌+◌, ◌-◌, ◌<◌, ◌≤◌, ◌&&◌, nat_lt, if◌then◌else◌, Bool, true, false, cond, List, [], ◌∷◌, map, take, length, get_or, Option, Some, None}
 use Rattle.kl1_model.specs.declared.limits.TheConstants.{MONITOR_PRIORITY}
 use Rattle.kl1_queue.specs.Ranks.{rank_of}
+use Rattle.kl1_goals.specs.declared.standing.Standing.{Standing}
 use Rattle.kl1_goals.specs.declared.goal.Goal.{Goal}
 use Rattle.kl1_goals.specs.declared.slot.Slot.{Slot}
 use Rattle.std.specs.List.{filter}
@@ -55,9 +56,9 @@ let_in n b s = record s { goal = enabled_in n b s.goal }
 abbrev pub emptied : {N : Type 0} → Slot N → Slot N
 emptied s = record s { is_held = false }
 
--- a place whose goal could step by this clause and may step, or may not, from now on
-abbrev pub looked_in : {N : Type 0} → Option ℕ → Bool → Slot N → Slot N
-looked_in clause b s = record s { goal = record s.goal { standing = clause; is_enabled = b } }
+-- a place whose goal stands so and may step, or may not, from now on
+abbrev pub looked_in : {N : Type 0} → Standing → Bool → Slot N → Slot N
+looked_in standing b s = record s { goal = record s.goal { standing = standing; is_enabled = b } }
 
 -- places of which one is changed
 abbrev pub changed_at : {N : Type 0} → (Slot N → Slot N) → ℕ → List (Slot N) → List (Slot N)

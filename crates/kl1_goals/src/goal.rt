@@ -5,18 +5,18 @@ ghost use Rattle.kl1_model.specs.declared.limits.TheConstants.{MONITOR_PRIORITY}
 ghost use Rattle.kl1_goals.specs.Lists.{is_monitor, is_goal_of};
 ghost use Rattle.kl1_goals.specs.Readies.{stands};
 
+use crate::standing::Standing;
 use crate::task::Task;
 
-/// A goal: its number in the account, from 1, its task, the number of its shoen, its priority, at most a monitor's, the number of
-/// the clause by which it could step, as of the last change, none if there is none, and whether its shoen lets it step; a
-/// monitor is always let.
+/// A goal: its number in the account, from 1, its task, the number of its shoen, its priority, at most a monitor's, what it
+/// could do as of the last change, and whether its shoen lets it step; a monitor is always let.
 #[derive(Clone, Copy)]
 pub struct Goal<N> {
     pub number: u64,
     pub task: Task<N>,
     pub shoen: u64,
     pub priority: u64,
-    pub standing: Option<u64>,
+    pub standing: Standing,
     pub is_enabled: bool,
 }
 
@@ -47,7 +47,7 @@ impl<N> Goal<N> {
         if !self.is_enabled {
             return None;
         }
-        match self.standing {
+        match self.standing.clause() {
             None => None,
             Some(_) => Some(self.priority as u16),
         }

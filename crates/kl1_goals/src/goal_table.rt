@@ -12,6 +12,7 @@ use crate::noting::{cut_ranks, let_each_step, put_slots_back, relink};
 use crate::places::{append, bury, count_upto, first_held, held_place, look_at, tidy};
 use crate::room::make_room;
 use crate::slot::Slot;
+use crate::standing::Standing;
 use crate::tally::{Tally, exchange_last, lower, lower_alive, raise, raise_alive, tally_of};
 use kl1_queue::ReadyQueue;
 use kl1_shoen_paths::put_all_back;
@@ -22,7 +23,7 @@ use std::marker::Model;
 /// How many places there can be.
 const MOST: usize = 0xffff_fffe;
 
-/// The goals of an account in order of number, each with the clause by which it could step and whether it may, and its shoens,
+/// The goals of an account in order of number, each with what it could do and whether it may, and its shoens,
 /// counted from 1; as they are, and as they were when the event began.
 ///
 /// A goal that is removed leaves its place empty; empty places are dropped when an event begins. `last` is the greatest number of
@@ -153,8 +154,8 @@ impl<N: NameValue> GoalTable<N> {
         Ok(())
     }
 
-    /// From now on goal `number` has this clause by which it could step, or none.
-    pub fn set_standing(&mut self, number: u64, standing: Option<u64>) -> Result<(), AllocError>
+    /// From now on goal `number` has this standing.
+    pub fn set_standing(&mut self, number: u64, standing: Standing) -> Result<(), AllocError>
         ensures ok { OnOk result (self.new.goals ≡ map (stood_by number standing) self.old.goals) }
         ensures rest { self.new ≡ record self.old { goals = self.new.goals } }
     {
@@ -174,11 +175,11 @@ impl<N: NameValue> GoalTable<N> {
         )
     }
 
-    /// From now on goal `number` has this clause by which it could step, or none, and may step, or may not.
+    /// From now on goal `number` has this standing, and may step, or may not.
     pub fn look(
         &mut self,
         number: u64,
-        standing: Option<u64>,
+        standing: Standing,
         is_enabled: bool,
     ) -> Result<(), AllocError>
         ensures ok { OnOk result (self.new.goals ≡ map (looked_at number standing is_enabled) self.old.goals) }
@@ -355,7 +356,7 @@ impl<N: NameValue> GoalTable<N> {
             None => None,
             Some(place) => {
                 let goal = self.slots[place].goal;
-                match goal.standing {
+                match goal.standing.clause() {
                     None => None,
                     Some(clause) => Some((goal.number, clause)),
                 }

@@ -9,6 +9,7 @@ mod noting;
 mod places;
 mod room;
 mod slot;
+mod standing;
 mod tally;
 mod task;
 
@@ -16,4 +17,5 @@ pub use goal::Goal;
 pub use goal_table::GoalTable;
 pub use kl1_model::Rules;
 pub use room::make_room;
+pub use standing::Standing;
 pub use task::Task;

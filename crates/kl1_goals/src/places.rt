@@ -13,6 +13,7 @@ use crate::begun::{Begun, note_slot};
 use crate::chains::{forget_last, link_all, unlink_last};
 use crate::goal::Goal;
 use crate::slot::Slot;
+use crate::standing::Standing;
 use crate::tally::Tally;
 use kl1_queue::ReadyQueue;
 use kl1_text::NameValue;
@@ -174,14 +175,14 @@ pub(crate) fn bury<N: NameValue>(
     *empty += 1;
 }
 
-/// Notes what stands at the place of a goal; then the goal may step, or may not, and has the clause by which it can step.
+/// Notes what stands at the place of a goal; then the goal may step, or may not, and has this standing.
 pub(crate) fn look_at<N: NameValue>(
     begun: &mut Begun<N>,
     slots: &mut Vec<Slot<N>>,
     empty: usize,
     queue: &mut ReadyQueue,
     place: usize,
-    standing: Option<u64>,
+    standing: Standing,
     is_enabled: bool,
 ) -> Result<(), AllocError>
     requires slots { AreSlots slots.old.items empty queue.old.ranks }

@@ -1,7 +1,7 @@
 -- Calls, and goals that are none.
 use Rattle.std.proofs.Common.{◌≡◌, ℕ, ◌<◌, ◌==◌, Bool, true, false, if◌then◌else◌, List, [], ◌∷◌, length, refl, sym, ap, subst, ◌∙◌, arith}
 use Rattle.std.specs.Prelude.{not, ◌&&◌, Option, Some, None, slice_get, codes, bytes_eq}
-use Rattle.std.proofs.lemmas.Bool.{cond-true, cond-false, and_right, eqb-true}
+use Rattle.std.proofs.lemmas.Bool.{cond-true, cond-false, and_right, and_parts, eqb-true}
 use Rattle.std.proofs.lemmas.Slice.Eq.{bytes_eq-Decides}
 use Rattle.kl1_model.specs.Term.{Term, variable, integer, atom, structure, Terms, none, more, count_of}
 use Rattle.kl1_model.specs.Match as model
@@ -32,6 +32,8 @@ use Rattle.kl1_goals_moves.specs.declared.calling.Callee.TheVariants as callee
 use Rattle.kl1_goals_moves.specs.declared.kind.Kind.{Kind}
 use Rattle.kl1_goals_moves.specs.declared.kind.Kind.TheVariants as kind
 use Rattle.kl1_goals_moves.specs.Shapes.{IsNoGoal, two_terms}
+use Rattle.kl1_model.specs.Meaning.{pair}
+use Rattle.kl1_goals_moves.specs.Judged.{six, order_goal}
 use Rattle.kl1_goals_moves.specs.declared.order.ExecuteArguments.{ExecuteArguments}
 use Rattle.kl1_goals_moves.specs.Orders.{order_at, IsOrder}
 use Rattle.kl1_goals_moves.specs.Calls.{atom_in, name_in, cell_in, cell_of, IsOf, IsNameless, CallsNothing, Calls, CalledIn, CalledBetween, CalledAs, CalledInside, IsCounted, is_order}
@@ -40,7 +42,7 @@ use Rattle.kl1_model.specs.code.Awaited.{awaited_by_found}
 
 -- ---- under another name than `:`
 
-other_name : (f : List ℕ) (a b : Term) → bytes_eq f (codes ":") ≡ false → call_of (structure f (more a (more b none))) ≡ None
+pub other_name : (f : List ℕ) (a b : Term) → bytes_eq f (codes ":") ≡ false → call_of (structure f (more a (more b none))) ≡ None
 other_name f (variable n) b e = refl
 other_name f (integer n) b e = refl
 other_name f (structure g us) b e = refl
@@ -94,12 +96,21 @@ no_codes rules f a b n s = no_expression rules f a b n ∙ cond-false (bytes_eq 
 waits_for_none : (rules : Rules) (f : List ℕ) (a b : Term) → bytes_eq f (codes ":") ≡ false → bytes_eq f (codes ":=") ≡ false → bytes_eq f (codes "atom_from") ≡ false → awaited_by_built_in rules (structure f (more a (more b none))) ≡ []
 waits_for_none rules f a b e n s = no_codes rules f a b n s ∙ cond-false (bytes_eq f (codes ":")) (awaited_by_execute a b) [] e
 
--- a text that is one is no other
+-- a text that is one is that one
+own_text : (f own : List ℕ) → bytes_eq f own ≡ true → f ≡ own
+own_text f own e = (bytes_eq-Decides f own).0 e
+
+-- two terms under it
+under : (f own : List ℕ) (a b : Term) → bytes_eq f own ≡ true → pair f a b ≡ pair own a b
+under f own a b e = ap (λ l. pair l a b) (own_text f own e)
+
+-- and it is no other
 other_text : (f own other : List ℕ) → bytes_eq f own ≡ true → bytes_eq own other ≡ false → bytes_eq f other ≡ false
-other_text f own other e n = let same : f ≡ own = (bytes_eq-Decides f own).0 e in ap (λ l. bytes_eq l other) same ∙ n
+other_text f own other e n = ap (λ l. bytes_eq l other) (own_text f own e) ∙ n
 
 pub is_unification : {N : Type 0} (f : N → List ℕ) (h : Held N) (name : N) (left right : Cell N) → bytes_eq (f name) (codes ":") ≡ false → bytes_eq (f name) (codes "=") ≡ true → IsUnification f h (two_terms f h name left right) left right
 is_unification f h name left right ne e = record {
+  is = under (f name) (codes "=") (term_of f h left) (term_of f h right) e;
   call = other_name (f name) (term_of f h left) (term_of f h right) ne;
   built_in = λ rules. cond-true (bytes_eq (f name) (codes "=")) (Some (unifies (term_of f h left) (term_of f h right))) (by_assignment rules (f name) (term_of f h left) (term_of f h right)) e;
   awaits = other_head (f name) (term_of f h left) (term_of f h right) ne;
@@ -108,6 +119,7 @@ is_unification f h name left right ne e = record {
 
 pub is_assignment : {N : Type 0} (f : N → List ℕ) (h : Held N) (name : N) (left right : Cell N) → bytes_eq (f name) (codes ":") ≡ false → bytes_eq (f name) (codes "=") ≡ false → bytes_eq (f name) (codes ":=") ≡ true → IsAssignment f h (two_terms f h name left right) left right
 is_assignment f h name left right ne other e = record {
+  is = under (f name) (codes ":=") (term_of f h left) (term_of f h right) e;
   call = other_name (f name) (term_of f h left) (term_of f h right) ne;
   built_in = λ rules. no_unification rules (f name) (term_of f h left) (term_of f h right) other ∙ cond-true (bytes_eq (f name) (codes ":=")) (move_found (becomes (term_of f h left)) (evaluated (term_of f h right))) (by_spelling rules (f name) (term_of f h left) (term_of f h right)) e;
   awaits = other_head (f name) (term_of f h left) (term_of f h right) ne;
@@ -117,6 +129,7 @@ is_assignment f h name left right ne other e = record {
 pub is_spelling : {N : Type 0} (f : N → List ℕ) (h : Held N) (name : N) (left right : Cell N) → bytes_eq (f name) (codes ":") ≡ false → bytes_eq (f name) (codes "=") ≡ false → bytes_eq (f name) (codes ":=") ≡ false → bytes_eq (f name) (codes "atom_from") ≡ true →
     IsSpelling f h (two_terms f h name left right) left right
 is_spelling f h name left right ne other n e = record {
+  is = under (f name) (codes "atom_from") (term_of f h left) (term_of f h right) e;
   call = other_name (f name) (term_of f h left) (term_of f h right) ne;
   built_in = λ rules. no_assignment rules (f name) (term_of f h left) (term_of f h right) other n ∙ cond-true (bytes_eq (f name) (codes "atom_from")) (move_found (λ text. names text (term_of f h right)) (spelling (most_spelled rules) (term_of f h left))) (by_module (f name) (term_of f h left) (term_of f h right)) e;
   awaits = other_head (f name) (term_of f h left) (term_of f h right) ne;
@@ -234,28 +247,32 @@ call_with m p ts = record { module_name = m; name = p; arguments = ts }
 some_text : {x y : List ℕ} → Some x ≡ Some y → x ≡ y
 some_text e = cc
 
+-- a term with the text of an atom is that atom
+atom_is : (a : Term) (m : List ℕ) → atom_in a ≡ Some m → a ≡ atom m
+atom_is (variable n) m l = absurd (cc)
+atom_is (integer n) m l = absurd (cc)
+atom_is (structure g us) m l = absurd (cc)
+atom_is (atom n) m l = ap atom (some_text l)
+
 calls : (f m p : List ℕ) (a b : Term) → bytes_eq f (codes ":") ≡ true → atom_in a ≡ Some m → name_in b ≡ Some p → is_execute m b ≡ false → call_of (structure f (more a (more b none))) ≡ Some (call_with m p (arguments_of_goal b))
-calls f m p (variable n) b e l r x = absurd (cc)
-calls f m p (integer n) b e l r x = absurd (cc)
-calls f m p (structure g us) b e l r x = absurd (cc)
-calls f m p (atom n) (variable k) e l r x = absurd (cc)
-calls f m p (atom n) (integer k) e l r x = absurd (cc)
-calls f m p (atom n) (atom q) e l r x =
-    cond-true (bytes_eq f (codes ":")) (Some (call_with n q none)) None e ∙ ap (λ x. Some (call_with x q none)) (some_text l) ∙ ap (λ x. Some (call_with m x none)) (some_text r)
-calls f m p (atom n) (structure q ts) e l r x =
-    ap (λ c. if c && not (is_execute n (structure q ts)) then Some (call_with n q ts) else None) e
-    ∙ ap (λ o. if not (is_execute o (structure q ts)) then Some (call_with o q ts) else None) (some_text l)
-    ∙ ap (λ c. if not c then Some (call_with m q ts) else None) x
-    ∙ ap (λ y. Some (call_with m y ts)) (some_text r)
+calls f m p a b e l r x = ap (λ t. call_of (structure f (more t (more b none)))) (atom_is a m l) ∙ by b r x
+  where
+    by : (b : Term) → name_in b ≡ Some p → is_execute m b ≡ false → call_of (structure f (more (atom m) (more b none))) ≡ Some (call_with m p (arguments_of_goal b))
+    by (variable k) r x = absurd (cc)
+    by (integer k) r x = absurd (cc)
+    by (atom q) r x = cond-true (bytes_eq f (codes ":")) (Some (call_with m q none)) None e ∙ ap (λ y. Some (call_with m y none)) (some_text r)
+    by (structure q ts) r x =
+        ap (λ c. if c && not (is_execute m (structure q ts)) then Some (call_with m q ts) else None) e
+        ∙ ap (λ c. if not c then Some (call_with m q ts) else None) x ∙ ap (λ y. Some (call_with m y ts)) (some_text r)
 
 call_awaits : (m p : List ℕ) (a b : Term) → atom_in a ≡ Some m → name_in b ≡ Some p → awaited_in_call a b ≡ []
-call_awaits m p (variable n) b l r = absurd (cc)
-call_awaits m p (integer n) b l r = refl
-call_awaits m p (structure g us) b l r = refl
-call_awaits m p (atom n) (variable k) l r = absurd (cc)
-call_awaits m p (atom n) (integer k) l r = refl
-call_awaits m p (atom n) (atom q) l r = refl
-call_awaits m p (atom n) (structure q ts) l r = refl
+call_awaits m p a b l r = ap (λ t. awaited_in_call t b) (atom_is a m l) ∙ by b r
+  where
+    by : (b : Term) → name_in b ≡ Some p → awaited_in_call (atom m) b ≡ []
+    by (variable k) r = absurd (cc)
+    by (integer k) r = refl
+    by (atom q) r = refl
+    by (structure q ts) r = refl
 
 -- ---- orders
 
@@ -272,7 +289,7 @@ order_by_parts m p count (structure q ts) b e n' o =
     ap (λ l. bytes_eq m (codes "shoen") && (bytes_eq l (codes "execute") && count_of ts == 6)) (some_text e)
     ∙ ap (λ k. bytes_eq m (codes "shoen") && (bytes_eq p (codes "execute") && k == 6)) n' ∙ o
 
-order_as : {N : Type 0} (f : N → List ℕ) (h : Held N) (t : Term) (c : Call N) (b : Bool) → IsOf f h t c → is_order f c ≡ b → is_execute (f c.module_name) t ≡ b
+pub order_as : {N : Type 0} (f : N → List ℕ) (h : Held N) (t : Term) (c : Call N) (b : Bool) → IsOf f h t c → is_order f c ≡ b → is_execute (f c.module_name) t ≡ b
 order_as f h t c b k e = order_by_parts (f c.module_name) (f c.name) c.count t b k.name_is k.counted e
 
 six_cells : {N : Type 0} (f : N → List ℕ) (h : Held N) (xs : List (Cell N)) (o : ExecuteArguments N) → length xs ≡ 6 →
@@ -304,44 +321,60 @@ six_cells {N = N} f h (x ∷ y ∷ z ∷ u ∷ v ∷ w ∷ []) o n a b c d e g p
     some_cell e = cc
 six_cells f h (x ∷ y ∷ z ∷ u ∷ v ∷ w ∷ k ∷ xs) o n a b c d e g p = absurd (omega arith)
 
-order_in : {N : Type 0} (f : N → List ℕ) (h : Held N) (s : ℕ) (o : ExecuteArguments N) → IsFormed h → s < length h.structures → length (arguments_of h s) ≡ 6 → IsOrder h s o → execute_arguments (term_of f h (Structure s)) ≡ Some (order_at f h o)
+pub order_in : {N : Type 0} (f : N → List ℕ) (h : Held N) (s : ℕ) (o : ExecuteArguments N) → IsFormed h → s < length h.structures → length (arguments_of h s) ≡ 6 → IsOrder h s o → execute_arguments (term_of f h (Structure s)) ≡ Some (order_at f h o)
 order_in f h s o p lt six k =
     let r = named h s lt in
     ap execute_arguments (term_of-Structure f h s r.0 p r.1) ∙ six_cells f h (arguments_of h s) o six k.goal_is k.low_is k.high_is k.allowance_is k.control_is k.reports_is (f r.0)
 
 -- `shoen:execute` with six arguments is no call
 no_call : (f m : List ℕ) (a b : Term) → atom_in a ≡ Some m → is_execute m b ≡ true → call_of (structure f (more a (more b none))) ≡ None
-no_call f m (variable n) b l e = absurd (cc)
-no_call f m (integer n) b l e = absurd (cc)
-no_call f m (structure g us) b l e = absurd (cc)
-no_call f m (atom n) (variable k) l e = absurd (cc)
-no_call f m (atom n) (integer k) l e = absurd (cc)
-no_call f m (atom n) (atom q) l e = absurd (cc)
-no_call f m (atom n) (structure q ts) l e =
-    let is : is_execute n (structure q ts) ≡ true = ap (λ x. is_execute x (structure q ts)) (some_text l) ∙ e in
-    cond-false (bytes_eq f (codes ":") && not (is_execute n (structure q ts))) (Some (call_with n q ts)) None (and_right (bytes_eq f (codes ":")) (not (is_execute n (structure q ts))) (ap not is))
+no_call f m a b l e = ap (λ t. call_of (structure f (more t (more b none)))) (atom_is a m l) ∙ by b e
+  where
+    by : (b : Term) → is_execute m b ≡ true → call_of (structure f (more (atom m) (more b none))) ≡ None
+    by (variable k) e = refl
+    by (integer k) e = refl
+    by (atom q) e = absurd (cc)
+    by (structure q ts) e =
+        cond-false (bytes_eq f (codes ":") && not (is_execute m (structure q ts))) (Some (call_with m q ts)) None (and_right (bytes_eq f (codes ":")) (not (is_execute m (structure q ts))) (ap not e))
 
 execution_moves : (m : List ℕ) (a b : Term) (o : model_look.ExecuteArguments) → atom_in a ≡ Some m → is_execute m b ≡ true → execute_arguments b ≡ Some o → execute_move a b ≡ move_found (λ right. opens o) (arguments_look o)
-execution_moves m (variable n) b o l e k = absurd (cc)
-execution_moves m (integer n) b o l e k = absurd (cc)
-execution_moves m (structure g us) b o l e k = absurd (cc)
-execution_moves m (atom n) b o l e k = cond-true (is_execute n b) (order_move (execute_arguments b)) None (ap (λ x. is_execute x b) (some_text l) ∙ e) ∙ ap order_move k
+execution_moves m a b o l e k = ap (λ t. execute_move t b) (atom_is a m l) ∙ cond-true (is_execute m b) (order_move (execute_arguments b)) None e ∙ ap order_move k
 
 execution_waits : (m : List ℕ) (a b : Term) (o : model_look.ExecuteArguments) → atom_in a ≡ Some m → is_execute m b ≡ true → execute_arguments b ≡ Some o → awaited_by_execute a b ≡ awaited_by_found (arguments_look o)
-execution_waits m (variable n) b o l e k = absurd (cc)
-execution_waits m (integer n) b o l e k = absurd (cc)
-execution_waits m (structure g us) b o l e k = absurd (cc)
-execution_waits m (atom n) b o l e k = cond-true (is_execute n b) (awaited_by_order (execute_arguments b)) [] (ap (λ x. is_execute x b) (some_text l) ∙ e) ∙ ap awaited_by_order k
+execution_waits m a b o l e k = ap (λ t. awaited_by_execute t b) (atom_is a m l) ∙ cond-true (is_execute m b) (awaited_by_order (execute_arguments b)) [] e ∙ ap awaited_by_order k
 
 no_execute_move : (m : List ℕ) (a b : Term) → atom_in a ≡ Some m → is_execute m b ≡ false → awaited_by_execute a b ≡ []
-no_execute_move m (variable n) b l e = refl
-no_execute_move m (integer n) b l e = refl
-no_execute_move m (structure g us) b l e = refl
-no_execute_move m (atom n) b l e = not_execute_waits n b (ap (λ x. is_execute x b) (some_text l) ∙ e)
+no_execute_move m a b l e = ap (λ t. awaited_by_execute t b) (atom_is a m l) ∙ not_execute_waits m b e
+
+-- what `shoen:execute` with these six arguments is
+execution_is : (g m : List ℕ) (a b : Term) (o : model_look.ExecuteArguments) → bytes_eq g (codes ":") ≡ true → atom_in a ≡ Some m → is_execute m b ≡ true → execute_arguments b ≡ Some o → pair g a b ≡ order_goal o
+execution_is g m a b o e l x k = let both = by b x k in under g (codes ":") a b e ∙ ap (λ t. pair (codes ":") t b) (atom_is a m l ∙ ap atom both.0) ∙ ap (pair (codes ":") (atom (codes "shoen"))) both.1
+  where
+    one : {o q : model_look.ExecuteArguments} → Some o ≡ Some q → o ≡ q
+    one k = cc
+
+    those : (ts : Terms) (p : List ℕ) → execute_arguments (structure p ts) ≡ Some o → ts ≡ six o
+    those none p k = absurd (cc)
+    those (more t none) p k = absurd (cc)
+    those (more t (more u none)) p k = absurd (cc)
+    those (more t (more u (more v none))) p k = absurd (cc)
+    those (more t (more u (more v (more w none)))) p k = absurd (cc)
+    those (more t (more u (more v (more w (more y none))))) p k = absurd (cc)
+    those (more t (more u (more v (more w (more y (more z none)))))) p k = ap six (one k)
+    those (more t (more u (more v (more w (more y (more z (more s ts))))))) p k = absurd (cc)
+
+    by : (b : Term) → is_execute m b ≡ true → execute_arguments b ≡ Some o → (m ≡ codes "shoen") × (b ≡ structure (codes "execute") (six o))
+    by (variable n) x k = absurd (cc)
+    by (integer n) x k = absurd (cc)
+    by (atom n) x k = absurd (cc)
+    by (structure p ts) x k =
+        let parts = and_parts (bytes_eq m (codes "shoen")) (bytes_eq p (codes "execute") && count_of ts == 6) x in
+        let named = and_parts (bytes_eq p (codes "execute")) (count_of ts == 6) parts.1 in
+        (own_text m (codes "shoen") parts.0, ap (λ l. structure l ts) (own_text p (codes "execute") named.0) ∙ ap (structure (codes "execute")) (those ts p k))
 
 -- ---- what is called as a goal's kind
 
-is_call : {N : Type 0} (f : N → List ℕ) (h : Held N) (g : List ℕ) (a b : Term) (c : Call N) → bytes_eq g (codes ":") ≡ true → Calls f h a b c → is_order f c ≡ false → IsCall f h (structure g (more a (more b none))) c
+pub is_call : {N : Type 0} (f : N → List ℕ) (h : Held N) (g : List ℕ) (a b : Term) (c : Call N) → bytes_eq g (codes ":") ≡ true → Calls f h a b c → is_order f c ≡ false → IsCall f h (structure g (more a (more b none))) c
 is_call f h g a b c e k n =
     let other = order_as f h b c false k.goal_is n in
     record {
@@ -352,7 +385,7 @@ is_call f h g a b c e k n =
     }
 
 -- the goal of a call whose structure is this
-cell_by : {N : Type 0} (c : Call N) (s : ℕ) → c.structure ≡ Some s → cell_of c ≡ Structure s
+pub cell_by : {N : Type 0} (c : Call N) (s : ℕ) → c.structure ≡ Some s → cell_of c ≡ Structure s
 cell_by c s e = ap (cell_in c.name) e
 
 is_execution : {N : Type 0} (f : N → List ℕ) (h : Held N) (g : List ℕ) (a b : Term) (c : Call N) (s : ℕ) → IsFormed h → bytes_eq g (codes ":") ≡ true → Calls f h a b c → is_order f c ≡ true → c.structure ≡ Some s → s < length h.structures → length (arguments_of h s) ≡ 6 →
@@ -361,6 +394,7 @@ is_execution f h g a b c s p e k y at lt six =
     let other = order_as f h b c true k.goal_is y in
     let means : b ≡ term_of f h (Structure s) = sym k.goal_is.means ∙ ap (term_of f h) (cell_by c s at) in
     record {
+      is = λ o is. execution_is g (f c.module_name) a b (order_at f h o) e k.module_is other (ap execute_arguments means ∙ order_in f h s o p lt six is);
       call = no_call g (f c.module_name) a b k.module_is other;
       built_in = λ rules o is. module_move rules g a b e ∙ execution_moves (f c.module_name) a b (order_at f h o) k.module_is other (ap execute_arguments means ∙ order_in f h s o p lt six is);
       awaits = own_head g a b e ∙ call_awaits (f c.module_name) (f c.name) a b k.module_is k.goal_is.name_is;
@@ -426,7 +460,7 @@ whole_kind {N = N} f h q k e is = let P : Option N → Type 0 = λ o. IsKind f h
 -- ---- atoms
 
 pub is_true_goal : (t : Term) (a : List ℕ) → t ≡ atom a → bytes_eq a (codes "true") ≡ true → IsTrueGoal t
-is_true_goal t a e is = record { call = ap call_of e; built_in = λ rules. ap (built_in_move rules) e ∙ cond-true (bytes_eq a (codes "true")) (Some goes) None is; awaits = ap awaited_at_head e; waits_no_more = λ rules. ap (awaited_by_built_in rules) e }
+is_true_goal t a e is = record { is = e ∙ ap atom (own_text a (codes "true") is); call = ap call_of e; built_in = λ rules. ap (built_in_move rules) e ∙ cond-true (bytes_eq a (codes "true")) (Some goes) None is; awaits = ap awaited_at_head e; waits_no_more = λ rules. ap (awaited_by_built_in rules) e }
 
 pub other_atom : (t : Term) (a : List ℕ) → t ≡ atom a → bytes_eq a (codes "true") ≡ false → IsNoGoal t []
 other_atom t a e is = record { call = ap call_of e; built_in = λ rules. ap (built_in_move rules) e ∙ cond-false (bytes_eq a (codes "true")) (Some goes) None is; awaits = ap awaited_at_head e; waits_no_more = λ rules. ap (awaited_by_built_in rules) e }

@@ -4,6 +4,9 @@ pub mod Looks
 pub mod CodeLists
 pub mod Candidates
 pub mod Taking
+pub mod Standings
 pub mod Bodies
 pub mod Hooked
 pub mod Substituting
+pub mod JudgedStays
+pub mod JudgedMoves

@@ -1,18 +1,14 @@
 -- What a substitute can do by the look at its term, and what it waits for.
-use Rattle.std.proofs.Common.{◌≡◌, ℕ, List, sym, ap, ◌∙◌, subst}
+use Rattle.std.proofs.Common.{◌≡◌, ℕ, sym, ap, subst}
 use Rattle.std.specs.Prelude.{Option}
 use Rattle.kl1_model.specs.Term.{Term}
 use Rattle.kl1_model.specs.Look.{goal_look}
 use Rattle.kl1_model.specs.code.Steps as model
-use Rattle.kl1_model.specs.code.Waits.{look_clause, awaited_by_substitute}
-use Rattle.kl1_match.specs.Waiting.{AreSame}
-use Rattle.kl1_match.proofs.Naming.{same_as_itself}
 use Rattle.kl1_goals_moves.specs.declared.look.Look.{Look}
 use Rattle.kl1_goals_moves.specs.declared.look.Look.TheVariants as look
 use Rattle.kl1_goals_moves.specs.declared.moves.Move.{Move}
 use Rattle.kl1_goals_moves.specs.Looks.{look_of}
-use Rattle.kl1_goals_moves.specs.Substitutes.{giving_way, substitute_move_of, SubstituteMoves, SubstituteStands}
-use Rattle.kl1_model.specs.code.Awaited.{awaited_by_found}
+use Rattle.kl1_goals_moves.specs.Substitutes.{giving_way, substitute_move_of, SubstituteMoves}
 
 -- by 0 it does what the look says
 gives_as : (N : Type 0) (t : Term) (x : Look) → look_of x ≡ goal_look t → let m : Option (Move N) = giving_way x in substitute_move_of m (model.substitute_move (goal_look t))
@@ -25,10 +21,3 @@ moves_as {N = N} t clause x found z own e =
     let P : Option (Move N) → Type 0 = λ o. substitute_move_of o (model.substitute_move (goal_look t)) in
     let Q : ℕ → Type 0 = λ n. SubstituteMoves t n found in
     subst Q (sym z) (subst P (sym own) (gives_as N t x e))
-
--- the clause by which it can step and what it waits for, by the look
-pub stands_as : (t : Term) (x : Look) (awaited : List ℕ) (clause : Option ℕ) → look_of x ≡ goal_look t → awaited ≡ awaited_by_found (look_of x) → clause ≡ look_clause (look_of x) → SubstituteStands t awaited clause
-stands_as t x awaited clause e a k = record {
-  clause_is = k ∙ ap look_clause e;
-  awaits = subst (λ (vs : List ℕ). AreSame vs (awaited_by_substitute t)) (sym (a ∙ ap awaited_by_found e)) (same_as_itself (awaited_by_substitute t));
-}

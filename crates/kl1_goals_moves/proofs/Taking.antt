@@ -1,12 +1,10 @@
 -- What a call can do by a clause's number, by cells.
-use Rattle.std.proofs.Common.{◌≡◌, ℕ, zero, suc, ◌-◌, ◌<◌, ◌≤◌, Bool, true, false, List, [], ◌∷◌, ◌++◌, length, map, drop, get_or, refl, sym, ap, ◌∙◌, subst, arith, append-nil}
-use Rattle.std.specs.Prelude.{Option, Some, None, slice_get}
+use Rattle.std.proofs.Common.{◌≡◌, ℕ, zero, suc, ◌-◌, ◌<◌, ◌≤◌, Bool, true, false, List, [], ◌∷◌, length, map, drop, get_or, refl, sym, ap, ◌∙◌, subst, arith}
+use Rattle.std.specs.Prelude.{codes, Option, Some, None, slice_get}
 use Rattle.kl1_model.specs.declared.built_in.BuiltIn.{BuiltIn}
-use Rattle.kl1_model.specs.declared.built_in.BuiltIn.TheVariants.{Failure}
 use Rattle.kl1_model.specs.Term.{Term}
 use Rattle.kl1_model.specs.Module.{Clause, Module}
-use Rattle.kl1_model.specs.Match as model
-use Rattle.kl1_model.specs.Match.{call_of, clauses_of, Candidate}
+use Rattle.kl1_model.specs.Match.{clauses_of, Candidate}
 use Rattle.kl1_model.specs.declared.number.Number.{Number}
 use Rattle.kl1_model.specs.declared.number.Number.TheVariants.{Value, Overflow, ZeroDivisor}
 use Rattle.kl1_model.specs.Text.{text_of}
@@ -16,8 +14,7 @@ use Rattle.kl1_model.specs.declared.rules.Rules.{Rules}
 use Rattle.kl1_model.specs.State.{most_spelled}
 use Rattle.kl1_model.specs.Reduction as model_moves
 use Rattle.kl1_model.specs.Reduction.{raises, unifies, goes, illegal_input, built_in_move}
-use Rattle.kl1_model.specs.code.Waits.{move_by, term_clause, least_clause, awaited_by_term, awaited_by_call, awaited_by_clauses, awaited_at_head, awaited_by_built_in}
-use Rattle.kl1_model.proofs.LeastClause.{term_clause-call, term_clause-built_in, term_clause-none}
+use Rattle.kl1_model.specs.code.Waits.{move_by, least_clause}
 use Rattle.kl1_text.specs.Reading.{Reads}
 use Rattle.kl1_store.specs.declared.cell.Cell.{Cell}
 use Rattle.kl1_store.specs.declared.cell.Cell.TheVariants.{Integer}
@@ -30,11 +27,9 @@ use Rattle.kl1_clause.specs.Predicates.{AreSome}
 use Rattle.kl1_match.specs.declared.place.Place.{Place}
 use Rattle.kl1_match.specs.Instances.{IsClause, replacements_of}
 use Rattle.kl1_match.specs.Verdicts.{arguments_of_goal}
-use Rattle.kl1_match_verdict.specs.Choices.{AreClauses, Chooses, IsChoice}
+use Rattle.kl1_match_verdict.specs.Choices.{AreClauses}
 use Rattle.kl1_match_verdict.specs.Candidates.{IsTaken, TakenAs, Takes, TakesLeast}
-use Rattle.kl1_match.specs.Waiting.{AreSame}
 use Rattle.kl1_match.proofs.Cells.{at_integer}
-use Rattle.kl1_match.proofs.Naming.{same_as_itself}
 use Rattle.kl1_match_guard.specs.declared.evaluated.Evaluated.{Evaluated}
 use Rattle.kl1_match_guard.specs.declared.evaluated.Evaluated.TheVariants.{ComesTo, Awaits, IsNoExpression}
 use Rattle.kl1_match_guard.specs.Evaluations.{evaluated_of}
@@ -44,7 +39,6 @@ use Rattle.kl1_goals_moves.specs.declared.kind.Kind.TheVariants as kind
 use Rattle.kl1_goals_moves.specs.declared.moves.Move.{Move}
 use Rattle.kl1_goals_moves.specs.declared.moves.Move.TheVariants as move
 use Rattle.kl1_goals_moves.specs.Calls.{cell_of, arguments_at, call_at}
-use Rattle.kl1_goals_moves.specs.Shapes.{IsNoGoal}
 use Rattle.kl1_goals_moves.specs.Assigning as assigning
 use Rattle.kl1_goals_moves.specs.Opening.{naming, opening}
 use Rattle.kl1_goals_moves.specs.declared.look.Look.{Look}
@@ -55,11 +49,9 @@ use Rattle.kl1_goals_moves.specs.declared.spelling.Spelling.TheVariants as spell
 use Rattle.kl1_goals_moves.specs.Spellings.{spelling_of}
 use Rattle.kl1_goals_moves.specs.declared.order.ExecuteArguments.{ExecuteArguments}
 use Rattle.kl1_goals_moves.specs.Orders.{order_at, IsOrder}
-use Rattle.kl1_goals_moves.specs.Kinds.{IsKind, IsCall, IsUnification, IsAssignment, IsSpelling, IsExecution, IsTrueGoal}
+use Rattle.kl1_goals_moves.specs.Kinds.{IsKind, IsCall, IsAssignment, IsSpelling, IsExecution}
 use Rattle.kl1_goals_moves.specs.Moves.{HasPredicate, FailsAs, candidate_at, CommitsAs, MovesAs}
-use Rattle.kl1_goals_moves.specs.Standing.{StandsAs}
 use Rattle.kl1_goals_moves.proofs.Candidates.{none_behind, fails_by, goes_on_by, commits_by, by_zero}
-use Rattle.kl1_model.specs.code.Awaited.{awaited_by_found}
 
 -- ---- compiled clauses of a predicate
 
@@ -207,106 +199,6 @@ opened_as {N = N} f h rules modules t n p places text s o x u z at e = by x (by_
     by (look.Waits v) m = m
     by look.Wrong m = m
 
--- ---- standing
-
--- what a term waits for, by its head, its call and as a built-in goal
-awaited_parts : (rules : Rules) (modules : List Module) (t : Term) (hs bs : List ℕ) (o : Option model.Call) → awaited_at_head t ≡ hs → call_of t ≡ o → awaited_by_built_in rules t ≡ bs → awaited_by_term rules modules t ≡ hs ++ awaited_by_call modules o ++ bs
-awaited_parts rules modules t hs bs o a b c =
-    ap (λ vs. vs ++ awaited_by_call modules (call_of t) ++ awaited_by_built_in rules t) a ∙ ap (λ q. hs ++ awaited_by_call modules q ++ awaited_by_built_in rules t) b ∙ ap (λ vs. hs ++ awaited_by_call modules o ++ vs) c
-
-same_by : (vs awaited : List ℕ) → awaited ≡ vs → AreSame awaited vs
-same_by vs awaited e = subst (λ (ws : List ℕ). AreSame ws vs) (sym e) (same_as_itself vs)
-
-pub call_stands : {N : Type 0} (f : N → List ℕ) (h : Held N) (rules : Rules) (modules : List Module) (t : Term) (c : Call N) (goal : Cell N) (named awaited : List ℕ) (choice : Option ℕ) → IsCall f h t c → goal ≡ cell_of c → awaited ≡ [] ++ named → Chooses (clauses_of modules (call_at f h c)) (arguments_of_goal (term_of f h goal)) named choice → StandsAs rules modules t awaited choice
-call_stands {N = N} f h rules modules t c goal named awaited choice e own a k =
-    let cs = clauses_of modules (call_at f h c) in
-    let P : Cell N → Type 0 = λ x. Chooses cs (arguments_of_goal (term_of f h x)) named choice in
-    let k = subst P own k in
-    let all : awaited_by_term rules modules t ≡ awaited_by_clauses cs (arguments_at f h c) = awaited_parts rules modules t [] [] (Some (call_at f h c)) e.awaits e.is (e.waits_no_more rules) ∙ append-nil (awaited_by_clauses cs (arguments_at f h c)) in
-    record {
-      clause_is = k.clause ∙ sym (term_clause-call rules modules t (call_at f h c) e.is);
-      awaits = subst (λ (ws : List ℕ). AreSame ws (awaited_by_term rules modules t)) (sym a) (subst (λ (ws : List ℕ). AreSame named ws) (sym all) k.awaited);
-    }
-
--- a goal that is no call waits for what counts at its head, or as a built-in goal
-alone : (rules : Rules) (modules : List Module) (t : Term) (vs awaited : List ℕ) → call_of t ≡ None → awaited_at_head t ≡ vs → awaited_by_built_in rules t ≡ [] → awaited ≡ vs → AreSame awaited (awaited_by_term rules modules t)
-alone rules modules t vs awaited e h b a = same_by (awaited_by_term rules modules t) awaited (a ∙ sym (append-nil vs) ∙ sym (append-nil (vs ++ [])) ∙ sym (awaited_parts rules modules t vs [] None h e b))
-
-pub unification_stands : {N : Type 0} (f : N → List ℕ) (h : Held N) (rules : Rules) (modules : List Module) (t : Term) (left right : Cell N) (awaited : List ℕ) → IsUnification f h t left right → awaited ≡ [] → StandsAs rules modules t awaited (Some 0)
-unification_stands f h rules modules t left right awaited u a = record { clause_is = sym (term_clause-built_in rules modules t (unifies (term_of f h left) (term_of f h right)) u.call (u.built_in rules)); awaits = alone rules modules t [] awaited u.call u.awaits (u.waits_no_more rules) a }
-
-pub true_stands : (rules : Rules) (modules : List Module) (t : Term) (awaited : List ℕ) → IsTrueGoal t → awaited ≡ [] → StandsAs rules modules t awaited (Some 0)
-true_stands rules modules t awaited u a = record { clause_is = sym (term_clause-built_in rules modules t goes u.call (u.built_in rules)); awaits = alone rules modules t [] awaited u.call u.awaits (u.waits_no_more rules) a }
-
-pub nothing_stands : (rules : Rules) (modules : List Module) (t : Term) (vs awaited : List ℕ) → IsNoGoal t vs → awaited ≡ vs → StandsAs rules modules t awaited None
-nothing_stands rules modules t vs awaited u a = record { clause_is = sym (term_clause-none rules modules t u.call (u.built_in rules)); awaits = alone rules modules t vs awaited u.call u.awaits (u.waits_no_more rules) a }
-
--- by which clause a goal can step that makes a cell what an expression comes to
-abbrev pub clause_by : {V : Type 0} → Evaluated V → Option ℕ
-clause_by (ComesTo x) = Some 0
-clause_by (Awaits v) = None
-clause_by IsNoExpression = Some 0
-
--- and what it waits for
-abbrev pub waits_by : Evaluated ℕ → List ℕ
-waits_by (ComesTo x) = []
-waits_by (Awaits v) = v ∷ []
-waits_by IsNoExpression = []
-
-pub assignment_stands : {N : Type 0} (f : N → List ℕ) (h : Held N) (rules : Rules) (modules : List Module) (t : Term) (left right : Cell N) (x : Evaluated ℕ) (awaited : List ℕ) → IsAssignment f h t left right → evaluated_of (λ v. v) x ≡ evaluated (term_of f h right) → awaited ≡ waits_by x →
-    StandsAs rules modules t awaited (clause_by x)
-assignment_stands f h rules modules t left right x awaited u e a =
-    by x (u.built_in rules ∙ ap (model_moves.move_found (model_moves.becomes (term_of f h left))) (sym e)) (awaited_parts rules modules t [] (awaited_by_found (evaluated (term_of f h right))) None u.awaits u.call (u.waits_for rules) ∙ ap awaited_by_found (sym e)) a
-  where
-    by : (x : Evaluated ℕ) → built_in_move rules t ≡ model_moves.move_found (model_moves.becomes (term_of f h left)) (evaluated_of (λ v. v) x) → awaited_by_term rules modules t ≡ awaited_by_found (evaluated_of (λ v. v) x) → awaited ≡ waits_by x → StandsAs rules modules t awaited (clause_by x)
-    by (ComesTo k) m w b = record { clause_is = sym (term_clause-built_in rules modules t (model_moves.becomes (term_of f h left) k) u.call m); awaits = same_by (awaited_by_term rules modules t) awaited (b ∙ sym w) }
-    by (Awaits v) m w b = record { clause_is = sym (term_clause-none rules modules t u.call m); awaits = same_by (awaited_by_term rules modules t) awaited (b ∙ sym w) }
-    by IsNoExpression m w b = record { clause_is = sym (term_clause-built_in rules modules t (raises illegal_input) u.call m); awaits = same_by (awaited_by_term rules modules t) awaited (b ∙ sym w) }
-
--- by which clause a goal can step that makes of a cell the name that codes spell
-abbrev pub clause_by_spelling : Spelling → Option ℕ
-clause_by_spelling spelled.Spelled = Some 0
-clause_by_spelling (spelled.Waits v) = None
-clause_by_spelling spelled.Misspelled = Some 0
-
--- and what it waits for
-abbrev pub waits_by_spelling : Spelling → List ℕ
-waits_by_spelling spelled.Spelled = []
-waits_by_spelling (spelled.Waits v) = v ∷ []
-waits_by_spelling spelled.Misspelled = []
-
-pub spelling_stands : {N : Type 0} (f : N → List ℕ) (h : Held N) (rules : Rules) (modules : List Module) (t : Term) (codes target : Cell N) (x : Spelling) (text awaited : List ℕ) → IsSpelling f h t codes target → spelling_of x text ≡ spelling (most_spelled rules) (term_of f h codes) → awaited ≡ waits_by_spelling x →
-    StandsAs rules modules t awaited (clause_by_spelling x)
-spelling_stands f h rules modules t codes target x text awaited u e a =
-    by x (u.built_in rules ∙ ap (model_moves.move_found (λ text. model_moves.names text (term_of f h target))) (sym e)) (awaited_parts rules modules t [] (awaited_by_found (spelling (most_spelled rules) (term_of f h codes))) None u.awaits u.call (u.waits_for rules) ∙ ap awaited_by_found (sym e)) a
-  where
-    by : (x : Spelling) → built_in_move rules t ≡ model_moves.move_found (λ text. model_moves.names text (term_of f h target)) (spelling_of x text) → awaited_by_term rules modules t ≡ awaited_by_found (spelling_of x text) → awaited ≡ waits_by_spelling x → StandsAs rules modules t awaited (clause_by_spelling x)
-    by spelled.Spelled m w b = record { clause_is = sym (term_clause-built_in rules modules t (model_moves.names text (term_of f h target)) u.call m); awaits = same_by (awaited_by_term rules modules t) awaited (b ∙ sym w) }
-    by (spelled.Waits v) m w b = record { clause_is = sym (term_clause-none rules modules t u.call m); awaits = same_by (awaited_by_term rules modules t) awaited (b ∙ sym w) }
-    by spelled.Misspelled m w b = record { clause_is = sym (term_clause-built_in rules modules t (raises illegal_input) u.call m); awaits = same_by (awaited_by_term rules modules t) awaited (b ∙ sym w) }
-
--- by which clause a goal can step that opens a shoen
-abbrev pub clause_by_look : Look → Option ℕ
-clause_by_look look.Right = Some 0
-clause_by_look (look.Waits v) = None
-clause_by_look look.Wrong = Some 0
-
--- and what it waits for
-abbrev pub waits_by_look : Look → List ℕ
-waits_by_look look.Right = []
-waits_by_look (look.Waits v) = v ∷ []
-waits_by_look look.Wrong = []
-
-pub execution_stands : {N : Type 0} (f : N → List ℕ) (h : Held N) (rules : Rules) (modules : List Module) (t : Term) (s : ℕ) (o : ExecuteArguments N) (x : Look) (awaited : List ℕ) → IsExecution f h t s → IsOrder h s o → look_of x ≡ arguments_look (order_at f h o) → awaited ≡ waits_by_look x →
-    StandsAs rules modules t awaited (clause_by_look x)
-execution_stands f h rules modules t s o x awaited u at e a =
-    by x (u.built_in rules o at ∙ ap (model_moves.move_found (λ right. model_moves.opens (order_at f h o))) (sym e)) (awaited_parts rules modules t [] (awaited_by_found (arguments_look (order_at f h o))) None u.awaits u.call (u.waits_for rules o at) ∙ ap awaited_by_found (sym e)) a
-  where
-    by : (x : Look) → built_in_move rules t ≡ model_moves.move_found (λ right. model_moves.opens (order_at f h o)) (look_of x) → awaited_by_term rules modules t ≡ awaited_by_found (look_of x) → awaited ≡ waits_by_look x → StandsAs rules modules t awaited (clause_by_look x)
-    by look.Right m w b = record { clause_is = sym (term_clause-built_in rules modules t (model_moves.opens (order_at f h o)) u.call m); awaits = same_by (awaited_by_term rules modules t) awaited (b ∙ sym w) }
-    by (look.Waits v) m w b = record { clause_is = sym (term_clause-none rules modules t u.call m); awaits = same_by (awaited_by_term rules modules t) awaited (b ∙ sym w) }
-    by look.Wrong m w b = record { clause_is = sym (term_clause-built_in rules modules t (raises illegal_input) u.call m); awaits = same_by (awaited_by_term rules modules t) awaited (b ∙ sym w) }
-
 -- ---- by kinds
 
 pub positive : (n : ℕ) → (n ≡ 0 → ⊥) → 0 < n
@@ -326,17 +218,6 @@ call_commits_as {N = N} f h rules modules t k c n p places text found e z takes 
     let P : Kind N → Type 0 = λ x. IsKind f h t x in
     let Q : Kind N → Type 0 = λ x. HasPredicate f h modules x p in
     commits_as f h rules modules t c n p places text found (subst P e is) (positive n z) (takes (subst Q e has))
-
--- by which clause a call steps is the least that accepts
-pub least_of : {N : Type 0} (f : N → List ℕ) (h : Held N) (rules : Rules) (modules : List Module) (t : Term) (k : Kind N) (c : Call N) (o : Option ℕ) → k ≡ kind.Calls c → IsKind f h t k → term_clause rules modules t ≡ o → least_clause (clauses_of modules (call_at f h c)) (arguments_at f h c) ≡ o
-least_of {N = N} f h rules modules t k c o e is judged =
-    let P : Kind N → Type 0 = λ x. IsKind f h t x in
-    sym (term_clause-call rules modules t (call_at f h c) (subst P e is).is) ∙ judged
-
-pub judged_fails : {N : Type 0} (f : N → List ℕ) (h : Held N) (rules : Rules) (modules : List Module) (t : Term) (k : Kind N) (c : Call N) (n : ℕ) → k ≡ kind.Calls c → n ≡ 0 → IsKind f h t k → term_clause rules modules t ≡ Some n → move_by rules modules t n ≡ Some (raises (text_of Failure))
-judged_fails {N = N} f h rules modules t k c n e z is judged =
-    let P : Kind N → Type 0 = λ x. IsKind f h t x in
-    fails_by rules modules t (call_at f h c) n (subst P e is).is z (least_of f h rules modules t k c (Some 0) e is (judged ∙ ap (λ m. Some m) z))
 
 pub goal_assigns_as : {N : Type 0} (f : N → List ℕ) (h : Held N) (rules : Rules) (modules : List Module) (t : Term) (k : Kind N) (a b : Cell N) (x : Evaluated ℕ) (n : ℕ) (p : Predicate N) (places : List (Place N)) (text : List ℕ) (found : Option (Move N)) → k ≡ kind.Assigns a b → n ≡ 0 → found ≡ assigning.assigned a x →
     evaluated_of (λ v. v) x ≡ evaluated (term_of f h b) → IsKind f h t k → MovesAs f h rules modules t n p places text found
@@ -358,17 +239,3 @@ goal_opens_as {N = N} f h rules modules t k s o x n p places text found e z own 
     let P : Kind N → Type 0 = λ y. IsKind f h t y in
     let Q : Option (Move N) → Type 0 = λ m. MovesAs f h rules modules t n p places text m in
     subst Q (sym own) (opened_as f h rules modules t n p places text s o x (subst P e is) z at value)
-
--- by which clause `shoen:execute` can step by the look at its arguments, and what it waits for
-pub kind_executes : {N : Type 0} (f : N → List ℕ) (h : Held N) (rules : Rules) (modules : List Module) (t : Term) (k : Kind N) (s : ℕ) (o : ExecuteArguments N) (x : Look) (awaited : List ℕ) → k ≡ kind.Executes s → IsOrder h s o → look_of x ≡ arguments_look (order_at f h o) → awaited ≡ waits_by_look x →
-    IsKind f h t k → StandsAs rules modules t awaited (clause_by_look x)
-kind_executes {N = N} f h rules modules t k s o x awaited e at value waits is =
-    let P : Kind N → Type 0 = λ y. IsKind f h t y in
-    execution_stands f h rules modules t s o x awaited (subst P e is) at value waits
-
-pub kind_stands : {N : Type 0} (built : BuiltIn → N) (f : N → List ℕ) (h : Held N) (rules : Rules) (modules : List Module) (t : Term) (k : Kind N) (c : Call N) (goal : Cell N) (p : Predicate N) (before after : List ℕ) (choice : Option ℕ) → Reads built f → k ≡ kind.Calls c → goal ≡ cell_of c → before ≡ [] →
-    IsChoice built p.names.now p.clauses.now h goal before after choice → IsKind f h t k → HasPredicate f h modules k p → StandsAs rules modules t after choice
-kind_stands {N = N} built f h rules modules t k c goal p before after choice r e own empty chosen is has =
-    let P : Kind N → Type 0 = λ x. IsKind f h t x in
-    let Q : Kind N → Type 0 = λ x. HasPredicate f h modules x p in
-    call_stands f h rules modules t c goal chosen.named after choice (subst P e is) own (chosen.awaited ∙ ap (λ l. l ++ chosen.named) empty) (chosen.chooses f r (clauses_of modules (call_at f h c)) (subst Q e has))

@@ -4,6 +4,7 @@ pub mod Looks
 pub mod Orders
 pub mod Spellings
 pub mod Calls
+pub mod Judged
 pub mod Kinds
 pub mod Moves
 pub mod Assigning

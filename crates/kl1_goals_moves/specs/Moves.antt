@@ -1,5 +1,5 @@
 -- What a goal can do, by the definitions, told of cells and compiled clauses.
-use Rattle.std.specs.Prelude.{◌≡◌, ℕ, ◌<◌, Bool, true, IsTrue, List, length, map, Option, Some, None, slice_get, if◌then◌else◌}
+use Rattle.std.specs.Prelude.{◌≡◌, ℕ, ◌<◌, IsTrue, List, length, map, Option, Some, None, slice_get, if◌then◌else◌}
 use Rattle.kl1_model.specs.declared.built_in.BuiltIn.TheVariants.{Failure}
 use Rattle.kl1_model.specs.declared.rules.Rules.{Rules}
 use Rattle.kl1_model.specs.Text.{is_text, text_of}
@@ -9,7 +9,7 @@ use Rattle.kl1_model.specs.Match.{clauses_of, Candidate}
 use Rattle.kl1_model.specs.code.Sections.{candidates_from}
 use Rattle.kl1_model.specs.Reduction as model
 use Rattle.kl1_model.specs.Reduction.{commits, raises, unifies, names, opens, goes, gives_way}
-use Rattle.kl1_model.specs.code.Waits.{move_by, term_clause, least_clause}
+use Rattle.kl1_model.specs.code.Waits.{move_by, least_clause}
 use Rattle.kl1_store.specs.Held.{Held, IsIn, arguments_of}
 use Rattle.kl1_store.specs.Meaning.{term_of}
 use Rattle.kl1_clause.specs.declared.compiled_clause.CompiledClause.{CompiledClause}
@@ -110,10 +110,6 @@ IsMove f h m p places text (Some (move.Names a)) = m ≡ Some (names text (term_
 IsMove {N = N} f h m p places text (Some (move.Opens s)) = (o : ExecuteArguments N) → IsOrder h s o → m ≡ Some (opens (order_at f h o))
 IsMove f h m p places text (Some move.Goes) = m ≡ Some goes
 IsMove f h m p places text (Some move.GivesWay) = m ≡ Some gives_way
-
--- if a goal was judged, the clause numbered `number` is the least by which it can step
-abbrev pub IsJudged : Rules → List Module → Term → ℕ → Bool → Type 0
-IsJudged rules modules t number is_judged = is_judged ≡ true → term_clause rules modules t ≡ Some number
 
 -- what a goal can do by the clause numbered `number` is this move, and a text is what it names
 abbrev pub MovesAs : {N : Type 0} → (N → List ℕ) → Held N → Rules → List Module → Term → ℕ → Predicate N → List (Place N) → List ℕ → Option (Move N) → Type 0

@@ -1,5 +1,5 @@
 -- What substitutes can do, and what they wait for.
-use Rattle.std.specs.Prelude.{◌≡◌, ℕ, ◌==◌, if◌then◌else◌, List, Option, Some, None, option_map}
+use Rattle.std.specs.Prelude.{◌≡◌, ℕ, ◌==◌, if◌then◌else◌, List, Option, Some, None}
 use Rattle.kl1_model.specs.declared.built_in.BuiltIn.TheVariants.{IllegalInput}
 use Rattle.kl1_model.specs.Text.{text_of}
 use Rattle.kl1_model.specs.Term.{Term}
@@ -9,6 +9,9 @@ use Rattle.kl1_model.specs.Reduction.{raises, gives_way}
 use Rattle.kl1_model.specs.code.Steps.{substitute_move}
 use Rattle.kl1_model.specs.code.Waits.{awaited_by_substitute, substitute_clause}
 use Rattle.kl1_match.specs.Waiting.{AreSame}
+use Rattle.kl1_goals.specs.declared.standing.Standing.{Standing}
+use Rattle.kl1_goals.specs.Readies.{clause_in}
+use Rattle.kl1_goals_moves.specs.Judged.{SubstituteDoes}
 use Rattle.kl1_goals_moves.specs.declared.look.Look.{Look}
 use Rattle.kl1_goals_moves.specs.declared.look.Look.TheVariants as look
 use Rattle.kl1_goals_moves.specs.declared.moves.Move.{Move}
@@ -39,7 +42,8 @@ substitute_move_of (Some move.GivesWay) m = m ≡ Some gives_way
 abbrev pub SubstituteMoves : {N : Type 0} → Term → ℕ → Option (Move N) → Type 0
 SubstituteMoves t clause found = substitute_move_of found (move_by_clause t clause)
 
--- this is the clause by which a substitute of this term can step, and these are the variables that it waits for
-pub record SubstituteStands (t : Term) (awaited : List ℕ) (clause : Option ℕ) : Type 0 where
-  pub clause_is : clause ≡ substitute_clause t
+-- this is what a substitute of this term can do, and these are the variables that it waits for
+pub record SubstituteStands (t : Term) (awaited : List ℕ) (standing : Standing) : Type 0 where
+  pub clause_is : clause_in standing ≡ substitute_clause t
+  pub does : SubstituteDoes t standing
   pub awaits : AreSame awaited (awaited_by_substitute t)

@@ -3,14 +3,13 @@
 ghost use Rattle.std.specs.Prelude.{◌≡◌, ℕ, ◌<◌, List, map, Some, IfOk};
 ghost use Rattle.kl1_model.specs.Module.{Clause, Module};
 ghost use Rattle.kl1_model.specs.Term.{Term};
-ghost use Rattle.kl1_model.specs.code.Waits.{least_clause};
 ghost use Rattle.kl1_text.specs.Reading.{Reads};
 ghost use Rattle.kl1_store.specs.Held.{IsIn};
 ghost use Rattle.kl1_clause.specs.Clauses.{AreCompiled};
 ghost use Rattle.kl1_clause.specs.Predicates.{AreSome};
-ghost use Rattle.kl1_goals_moves.specs.Calls.{cell_of, arguments_at};
+ghost use Rattle.kl1_goals_moves.specs.Calls.{cell_of};
 ghost use Rattle.kl1_goals_moves.specs.Kinds.{IsKind, KindIn};
-ghost use Rattle.kl1_goals_moves.specs.Moves.{taken_places, HasPredicate, MoveIn, FailsAs, CommitsAs, IsJudged, MovesAs};
+ghost use Rattle.kl1_goals_moves.specs.Moves.{taken_places, HasPredicate, MoveIn, FailsAs, CommitsAs, MovesAs};
 
 use crate::assigning::assigned;
 use crate::call::Call;
@@ -21,7 +20,7 @@ use crate::spelling::spell;
 use crate::trial::Trial;
 use kl1_clause::Predicate;
 use kl1_match_guard::evaluate_cell;
-use kl1_match_verdict::{choose, find_places, is_candidate};
+use kl1_match_verdict::{choose, is_candidate};
 use kl1_model::{BuiltIn, Rules};
 use kl1_store::{Cell, Store};
 use kl1_text::NameValue;
@@ -43,31 +42,24 @@ pub enum Move<N> {
 
 /// What a goal of a kind can do by the clause numbered `clause` and the rules of its account, or nothing if that isn't allowed. If
 /// it commits, the cells at the places of the clause's head are in the trial, and if it uses a name, its text is; otherwise nothing
-/// is said of what is there. If it was judged, that is the least clause by which it can step: a call tries no clause then, and no test.
+/// is said of what is there.
 pub fn move_of<N: NameValue>(
     store: &Store<N>,
     rules: Rules,
     kind: Kind<N>,
     predicate: Predicate<'_, N>,
     clause: u64,
-    is_judged: bool,
     trial: &mut Trial<N>,
 ) -> Result<Option<Move<N>>, AllocError>
     requires kind { KindIn store.now.held kind }
     requires predicate { AreSome predicate.names.now predicate.clauses.now }
     ensures inside { IfOk result (MoveIn store.now.held predicate.entry (taken_places trial.new) trial.new.text) }
-    ensures moves { IfOk result (λ found. (f : N → List ℕ) → Reads N.built f → (modules : List Module) (t : Term) → IsKind f store.now.held t kind → HasPredicate f store.now.held modules kind predicate.entry → IsJudged rules modules t clause is_judged → MovesAs f store.now.held rules modules t clause predicate.entry (taken_places trial.new) trial.new.text found) }
+    ensures moves { IfOk result (λ found. (f : N → List ℕ) → Reads N.built f → (modules : List Module) (t : Term) → IsKind f store.now.held t kind → HasPredicate f store.now.held modules kind predicate.entry → MovesAs f store.now.held rules modules t clause predicate.entry (taken_places trial.new) trial.new.text found) }
 {
     match kind {
         Kind::Calls(call) => {
             if clause == 0 {
-                if is_judged {
-                    return Ok(Some(Move::Raises(BuiltIn::Failure)));
-                }
                 return failing(store, call, predicate, trial);
-            }
-            if is_judged {
-                return committing_as_judged(store, call, predicate, clause, trial);
             }
             committing(store, call, predicate, clause, trial)
         }
@@ -172,36 +164,4 @@ fn committing<N: NameValue>(
         return Ok(Some(Move::Commits(place)));
     }
     Ok(None)
-}
-
-/// The move of a call by the clause numbered `number`, from 1, of which it is known to be the least that accepts the call; of another
-/// clause nothing is said.
-fn committing_as_judged<N: NameValue>(
-    store: &Store<N>,
-    call: Call<N>,
-    predicate: Predicate<'_, N>,
-    number: u64,
-    trial: &mut Trial<N>,
-) -> Result<Option<Move<N>>, AllocError>
-    requires call { IsIn store.now.held (cell_of call) }
-    requires number { 0 < number }
-    requires predicate { AreSome predicate.names.now predicate.clauses.now }
-    ensures inside { IfOk result (MoveIn store.now.held predicate.entry (taken_places trial.new) trial.new.text) }
-    ensures commits { IfOk result (λ found. (f : N → List ℕ) → Reads N.built f → (cs : List Clause) → AreCompiled (map f predicate.entry.names.now) predicate.entry.clauses.now cs → least_clause cs (arguments_at f store.now.held call) ≡ Some number → CommitsAs f store.now.held call predicate.entry cs number (taken_places trial.new) found) }
-{
-    let place = (number - 1) as usize;
-    if place >= predicate.clauses.len() {
-        return Ok(None);
-    }
-    trial.is_in_order = find_places(
-        store,
-        predicate.names,
-        predicate.clauses,
-        place,
-        call.cell(),
-        &mut trial.scratch,
-        &mut trial.places,
-        &mut trial.awaited,
-    )?;
-    Ok(Some(Move::Commits(place)))
 }

@@ -1,5 +1,5 @@
 -- Goals of a machine that are looked at, each by its number.
-use Rattle.kl1_machine.proofs.Words.{◌≡◌, ℕ, suc, ◌≤◌, ◌==◌, Bool, false, if◌then◌else◌, List, [], ◌∷◌, length, map, refl, sym, ap, ◌∙◌, arith, subst, Option, Some, None, find, AllByRecursion, ne_eqb, eq-eqb, eqb-true, eqb-false, cases_eq, CellName, Kept, HasGrown, HasGrown-same, HasGrown-trans, grown_among, Goal, number_of, Ascend, AreInOrder, Program, Reading, IsTaskIn, IsOwned, IsSettled, Machine, IsMachine, ready_at, IsReadyAt, unready, unlooked, Looks, AreSettledBut, settled_more, inl, inr, cases_Bool, all_then}
+use Rattle.kl1_machine.proofs.Words.{◌≡◌, ℕ, suc, ◌≤◌, ◌==◌, Bool, false, if◌then◌else◌, List, [], ◌∷◌, length, map, refl, sym, ap, ◌∙◌, arith, subst, Some, None, find, AllByRecursion, ne_eqb, eq-eqb, eqb-true, eqb-false, cases_eq, CellName, Kept, HasGrown, HasGrown-same, HasGrown-trans, grown_among, Goal, Standing, Waits, number_of, Ascend, AreInOrder, Program, Reading, IsTaskIn, IsOwned, IsSettled, Machine, IsMachine, ready_at, IsReadyAt, unready, unlooked, Looks, AreSettledBut, settled_more, inl, inr, cases_Bool, all_then}
 use Rattle.kl1_goals.specs.Lists.{has_number}
 use Rattle.kl1_machine.proofs.Sincing.{each_both}
 
@@ -9,23 +9,23 @@ pub each_changed : (P Q R : Goal CellName → Type 0) (F : Goal CellName → Goa
 each_changed P Q R F [] f p q = tt
 each_changed P Q R F (g ∷ gs) f p q = (f g p.0 q.0, each_changed P Q R F gs f p.1 q.1)
 
--- what holds of goals whatever their clauses are, and whether they may step, holds of them when they were looked at
-pub looked_hold : (P : Goal CellName → Type 0) → ((g : Goal CellName) (o : Option ℕ) (b : Bool) → P g → P (record g { standing = o; is_enabled = b })) → (after before : List (Goal CellName)) → map unlooked after ≡ map unlooked before → AllByRecursion P before → AllByRecursion P after
+-- what holds of goals however they stand, and whether they may step or not, holds of them when they were looked at
+pub looked_hold : (P : Goal CellName → Type 0) → ((g : Goal CellName) (s : Standing) (b : Bool) → P g → P (record g { standing = s; is_enabled = b })) → (after before : List (Goal CellName)) → map unlooked after ≡ map unlooked before → AllByRecursion P before → AllByRecursion P after
 looked_hold P all [] before e h = tt
 looked_hold P all (a ∷ after) [] e h = absurd (cc)
 looked_hold P all (a ∷ after) (b ∷ before) e h =
     let first : unlooked a ≡ unlooked b = cc in
     let rest : map unlooked after ≡ map unlooked before = cc in
-    (all (unlooked a) a.standing a.is_enabled (subst P (sym first) (all b None false h.0)), looked_hold P all after before rest h.1)
+    (all (unlooked a) a.standing a.is_enabled (subst P (sym first) (all b Waits false h.0)), looked_hold P all after before rest h.1)
 
--- what holds of them whatever their clauses are holds of them when only those were looked at
-pub unready_hold : (P : Goal CellName → Type 0) → ((g : Goal CellName) (o : Option ℕ) → P g → P (record g { standing = o })) → (after before : List (Goal CellName)) → map unready after ≡ map unready before → AllByRecursion P before → AllByRecursion P after
+-- what holds of them however they stand holds of them when only those were looked at
+pub unready_hold : (P : Goal CellName → Type 0) → ((g : Goal CellName) (s : Standing) → P g → P (record g { standing = s })) → (after before : List (Goal CellName)) → map unready after ≡ map unready before → AllByRecursion P before → AllByRecursion P after
 unready_hold P all [] before e h = tt
 unready_hold P all (a ∷ after) [] e h = absurd (cc)
 unready_hold P all (a ∷ after) (b ∷ before) e h =
     let first : unready a ≡ unready b = cc in
     let rest : map unready after ≡ map unready before = cc in
-    (all (unready a) a.standing (subst P (sym first) (all b None h.0)), unready_hold P all after before rest h.1)
+    (all (unready a) a.standing (subst P (sym first) (all b Waits h.0)), unready_hold P all after before rest h.1)
 
 -- ---- goals by their numbers
 
@@ -101,20 +101,20 @@ looks_machine m n l i =
 -- ---- one goal is settled, and all others are as they were
 
 -- the goal with the number of `x`, which is like it, was looked at, and others were settled: each is settled in a store on which more hangs
-pub one_settled : (f : Reading) (program : Program) (m : Machine) (k : Kept CellName) (x : Goal CellName) (o : Option ℕ) → HasGrown m.store k → IsSettled f k.hooks m.store.held program m.shoens.shoens (ready_at x.number x.shoen x.task o) →
+pub one_settled : (f : Reading) (program : Program) (m : Machine) (k : Kept CellName) (x : Goal CellName) (o : Standing) → HasGrown m.store k → IsSettled f k.hooks m.store.held program m.shoens.shoens (ready_at x.number x.shoen x.task o) →
     (g : Goal CellName) (b : Bool) → IsFor x.number x g → ((g.number ≡ x.number → ⊥) → IsSettled f m.store.hooks m.store.held program m.shoens.shoens g) →
     IsSettled f k.hooks m.store.held program m.shoens.shoens (record g { standing = if g.number == x.number then o else g.standing; is_enabled = b })
 one_settled f program m k x o up found g b is was = elim (cases_eq g.number x.number) [
   | inl same ↦
       let s : IsSettled f k.hooks m.store.held program m.shoens.shoens (ready_at g.number g.shoen g.task o) = rw (← same, ← (is same).0, ← (is same).1) at found in
-      record { standing = ap (λ (c : Bool). if c then o else g.standing) (eq-eqb g.number x.number same) ∙ s.standing; hung = s.hung }
+      rw (eq-eqb g.number x.number same) (record { standing = s.standing; does = s.does; hung = s.hung })
   | inr other ↦
       let s = settled_more f m.store.hooks k.hooks m.store.held program m.shoens.shoens g (grown_among m.store k up) (was other) in
-      record { standing = ap (λ (c : Bool). if c then o else g.standing) (ne_eqb g.number x.number other) ∙ s.standing; hung = s.hung }
+      rw (ne_eqb g.number x.number other) (record { standing = s.standing; does = s.does; hung = s.hung })
 ]
 
--- goal `n` of a machine is found, and can step by this clause, in a store that holds the same and on which more hangs
-pub record IsLook (program : Program) (m : Machine) (k : Kept CellName) (n : ℕ) (goal : Goal CellName) (o : Option ℕ) : Type 0 where
+-- goal `n` of a machine is found, and stands so, in a store that holds the same and on which more hangs
+pub record IsLook (program : Program) (m : Machine) (k : Kept CellName) (n : ℕ) (goal : Goal CellName) (o : Standing) : Type 0 where
   pub order : AreInOrder m.goals.goals
   pub found : Some goal ≡ find (has_number n) m.goals.goals
   pub number : goal.number ≡ n
@@ -122,7 +122,7 @@ pub record IsLook (program : Program) (m : Machine) (k : Kept CellName) (n : ℕ
   pub grown : HasGrown m.store k
   pub ready : IsReadyAt program m.shoens.shoens m.store.held k.hooks goal.number goal.shoen goal.task o
 
-pub look_ready : (program : Program) (m : Machine) (k : Kept CellName) (n : ℕ) (goal : Goal CellName) (o : Option ℕ) → IsLook program m k n goal o → IsReadyAt program m.shoens.shoens m.store.held k.hooks n goal.shoen goal.task o
+pub look_ready : (program : Program) (m : Machine) (k : Kept CellName) (n : ℕ) (goal : Goal CellName) (o : Standing) → IsLook program m k n goal o → IsReadyAt program m.shoens.shoens m.store.held k.hooks n goal.shoen goal.task o
 look_ready program m k n goal o look = let R : ℕ → Type 0 = λ i. IsReadyAt program m.shoens.shoens m.store.held k.hooks i goal.shoen goal.task o in subst R look.number look.ready
 
 -- goals that are settled but for those of some numbers are so but for those of more

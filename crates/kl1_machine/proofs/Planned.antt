@@ -75,6 +75,7 @@ rested_judges program m n g f rested found fits =
     record {
       knows = record { reads = fits.reads; rows = rested.rows f fits };
       judged = λ x c task stands. ap (λ (k : Task CellName). task_clause program.rules (contents program.loaded) (control_with t m.shoens.shoens g.shoen) (task_with t k)) (sym task) ∙ sym settled.standing ∙ stands;
+      does = settled.does;
     }
 
 -- goal `n` of a machine at rest may step

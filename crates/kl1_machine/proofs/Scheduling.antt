@@ -1,5 +1,5 @@
 -- Goals of a machine that came, and are looked at in order of number.
-use Rattle.kl1_machine.proofs.Words.{◌≡◌, ℕ, suc, ◌≤◌, ◌==◌, ◌||◌, Bool, false, if◌then◌else◌, map, refl, sym, ap, ◌∙◌, arith, Option, None, find, ne_eqb, eq-eqb, cases_eq, ltb-false, le-ltb, CellName, Kept, Goal, Task, is_monitor, is_monitor_task, looked_at, is_enabled_at, Program, IsSettled, Machine, unlooked, IsLet, Schedules, inl, inr, map-map, all_then, nat_lt}
+use Rattle.kl1_machine.proofs.Words.{◌≡◌, ℕ, suc, ◌≤◌, ◌==◌, ◌||◌, Bool, false, if◌then◌else◌, map, refl, sym, ap, ◌∙◌, arith, None, find, ne_eqb, eq-eqb, cases_eq, ltb-false, le-ltb, CellName, Kept, Goal, Standing, Task, is_monitor, is_monitor_task, looked_at, is_enabled_at, Program, IsSettled, Machine, unlooked, IsLet, Schedules, inl, inr, map-map, all_then, nat_lt}
 use Rattle.kl1_goals.specs.Lists.{has_number}
 use Rattle.kl1_machine.proofs.Sincing.{each_both}
 use Rattle.kl1_machine.proofs.Looking.{each_changed, looks_same, looks_then, IsFor, IsLook, look_ready, one_of, none_of, one_settled, settled_but_more, settled_but_none}
@@ -9,7 +9,7 @@ one_later : (n m : ℕ) → m ≡ suc n → (k : ℕ) → nat_lt m k ≡ false �
 one_later n m next k e other = le-ltb n k (let le = ltb-false m k e in omega (arith, le, next, other))
 
 -- the goal of the next number was looked at
-pub schedules_one : (program : Program) (m : Machine) (k : Kept CellName) (n number : ℕ) (goal : Goal CellName) (o : Option ℕ) (may : Bool) → number ≡ suc n → IsLook program m k number goal o → may ≡ (is_monitor goal || is_enabled_at m.shoens.shoens m.shoens.work goal.shoen) →
+pub schedules_one : (program : Program) (m : Machine) (k : Kept CellName) (n number : ℕ) (goal : Goal CellName) (o : Standing) (may : Bool) → number ≡ suc n → IsLook program m k number goal o → may ≡ (is_monitor goal || is_enabled_at m.shoens.shoens m.shoens.work goal.shoen) →
     Schedules program n number m (record m { store = k; goals = record m.goals { goals = map (looked_at number o may) m.goals.goals } })
 schedules_one program m k n number goal o may next look lets =
     let for = one_of number 0 m.goals.goals goal look.order look.found in

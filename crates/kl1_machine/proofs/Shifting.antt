@@ -10,7 +10,7 @@ shifted_unlooked (s ∷ ss) gs = shifted_unlooked ss (map (enabled_in s.shoen s.
 -- settled goals stay so
 one_settled : (f : Reading) (hooks : List Hook) (h : Held CellName) (program : Program) (shoens : List (Shoen CellName)) (n : ℕ) (b : Bool) (gs : List (Goal CellName)) → AreSettled f hooks h program shoens gs → AreSettled f hooks h program shoens (map (enabled_in n b) gs)
 one_settled f hooks h program shoens n b [] a = tt
-one_settled f hooks h program shoens n b (g ∷ gs) a = (record { standing = a.0.standing; hung = a.0.hung }, one_settled f hooks h program shoens n b gs a.1)
+one_settled f hooks h program shoens n b (g ∷ gs) a = (record { standing = a.0.standing; does = a.0.does; hung = a.0.hung }, one_settled f hooks h program shoens n b gs a.1)
 
 pub shifted_settled : (f : Reading) (hooks : List Hook) (h : Held CellName) (program : Program) (shoens : List (Shoen CellName)) (ss : List Shift) (gs : List (Goal CellName)) → AreSettled f hooks h program shoens gs → AreSettled f hooks h program shoens (shifted_by ss gs)
 shifted_settled f hooks h program shoens [] gs a = a

@@ -76,7 +76,7 @@ pub record IsChosen (program : Program) (m : Machine) (n c : ℕ) : Type 0 where
 
 -- the move, as it is made
 abbrev pub making : (program : Program) (m : Machine) (n c : ℕ) → IsChosen program m n c → Making
-making program m n c p = record { predicate = p.planned.predicate; move = p.planned.made; places = p.places; text = p.text }
+making program m n c p = record { predicate = p.planned.located.predicate; move = p.planned.made; places = p.places; text = p.text }
 
 module _ (program : Program) (m : Machine) (n c : ℕ) (p : IsChosen program m n c) where
   -- it was judged by readings of the names
@@ -176,7 +176,7 @@ stepped_publishes program m u v n c p small room same steps r =
     let same_names : v.names ≡ m.names = ap (λ (x : Machine). x.names) r.rest ∙ same in
     let name : v.name ≡ name_for x known p.text = ap (λ (x : Machine). x.name) r.rest ∙ steps.name in
     let spelled : v.spelled ≡ u.spelled = ap (λ (x : Machine). x.spelled) r.rest in
-    let new : IsNewName known (name_for x known p.text) = is_new m.store.held p.planned.predicate p.places p.text x known p.makes.runnable.inside in
+    let new : IsNewName known (name_for x known p.text) = is_new m.store.held p.planned.located.predicate p.places p.text x known p.makes.runnable.inside in
     record {
       name = rw (same_names, name) new;
       last = rw (spelled, r.held) steps.last;

@@ -1,5 +1,5 @@
 -- Goals of a machine that are woken, one number after another.
-use Rattle.kl1_machine.proofs.Words.{◌≡◌, ℕ, ◌+◌, ◌<◌, ◌≤◌, ◌==◌, ◌||◌, Bool, false, List, [], ◌∷◌, ◌++◌, length, map, take, get_or, refl, ap, ◌∙◌, Option, None, find, OnOk, Result, on_ok_weaker, ne_eqb, take_more, take_all, list_any-append, is_among, CellName, Kept, Tabled, Goal, stood_by, Program, IsSettled, Machine, unready, unlooked, Wakes, map-map, or_group}
+use Rattle.kl1_machine.proofs.Words.{◌≡◌, ℕ, ◌+◌, ◌<◌, ◌≤◌, ◌==◌, ◌||◌, Bool, false, List, [], ◌∷◌, ◌++◌, length, map, take, get_or, refl, ap, ◌∙◌, None, find, OnOk, Result, on_ok_weaker, ne_eqb, take_more, take_all, list_any-append, is_among, CellName, Kept, Tabled, Goal, Standing, stood_by, Program, IsSettled, Machine, unready, unlooked, Wakes, map-map, or_group}
 use Rattle.kl1_goals.specs.Lists.{has_number}
 use Rattle.kl1_machine.proofs.Sincing.{goals_are}
 use Rattle.kl1_machine.proofs.Looking.{each_changed, looks_same, looks_then, IsFor, IsLook, look_ready, one_of, one_settled, settled_but_more, settled_but_none}
@@ -9,7 +9,7 @@ one_less : (n : ℕ) (q : ℕ → Bool) (k : ℕ) → q k ≡ false → (k ≡ n
 one_less n q k e other = ap (λ b. (b || false) || q k) (ne_eqb k n other) ∙ e
 
 -- the goal of a number was looked at
-pub wakes_one : {T E : Type 0} (done : Result T E) (program : Program) (m : Machine) (k : Kept CellName) (r : Tabled CellName) (n : ℕ) (goal : Goal CellName) (o : Option ℕ) → IsLook program m k n goal o → r ≡ record m.goals { goals = r.goals } → OnOk done (r.goals ≡ map (stood_by n o) m.goals.goals) →
+pub wakes_one : {T E : Type 0} (done : Result T E) (program : Program) (m : Machine) (k : Kept CellName) (r : Tabled CellName) (n : ℕ) (goal : Goal CellName) (o : Standing) → IsLook program m k n goal o → r ≡ record m.goals { goals = r.goals } → OnOk done (r.goals ≡ map (stood_by n o) m.goals.goals) →
     OnOk done (Wakes program (n ∷ []) m (record m { store = k; goals = r }))
 wakes_one done program m k r n goal o look rest =
     on_ok_weaker done (λ (is : r.goals ≡ map (stood_by n o) m.goals.goals). rw (goals_are m.goals r (map (stood_by n o) m.goals.goals) rest is) (record {

@@ -50,6 +50,8 @@ pub use Rattle.kl1_store.specs.declared.unified.Unified.{Unified}
 pub use Rattle.kl1_store_hooks.proofs.Hooked.{HasGrown-same, HasGrown-trans, grown_among}
 pub use Rattle.kl1_shoen_paths.proofs.Paths.{parent_at, path_among, path_zero}
 pub use Rattle.kl1_goals.proofs.Changing.{length_all}
+pub use Rattle.kl1_goals.specs.declared.standing.Standing.{Standing}
+pub use Rattle.kl1_goals.specs.declared.standing.Standing.TheVariants.{Waits}
 pub use Rattle.kl1_goals.specs.Lists.{enabled_in, is_after, is_in, looked_at, number_of, stood_by}
 pub use Rattle.kl1_goals.specs.Tables.{AreInOrder, AreSingle, Ascend, Tabled}
 pub use Rattle.kl1_clause.specs.Instructions.{IsRowOf}

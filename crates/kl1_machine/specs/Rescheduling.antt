@@ -1,10 +1,11 @@
 -- Goals of a machine that are looked at again.
-use Rattle.std.specs.Prelude.{◌≡◌, ℕ, ◌<◌, ◌≤◌, ◌||◌, nat_lt, Bool, true, false, if◌then◌else◌, List, ◌++◌, map, drop, length, None}
+use Rattle.std.specs.Prelude.{◌≡◌, ℕ, ◌<◌, ◌≤◌, ◌||◌, nat_lt, Bool, true, false, if◌then◌else◌, List, ◌++◌, map, drop, length}
 use Rattle.std.specs.List.{AllByRecursion}
 use Rattle.kl1_model.specs.Module.{is_among}
 use Rattle.kl1_text.specs.declared.cell_name.CellName.{CellName}
 use Rattle.kl1_store.specs.Hooks.{HasGrown, told_by}
 use Rattle.kl1_goals.specs.declared.goal.Goal.{Goal}
+use Rattle.kl1_goals.specs.declared.standing.Standing.TheVariants.{Waits}
 use Rattle.kl1_shoen.specs.Shoens.{is_enabled_at}
 use Rattle.kl1_shoen.specs.Shifts.{AreShifts}
 use Rattle.kl1_shoen.specs.declared.shift.Shift.{Shift}
@@ -17,15 +18,15 @@ use Rattle.kl1_user_effects.specs.Installing.{shifted_by}
 use Rattle.kl1_machine.specs.declared.machine.Machine.{Machine}
 use Rattle.kl1_machine.specs.Machines.{IsMachine}
 
--- a goal but for the clause by which it can step
+-- a goal but for what it can do
 abbrev pub unready : Goal CellName → Goal CellName
-unready g = record g { standing = None }
+unready g = record g { standing = Waits }
 
--- a goal but for the clause by which it can step, and whether it may
+-- a goal but for what it can do, and whether it may step
 abbrev pub unlooked : Goal CellName → Goal CellName
-unlooked g = record g { standing = None; is_enabled = false }
+unlooked g = record g { standing = Waits; is_enabled = false }
 
--- goals were looked at: they are the same but for their clauses and whether they may step, and more hangs
+-- goals were looked at: they are the same but for what they can do and whether they may step, and more hangs
 pub record Looks (m n : Machine) : Type 0 where
   pub goals : map unlooked n.goals.goals ≡ map unlooked m.goals.goals
   pub held : n.store.held ≡ m.store.held
@@ -71,15 +72,15 @@ pub record Shifts (m n : Machine) : Type 0 where
 abbrev pub all_told : Machine → List ℕ
 all_told m = m.told.items ++ told_by (drop m.mark.sizes.bindings m.store.held.bindings) m.store.hooks
 
--- goals were looked at again: they are the same but for their clauses and whether they may step, more hangs, and nothing else is otherwise
--- but which numbers were told
+-- goals were looked at again: they are the same but for what they can do and whether they may step, more hangs, and nothing else is
+-- otherwise but which numbers were told
 pub record Reschedules (m n : Machine) : Type 0 where
   pub machine : IsMachine n
   pub goals : map unlooked n.goals.goals ≡ map unlooked m.goals.goals
   pub held : n.store.held ≡ m.store.held
   pub rest : n ≡ record m { store = n.store; goals = record m.goals { goals = n.goals.goals }; told = n.told }
 
--- all goals can step by the clauses that they have, and hang on what they wait for
+-- all goals stand as they can, and hang on what they wait for
 abbrev pub AllSettled : Program → Machine → Type 0
 AllSettled program m = (f : Reading) → Knows program.loaded f → AreSettled f m.store.hooks m.store.held program m.shoens.shoens m.goals.goals
 

@@ -10,7 +10,7 @@ pub use Rattle.std.proofs.lemmas.Map.Keys.{IsStrictlyIncreasing-dedup}
 pub use Rattle.std.proofs.lemmas.Option.{MatchOption-at_some, slice_get-get_or}
 pub use Rattle.std.proofs.lemmas.Result.{IfOk-weaker}
 pub use Rattle.std.specs.List.{dedup}
-pub use Rattle.std.specs.Prelude.{Contains, MatchOption, option_copied}
+pub use Rattle.std.specs.Prelude.{Contains, MatchOption, option_copied, slice_get}
 pub use Rattle.std.specs.Vec.{vec_len}
 pub use Rattle.kl1_model.proofs.ControlStays.{control_stays}
 pub use Rattle.kl1_model.proofs.LookStays.{substitutes_stay}
@@ -31,16 +31,22 @@ pub use Rattle.kl1_store.specs.Later.{bound_since}
 pub use Rattle.kl1_clause.specs.Clauses.{AreCompiled}
 pub use Rattle.kl1_clause.specs.Predicates.{AreSome, FoundAs}
 pub use Rattle.kl1_clause.specs.declared.predicate.Predicate.{Predicate}
-pub use Rattle.kl1_codes.specs.Finding.{Finds}
+pub use Rattle.kl1_codes.specs.Finding.{Asks, Finds}
 pub use Rattle.kl1_codes.specs.Shelves.{with_last}
 pub use Rattle.kl1_stream.specs.Controls.{control_as}
 pub use Rattle.kl1_stream.specs.declared.control.Control.{Control}
-pub use Rattle.kl1_stream.specs.declared.control.Control.TheVariants.{Awaits, BreaksOff, Ends, Tells, TellsOther}
+pub use Rattle.kl1_stream.specs.declared.control.Control.TheVariants.{Awaits}
 pub use Rattle.kl1_shoen.specs.Shoens.{is_enabled_at}
 pub use Rattle.kl1_match.specs.declared.place.Place.{Place}
+pub use Rattle.kl1_goals.specs.Readies.{clause_in}
+pub use Rattle.kl1_goals.specs.declared.standing.Standing.{Standing}
+pub use Rattle.kl1_goals.specs.declared.standing.Standing.TheVariants.{Commits, Waits}
 pub use Rattle.kl1_goals_moves.proofs.Hooked.{hangs_on_same}
+pub use Rattle.kl1_goals_moves.proofs.JudgedStays.{does_stays, substitute_does_stays}
 pub use Rattle.kl1_goals_moves.specs.Calls.{call_at}
-pub use Rattle.kl1_goals_moves.specs.Moves.{HasPredicate, IsJudged, IsMove, MoveIn, MovesAs, taken_places}
+pub use Rattle.kl1_goals_moves.specs.Judged.{DoesAs, IsCalling, SubstituteDoes}
+pub use Rattle.kl1_goals_moves.specs.Kinds.{IsCall}
+pub use Rattle.kl1_goals_moves.specs.Moves.{HasPredicate, IsMove, MoveIn, MovesAs, taken_places}
 pub use Rattle.kl1_goals_moves.specs.Orders.{order_at}
 pub use Rattle.kl1_goals_moves.specs.Standing.{StandsAs}
 pub use Rattle.kl1_goals_moves.specs.Substitutes.{SubstituteMoves, SubstituteStands, move_by_clause, substitute_move_of}
@@ -48,15 +54,13 @@ pub use Rattle.kl1_goals_moves.specs.declared.call.Call.{Call}
 pub use Rattle.kl1_goals_moves.specs.declared.kind.Kind.TheVariants.{Calls}
 pub use Rattle.kl1_goals_moves.specs.declared.moves.Move.{Move}
 pub use Rattle.kl1_user_effects.proofs.Lists.{all_then}
-pub use Rattle.kl1_user_effects.proofs.States.{aim_later, found_in, found_shoen_in, kind_at}
-pub use Rattle.kl1_user_effects.proofs.Swapping.{same_name}
-pub use Rattle.kl1_user_effects.proofs.Words.{AreNames, AreShoensIn, Bool, Cell, CellName, Clause, ExecuteArguments, Goal, Grown, HangsOnEach, Held, Hook, IsFormed, IsIn, IsKind, IsOrder, IsPermutation, IsSettled, IsTaskIn, Kind, Knows, List, Made, Module, Monitor, None, Numbered, Option, Program, Qualified, Reading, Reads, Reduces, Replacement, Rules, Shoen, Some, Substitutes, Task, Term, Variable, [], aim, among_contains, ap, arguments_of, arith, awaited_by_task, built, contains_among, contents, control_of, control_with, drop, eq-eqb, eqb-true, false, get_or, if◌then◌else◌, inl, inr, is_among, is_monitor, is_monitor_task, length, map, meaning, ne_eqb, option_map, qualified_term, reading_fits, reading_of, refl, rules, shoen_in, shoen_with, subst, suc, sym, task_clause, task_with, text_of, true, worked, ℕ, ◌&&◌, ◌++◌, ◌==◌, ◌||◌, ◌∙◌, ◌∷◌, ◌≡◌}
+pub use Rattle.kl1_user_effects.proofs.States.{aim_is, aim_later, found_in, found_shoen_in, kind_at}
+pub use Rattle.kl1_user_effects.proofs.Words.{AreNames, AreShoensIn, Bool, Cell, CellName, Clause, ExecuteArguments, Goal, Grown, HangsOnEach, Held, Hook, IsFormed, IsIn, IsKind, IsOrder, IsSettled, IsTaskIn, Kind, Knows, List, Made, Module, Monitor, None, Numbered, Option, Program, Qualified, Reading, Reads, Reduces, Replacement, Rules, Shoen, Some, Substitutes, Task, TaskDoes, Term, Variable, [], aim, among_contains, ap, arguments_of, arith, awaited_by_task, built, contains_among, contents, control_of, control_with, drop, eq-eqb, eqb-true, false, get_or, if◌then◌else◌, inl, inr, is_among, is_monitor, is_monitor_task, length, map, meaning, ne_eqb, option_map, qualified_term, reading_fits, reading_of, refl, rules, shoen_in, shoen_with, subst, suc, sym, task_clause, task_with, text_of, true, worked, ℕ, ◌&&◌, ◌++◌, ◌<◌, ◌==◌, ◌||◌, ◌∙◌, ◌∷◌, ◌≡◌}
 unfoldable pub use Rattle.kl1_user_effects.proofs.Words.{path_within, term_of}
 pub use Rattle.kl1_user_effects.specs.Account.{whole}
 pub use Rattle.kl1_user_effects.specs.Installing.{shifted_by}
 pub use Rattle.kl1_user_effects.specs.Settled.{awaited_by_monitor, control_at, control_clause, front_with, monitor_clause}
 pub use Rattle.kl1_ready.specs.Plans.{CanDo, DoesNothing, IsPlan, Judges, MovesBy, ReadsBy, is_read, move_or_go}
-pub use Rattle.kl1_ready.specs.Ready.{IsHeardAt, IsReadyAt, IsReadyBy}
-pub use Rattle.kl1_ready.specs.Serving.{Serves, calls_same}
+pub use Rattle.kl1_ready.specs.Ready.{IsReadyAt, IsReadyBy}
 pub use Rattle.kl1_ready.specs.declared.planning.Plan.{Plan}
 pub use Rattle.kl1_ready.specs.declared.planning.PlannedMove.{PlannedMove}

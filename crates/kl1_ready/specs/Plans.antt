@@ -16,15 +16,16 @@ use Rattle.kl1_goals_moves.specs.Moves.{IsMove, MoveIn}
 use Rattle.kl1_goals.specs.declared.task.Task.TheVariants.{Monitor, Reduces}
 use Rattle.kl1_goals.specs.declared.goal.Goal.{Goal}
 use Rattle.kl1_goals.specs.Lists.{is_monitor}
+use Rattle.kl1_goals.specs.Readies.{clause_in}
 use Rattle.kl1_codes.specs.Finding.{contents}
 use Rattle.kl1_codes.specs.Shelves.{Program}
 use Rattle.kl1_user_effects.specs.Fitting.{Reading}
 use Rattle.kl1_user_effects.specs.Account.{meaning, task_with, aim}
 use Rattle.kl1_user_effects.specs.Works.{Made, Knows, worked}
+use Rattle.kl1_user_effects.specs.Settled.{TaskDoes}
 use Rattle.kl1_ready.specs.declared.planning.Plan.{Plan}
 use Rattle.kl1_ready.specs.declared.planning.Plan.TheVariants as plan
 use Rattle.kl1_ready.specs.declared.planning.PlannedMove.{PlannedMove}
-use Rattle.kl1_ready.specs.Serving.{Serves}
 
 -- whether a monitor reads what stands before it: it isn't a variable
 abbrev pub is_read : Control CellName → Bool
@@ -43,10 +44,11 @@ move_or_go (Some m) = m
 abbrev pub CanDo : Program → Held CellName → Made → Goal CellName → ℕ → Reading → Option Action → Type 0
 CanDo program h w g c f o = (s : State) → s.modules ≡ contents program.loaded → task_action (worked f s h w) g.shoen (task_with (meaning f h) g.task) c ≡ o
 
--- a reading of the names knows the modules, and by it a goal that has a clause by which it can step can step by that
+-- a reading of the names knows the modules, and by it a goal stands as it can
 pub record Judges (program : Program) (h : Held CellName) (g : Goal CellName) (f : Reading) : Type 0 where
   pub knows : Knows program.loaded f
-  pub judged : (x : Qualified CellName) (c : ℕ) → g.task ≡ Reduces x → g.standing ≡ Some c → term_clause program.rules (contents program.loaded) (aim f h x) ≡ Some c
+  pub judged : (x : Qualified CellName) (c : ℕ) → g.task ≡ Reduces x → clause_in g.standing ≡ Some c → term_clause program.rules (contents program.loaded) (aim f h x) ≡ Some c
+  pub does : TaskDoes program.rules (task_with (meaning f h) g.task) g.standing
 
 -- a monitor reads this
 pub record ReadsBy (program : Program) (h : Held CellName) (w : Made) (g : Goal CellName) (c : ℕ) (control : Control CellName) : Type 0 where
@@ -55,19 +57,18 @@ pub record ReadsBy (program : Program) (h : Held CellName) (w : Made) (g : Goal 
   pub does : (f : Reading) → Judges program h g f → CanDo program h w g c f (Some (reads (control_as f h control)))
 
 -- a goal that is no monitor can run this move, with what the variables of a clause's head are and the text that it uses as a name: the
--- cells are the store's, and the clauses those of the predicate that goals of its kind call
-pub record IsRunnable (program : Program) (h : Held CellName) (g : Goal CellName) (places : List (Place CellName)) (text : List ℕ) (a : PlannedMove) : Type 0 where
+-- cells are the store's
+pub record IsRunnable (h : Held CellName) (g : Goal CellName) (places : List (Place CellName)) (text : List ℕ) (a : PlannedMove) : Type 0 where
   pub reduces : is_monitor g ≡ false
   pub cell : IsIn h a.cell.cell
-  pub some : AreSome a.predicate.names.now a.predicate.clauses.now
-  pub serves : Serves program.loaded a.kind a.predicate
-  pub inside : MoveIn h a.predicate places text (Some a.made)
+  pub some : AreSome a.located.predicate.names.now a.located.predicate.clauses.now
+  pub inside : MoveIn h a.located.predicate places text (Some a.made)
 
 -- it makes this move by clause `c`
 pub record MovesBy (program : Program) (h : Held CellName) (w : Made) (g : Goal CellName) (c : ℕ) (places : List (Place CellName)) (text : List ℕ) (a : PlannedMove) : Type 0 where
-  pub runnable : IsRunnable program h g places text a
+  pub runnable : IsRunnable h g places text a
   pub move : Reading → reduction.Move
-  pub is : (f : Reading) → Judges program h g f → IsMove f h (Some (move f)) a.predicate places text (Some a.made)
+  pub is : (f : Reading) → Judges program h g f → IsMove f h (Some (move f)) a.located.predicate places text (Some a.made)
   pub does : (f : Reading) → Judges program h g f → CanDo program h w g c f (Some (moves (aim f h a.cell) (move f)))
 
 -- what a goal is to do

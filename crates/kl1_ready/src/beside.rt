@@ -1,4 +1,4 @@
-// The clauses by which goals can step when a module is loaded.
+// What goals can do when a module is loaded.
 
 ghost use Rattle.std.specs.Prelude.{◌≡◌, ℕ, ◌++◌, false, List, [], ◌∷◌, IfOk};
 ghost use Rattle.kl1_model.specs.Term.{Term};
@@ -18,83 +18,83 @@ ghost use Rattle.kl1_user_effects.specs.Kept.{IsTaskIn, AreShoensIn};
 ghost use Rattle.kl1_user_effects.specs.Works.{Knows};
 ghost use Rattle.kl1_ready.specs.Ready.{IsReadyAt};
 
-use crate::clauses::{clause_of_monitor, clause_of_substitute, ready_or_suspend};
-use kl1_clause::Predicate;
-use kl1_codes::{CodeSource, CodedModule, CodedModules};
-use kl1_goals::{Goal, Task};
-use kl1_goals_moves::{Kind, Trial, kind_of_qualified, or_none};
+use crate::call_cache::located_or_none;
+use crate::clauses::{ready_or_suspend, standing_of_monitor, standing_of_substitute};
+use kl1_codes::{CodeSource, CodedModule, CodedModules, Located};
+use kl1_goals::{Goal, Standing, Task};
+use kl1_goals_moves::{Kind, Trial, kind_of_qualified};
 use kl1_shoen::ShoenTree;
 use kl1_store::{Qualified, Store};
 use kl1_text::CellName;
 use std::alloc::AllocError;
 
-/// The clauses of the predicate that goals of a kind call, in modules or in one that is loaded; none if there is no such predicate, or they
+/// The predicate that goals of a kind call, in modules or in one that is loaded; one without clauses if there is none, or they
 /// call none.
 fn predicate_beside<'a, C: CodeSource>(
     modules: &'a CodedModules<'_, C>,
     loaded: &'a CodedModule<'_, C>,
     kind: Kind<CellName>,
-) -> Predicate<'a, CellName>
+) -> Located<'a>
     requires { is_numbered modules.now.loaded (number_of loaded.now) ≡ false }
-    ensures some { AreSome result.names.now result.clauses.now }
-    ensures has { (f : Reading) → Knows (modules.now.loaded ++ loaded.now ∷ []) f → (h : Held CellName) (t : Term) → IsKind f h t kind → HasPredicate f h (contents (modules.now.loaded ++ loaded.now ∷ [])) kind result }
+    ensures some { AreSome result.predicate.names.now result.predicate.clauses.now }
+    ensures has { (f : Reading) → Knows (modules.now.loaded ++ loaded.now ∷ []) f → (h : Held CellName) (t : Term) → IsKind f h t kind → HasPredicate f h (contents (modules.now.loaded ++ loaded.now ∷ [])) kind result.predicate }
 {
     match kind {
-        Kind::Calls(call) => or_none(modules.find_beside(
+        Kind::Calls(call) => located_or_none(modules.find_beside(
             loaded,
             call.module_name,
             call.name,
             call.count,
         )),
-        Kind::Unifies(_, _) => or_none(None),
-        Kind::Assigns(_, _) => or_none(None),
-        Kind::Spells(_, _) => or_none(None),
-        Kind::Executes(_) => or_none(None),
-        Kind::Goes => or_none(None),
-        Kind::Waits(_) => or_none(None),
-        Kind::Nothing => or_none(None),
+        Kind::Unifies(_, _) => located_or_none(None),
+        Kind::Assigns(_, _) => located_or_none(None),
+        Kind::Spells(_, _) => located_or_none(None),
+        Kind::Executes(_) => located_or_none(None),
+        Kind::Goes => located_or_none(None),
+        Kind::Waits(_) => located_or_none(None),
+        Kind::Nothing => located_or_none(None),
     }
 }
 
-/// The clause by which goal `number`, which is for a cell, can step, or none. The number is hung on each variable that the goal waits for.
-fn clause_beside<C: CodeSource>(
+/// What goal `number` can do, which is for a cell. The number is hung on each variable that the goal waits for.
+fn standing_beside<C: CodeSource>(
     store: &mut Store<CellName>,
     modules: &CodedModules<'_, C>,
     loaded: &CodedModule<'_, C>,
     trial: &mut Trial<CellName>,
     number: u64,
     cell: Qualified<CellName>,
-) -> Result<Option<u64>, AllocError>
+) -> Result<Standing, AllocError>
     requires cell { IsIn store.old.held cell.cell }
     requires new { is_numbered modules.now.loaded (number_of loaded.now) ≡ false }
-    ensures ready { IfOk result (λ clause. (shoens : List (Shoen CellName)) (shoen : ℕ) → IsReadyAt (with_last modules.now loaded.now) shoens store.old.held store.new.hooks number shoen (Reduces cell) clause) }
+    ensures ready { IfOk result (λ standing. (shoens : List (Shoen CellName)) (shoen : ℕ) → IsReadyAt (with_last modules.now loaded.now) shoens store.old.held store.new.hooks number shoen (Reduces cell) standing) }
     ensures held { store.new.held ≡ store.old.held }
     ensures grown { HasGrown store.old store.new }
 {
     let kind = kind_of_qualified(store, cell);
-    let predicate = predicate_beside(modules, loaded, kind);
-    ready_or_suspend(store, modules.rules(), kind, predicate, trial, number)
+    let located = predicate_beside(modules, loaded, kind);
+    ready_or_suspend(store, modules.rules(), kind, located, trial, number)
 }
 
-/// Like `ready_clause`, with one module more.
-pub fn ready_clause_beside<C: CodeSource>(
+/// Like `judge`, with one module more.
+pub fn judge_beside<C: CodeSource>(
     store: &mut Store<CellName>,
     shoens: &ShoenTree<CellName>,
     modules: &CodedModules<'_, C>,
     loaded: &CodedModule<'_, C>,
     trial: &mut Trial<CellName>,
     goal: &Goal<CellName>,
-) -> Result<Option<u64>, AllocError>
+) -> Result<Standing, AllocError>
     requires task { IsTaskIn store.old.held goal.now.task }
     requires shoens { AreShoensIn store.old.held shoens.now.shoens }
     requires new { is_numbered modules.now.loaded (number_of loaded.now) ≡ false }
-    ensures ready { IfOk result (λ clause. IsReadyAt (with_last modules.now loaded.now) shoens.now.shoens store.old.held store.new.hooks goal.now.number goal.now.shoen goal.now.task clause) }
+    ensures ready { IfOk result (λ standing. IsReadyAt (with_last modules.now loaded.now) shoens.now.shoens store.old.held store.new.hooks goal.now.number goal.now.shoen goal.now.task standing) }
     ensures held { store.new.held ≡ store.old.held }
     ensures grown { HasGrown store.old store.new }
 {
     match goal.task {
-        Task::Monitor => clause_of_monitor(store, shoens, goal.number, goal.shoen),
-        Task::Reduces(cell) => clause_beside(store, modules, loaded, trial, goal.number, cell),
-        Task::Substitutes(term) => clause_of_substitute(store, trial, goal.number, term),
+        Task::Monitor => standing_of_monitor(store, shoens, goal.number, goal.shoen),
+        Task::Reduces(cell) => standing_beside(store, modules, loaded, trial, goal.number, cell),
+        Task::Substitutes(term) => standing_of_substitute(store, trial, goal.number, term),
     }
 }

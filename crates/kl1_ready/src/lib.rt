@@ -1,4 +1,4 @@
-//! What an account's goals can do: the clause by which each can step, and what it is to do by one.
+//! What an account's goals can do, and what each is to do by a clause.
 #![tactic(auto)]
 
 mod beside;
@@ -7,8 +7,8 @@ mod clauses;
 mod looking;
 mod planning;
 
-pub use beside::ready_clause_beside;
+pub use beside::judge_beside;
 pub use call_cache::{CallCache, predicate_of};
-pub use clauses::ready_clause;
+pub use clauses::judge;
 pub use looking::{enable_each, may_step, put_in_order};
 pub use planning::{Plan, PlannedMove, plan_of};

@@ -1,5 +1,5 @@
 -- The variables that goals wait for.
-use Rattle.kl1_user_account.proofs.Words.{◌≡◌, ℕ, List, [], refl, sym, ap, subst, ◌∙◌, Option, Some, None, option_map, Contains, Term, Module, Reads, CellName, Cell, Qualified, Held, qualified_term, Predicate, AreSame, same_as_itself, Kind, IsKind, HasPredicate, StandsAs, Task, Monitor, Reduces, Substitutes, Goal, has_number, Shoen, shoen_in, contents, Program, AreListedOf, AreAwaited, awaited_by_goal, Reading, built, Account, program_of, meaning, aim, task_with, shoen_with, state_of, Knows, control_at, control_with, front_with, awaited_by_monitor, awaited_by_task, kind_at, found_in, AwaitsMessage, Awaits, ListsAwaited, no_control}
+use Rattle.kl1_user_account.proofs.Words.{◌≡◌, ℕ, List, [], refl, sym, ap, subst, ◌∙◌, Option, Some, None, option_map, Contains, Term, Module, Reads, CellName, Cell, Qualified, Held, qualified_term, Predicate, AreSame, same_as_itself, Kind, IsKind, HasPredicate, Standing, StandsAs, Task, Monitor, Reduces, Substitutes, Goal, has_number, Shoen, shoen_in, contents, Program, AreListedOf, AreAwaited, awaited_by_goal, Reading, built, Account, program_of, meaning, aim, task_with, shoen_with, state_of, Knows, control_at, control_with, front_with, awaited_by_monitor, awaited_by_task, kind_at, found_in, AwaitsMessage, Awaits, ListsAwaited, no_control}
 use Rattle.std.specs.List.{find}
 use Rattle.kl1_model.specs.State as model
 use Rattle.kl1_user_events.specs.Viewing as shown
@@ -20,12 +20,12 @@ monitor_awaits program shoens h n s vs e awaits = λ f knows.
     subst S is (awaits f knows.reads)
 
 -- what a goal of a kind waits for
-pub goal_awaits : (program : Program) (h : Held CellName) (x : Qualified CellName) (kind : Kind CellName) (p : Predicate CellName) (vs : List ℕ) (clause : Option ℕ) →
+pub goal_awaits : (program : Program) (h : Held CellName) (x : Qualified CellName) (kind : Kind CellName) (p : Predicate CellName) (vs : List ℕ) (s : Standing) →
     ((f : Reading) → Reads built f → IsKind f h (qualified_term f h x) kind) →
     ((f : Reading) → Knows program.loaded f → (k : Held CellName) (t : Term) → IsKind f k t kind → HasPredicate f k (contents program.loaded) kind p) →
-    ((f : Reading) → Reads built f → (modules : List Module) (t : Term) → IsKind f h t kind → HasPredicate f h modules kind p → StandsAs program.rules modules t vs clause) →
+    ((f : Reading) → Reads built f → (modules : List Module) (t : Term) → IsKind f h t kind → HasPredicate f h modules kind p → StandsAs program.rules modules t vs s) →
     (shoens : List (Shoen CellName)) (n : ℕ) → Awaits program shoens h n (Reduces x) vs
-goal_awaits program h x kind p vs clause is has stands shoens n = λ f knows.
+goal_awaits program h x kind p vs s is has stands shoens n = λ f knows.
     let k = kind_at f h x kind (is f knows.reads) in
     (stands f knows.reads (contents program.loaded) (aim f h x) k (has f knows h (aim f h x) k)).awaits
 

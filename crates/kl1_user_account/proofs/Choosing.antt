@@ -1,5 +1,5 @@
 -- The first goal that can step, found one goal after another.
-use Rattle.kl1_user_account.proofs.Words.{◌≡◌, ℕ, ◌==◌, nat_lt, ◌&&◌, ◌||◌, Bool, true, false, not, if◌then◌else◌, List, [], ◌∷◌, map, refl, sym, ap, ◌∙◌, subst, arith, ◌⊎◌, inl, inr, Option, Some, None, option_map, option_and_then, is_some, filter, find, ⊤, list_any, AllByRecursion, cases_Bool, false≢true, nat_tests, State, Term, call_of, Control, awaits_message, tells, tells_other, ends, breaks_off, control_of, goal_look, Found, found, awaits, wrong, Move, moves, term_move, read_action, task_action, move_by, look_clause, call_clauses, has_runs, task_clauses, clause_for, can_step, quiet, goes_before, first_of_goals, Chosen, first, is_first, is_in_run, substitute_move, monitor_action, chosen, Hook, CellName, Task, Monitor, Reduces, Substitutes, Goal, Ready, stands, ready_by, ready_of, better, first_from, Shoen, shoen_in, contents, Reading, Fits, Account, program_of, Means, meaning, aim_with, goal_with, task_with, shoen_with, state_of, front_with, control_with, control_clause, monitor_clause, task_clause, IsSettled, AreSettled, IsEnabled, AreEnabled, found_in, enabled_read, IsKept}
+use Rattle.kl1_user_account.proofs.Words.{◌≡◌, ℕ, ◌==◌, nat_lt, ◌&&◌, ◌||◌, Bool, true, false, not, if◌then◌else◌, List, [], ◌∷◌, map, refl, sym, ap, ◌∙◌, subst, arith, ◌⊎◌, inl, inr, Option, Some, None, option_map, option_and_then, is_some, filter, find, ⊤, list_any, AllByRecursion, cases_Bool, false≢true, nat_tests, State, Term, call_of, Control, awaits_message, tells, tells_other, ends, breaks_off, control_of, goal_look, Found, found, awaits, wrong, Move, moves, term_move, read_action, task_action, move_by, look_clause, call_clauses, has_runs, task_clauses, clause_for, can_step, quiet, goes_before, first_of_goals, Chosen, first, is_first, is_in_run, substitute_move, monitor_action, chosen, Hook, CellName, Task, Monitor, Reduces, Substitutes, Goal, Ready, clause_in, stands, ready_by, ready_of, better, first_from, Shoen, shoen_in, contents, Reading, Fits, Account, program_of, Means, meaning, aim_with, goal_with, task_with, shoen_with, state_of, front_with, control_with, control_clause, monitor_clause, task_clause, IsSettled, AreSettled, IsEnabled, AreEnabled, found_in, enabled_read, IsKept}
 use Rattle.kl1_model.specs.State as model
 use Rattle.kl1_goals.specs.Readies.{chosen as chosen_pair}
 use Rattle.kl1_goals.proofs.Ranking.{standing_in, stands_is}
@@ -106,7 +106,7 @@ AreStanding s t goals = AllByRecursion (IsStanding s t) goals
 ready_is : (g : Goal CellName) → ready_of g ≡ option_map (ready_by g) (standing_in g)
 ready_is g = by_case g.is_enabled
   where
-    by_case : (b : Bool) → (if b then option_map (ready_by g) g.standing else None) ≡ option_map (ready_by g) (if b then g.standing else None)
+    by_case : (b : Bool) → (if b then option_map (ready_by g) (clause_in g.standing) else None) ≡ option_map (ready_by g) (if b then clause_in g.standing else None)
     by_case true = refl
     by_case false = refl
 
@@ -202,7 +202,7 @@ one_stands f a hooks g settled enabled =
     (enabled_read f a.held a.shoens a.work (state_of f a) g refl refl enabled)
     ∙ by_case g.is_enabled
   where
-    by_case : (b : Bool) → find (λ c. is_some (if b then task_action (state_of f a) g.shoen (task_with (meaning f a.held) g.task) c else None)) (task_clauses (contents a.modules) (task_with (meaning f a.held) g.task)) ≡ (if b then g.standing else None)
+    by_case : (b : Bool) → find (λ c. is_some (if b then task_action (state_of f a) g.shoen (task_with (meaning f a.held) g.task) c else None)) (task_clauses (contents a.modules) (task_with (meaning f a.held) g.task)) ≡ (if b then clause_in g.standing else None)
     by_case true = clause_found f a g.shoen g.task ∙ sym settled.standing
     by_case false = find_none (task_clauses (contents a.modules) (task_with (meaning f a.held) g.task))
 

@@ -10,7 +10,7 @@ use Rattle.kl1_user_account.proofs.Machines.{Aside, account_of, program_in, Bega
 settled_by : (f : Reading) (hooks : List Hook) (h : Held CellName) (rules : Rules) (ms ns : List Numbered) (ss : List (Shoen CellName)) (gs : List (Goal CellName)) → contents ms ≡ contents ns → AreSettled f hooks h (record { rules = rules; loaded = ms }) ss gs → AreSettled f hooks h (record { rules = rules; loaded = ns }) ss gs
 settled_by f hooks h rules ms ns ss gs e a =
     all_then (IsSettled f hooks h (record { rules = rules; loaded = ms }) ss) (IsSettled f hooks h (record { rules = rules; loaded = ns }) ss)
-    (λ x one. record { standing = rw e at one.standing; hung = rw e at one.hung }) gs a
+    (λ x one. record { standing = rw e at one.standing; does = one.does; hung = rw e at one.hung }) gs a
 
 -- an event began, which loads this module: all goals were looked at again, and the module's names were published
 pub record IsLoaded (e : Began) (source : List ℕ) (d : Numbered) (r : Machine) (names : NameShelf) (row : List CellName) : Type 0 where

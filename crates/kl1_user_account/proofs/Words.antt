@@ -59,7 +59,8 @@ pub use Rattle.kl1_store.specs.Unbound.{IsUnbound}
 pub use Rattle.kl1_store.specs.declared.head.Head.{Head}
 pub use Rattle.kl1_shoen_paths.proofs.Numbered.{found_at}
 pub use Rattle.kl1_goals.specs.Lists.{has_number}
-pub use Rattle.kl1_goals.specs.Readies.{Ready, better, first_from, ready_by, ready_of, stands}
+pub use Rattle.kl1_goals.specs.declared.standing.Standing.{Standing}
+pub use Rattle.kl1_goals.specs.Readies.{Ready, better, clause_in, first_from, ready_by, ready_of, stands}
 pub use Rattle.kl1_codes.proofs.Names.{number_reads}
 pub use Rattle.kl1_codes.proofs.Placing.{placed_more, placed_still}
 pub use Rattle.kl1_codes.specs.Finding.{TellsModule, is_numbered}

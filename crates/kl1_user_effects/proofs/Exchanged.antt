@@ -1,5 +1,5 @@
 -- Readings by which a spare number stands for a name that another number has, and goals that are read as the same.
-use Rattle.kl1_user_effects.proofs.Words.{◌≡◌, ℕ, ◌<◌, ◌==◌, ◌^◌, ◌⊎◌, List, [], ◌∷◌, ◌++◌, map, sym, ap, ap₂, ◌∙◌, subst, inl, inr, arith, bytes_eq, Option, Some, None, option_map, cases_Bool, bytes_eq-Decides, map-append, Control, control_of, shoen_at, place_of, built_in_of, place-below, CellName, Known, number_in, number_by, Adds, option_cases, adds_one, still_known, Hook, Held, Goal, Shoen, shoen_in, contents, Program, HangsOnEach, Reading, Fits, Means, meaning, task_with, goal_with, shoen_with, texts_of, AreSmall, spare, control_with, task_clause, awaited_by_task, AreSettled, exchanged, AreNames, IsSome, built_in_at, eqb-true, marked_fits, marked_reading, place_found, refl, text_by, text_in}
+use Rattle.kl1_user_effects.proofs.Words.{◌≡◌, ℕ, ◌<◌, ◌==◌, ◌^◌, ◌⊎◌, List, [], ◌∷◌, ◌++◌, map, sym, ap, ap₂, ◌∙◌, subst, inl, inr, arith, bytes_eq, Option, Some, None, option_map, cases_Bool, bytes_eq-Decides, map-append, Control, control_of, shoen_at, place_of, built_in_of, place-below, CellName, Known, number_in, number_by, Adds, option_cases, adds_one, still_known, Hook, Held, Goal, Shoen, shoen_in, contents, Program, HangsOnEach, Reading, Fits, Means, meaning, task_with, goal_with, shoen_with, texts_of, AreSmall, spare, control_with, task_clause, awaited_by_task, AreSettled, TaskDoes, exchanged, AreNames, IsSome, built_in_at, eqb-true, marked_fits, marked_reading, place_found, refl, text_by, text_in}
 use Rattle.kl1_model.specs.State as model
 use Rattle.kl1_user_effects.proofs.Swapping.{same_name, number_test, swap_first, exchange_fits}
 use Rattle.kl1_user_effects.proofs.KnownTexts.{not_known}
@@ -87,12 +87,13 @@ pub settled_alike : (f g : Reading) (hooks : List Hook) (h k : Held CellName) (p
     AreSettled f hooks h program ss gs → AreSettled g hooks k program ss gs
 settled_alike f g hooks h k program ss [] shoens goals s = tt
 settled_alike f g hooks h k program ss (x ∷ gs) shoens goals s =
+    let ms = contents program.loaded in
     let first : goal_with (meaning f h) x ≡ goal_with (meaning g k) x = cc in
     let rest : map (goal_with (meaning f h)) gs ≡ map (goal_with (meaning g k)) gs = cc in
     let front : control_with (meaning f h) ss x.shoen ≡ control_with (meaning g k) ss x.shoen =
     control_read (meaning f h) ss x.shoen ∙ ap (λ (hs : List model.Shoen). front_of (shoen_at x.shoen hs)) shoens ∙ sym (control_read (meaning g k) ss x.shoen) in
     let task : task_with (meaning f h) x.task ≡ task_with (meaning g k) x.task = ap (λ (y : model.Goal). y.task) first in (
-      record { standing = s.0.standing ∙ ap₂ (task_clause program.rules (contents program.loaded)) front task; hung = subst (HangsOnEach hooks x.number) (ap₂ (awaited_by_task program.rules (contents program.loaded)) front task) s.0.hung },
+      record { standing = s.0.standing ∙ ap₂ (task_clause program.rules ms) front task; does = subst (λ t. TaskDoes program.rules t x.standing) task s.0.does; hung = subst (HangsOnEach hooks x.number) (ap₂ (awaited_by_task program.rules ms) front task) s.0.hung },
       settled_alike f g hooks h k program ss gs shoens rest s.1,
     )
 

@@ -5,7 +5,7 @@ pub use Rattle.std.proofs.Math.Nat.{max-le, min-le_right}
 pub use Rattle.std.proofs.lemmas.Bool.{cases_Bool, cases_lt, eq-eqb, eqb-false, eqb-true, false_from_ne_true, false≢true, le-leb, le-ltb, leb-false, leb-true, lt-leb, lt-ltb, ne_eqb, or_cases, or_from, or_parts}
 pub use Rattle.std.proofs.lemmas.Bool.Decides.{same_from_decides}
 pub use Rattle.std.proofs.lemmas.List.{append-nil, append_assoc, get_or-take, get_or_default, length-map, length_push, map-append, take-append-drop, take_all, take_more}
-pub use Rattle.std.proofs.lemmas.List.Elements.{Contains-append_left, Contains-append_right, filter-append}
+pub use Rattle.std.proofs.lemmas.List.Elements.{Contains-append_left, Contains-append_right}
 pub use Rattle.std.proofs.lemmas.List.Folds.{list_any-append}
 pub use Rattle.std.proofs.lemmas.List.Sorted.{Contains-permutation, IsNonDecreasingBy-from_sort, searched}
 pub use Rattle.std.proofs.lemmas.List.Sums.{sum_by-cons}
@@ -119,7 +119,7 @@ pub use Rattle.kl1_user_effects.specs.Moving.{priorities_by}
 pub use Rattle.kl1_user_effects.specs.Naming.{AreNumbersOf, AreSmall, Grows, Keeps, ReadsDraft}
 pub use Rattle.kl1_user_effects.specs.Outlines.{KeepsOthers, KeepsOutlines, outline}
 pub use Rattle.kl1_user_effects.specs.Reports.{unheard}
-pub use Rattle.kl1_user_effects.specs.Settled.{AreSettled, IsSettled, awaited_by_task, control_with, task_clause}
+pub use Rattle.kl1_user_effects.specs.Settled.{AreSettled, IsSettled, TaskDoes, awaited_by_task, control_with, task_clause}
 pub use Rattle.kl1_user_effects.specs.Shelving.{AreKnown, known_of}
 pub use Rattle.kl1_user_effects.specs.Walks.{EndsLives, EndsOne, ended_in, ending_in, ends_in, reached_in, terminated}
 pub use Rattle.kl1_user_effects.specs.Wholes.{IsWhole}

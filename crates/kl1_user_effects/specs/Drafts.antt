@@ -6,6 +6,7 @@ use Rattle.kl1_store.specs.declared.qualified.Qualified.{Qualified}
 use Rattle.kl1_goals.specs.declared.task.Task.{Task}
 use Rattle.kl1_goals.specs.declared.task.Task.TheVariants.{Reduces}
 use Rattle.kl1_goals.specs.declared.goal.Goal.{Goal}
+use Rattle.kl1_goals.specs.declared.standing.Standing.TheVariants.{Waits}
 
 -- whether a goal, be it a monitor, is of one of these shoens
 abbrev pub is_of_any : List ℕ → Goal CellName → Bool
@@ -18,7 +19,7 @@ names_with names (Some text) = names ++ text ∷ []
 
 -- a goal of a shoen with this number, priority and task, which can't step as yet
 abbrev pub goal_at : ℕ → ℕ → ℕ → Task CellName → Goal CellName
-goal_at n shoen priority task = record { number = n; task = task; shoen = shoen; priority = priority; standing = None; is_enabled = false }
+goal_at n shoen priority task = record { number = n; task = task; shoen = shoen; priority = priority; standing = Waits; is_enabled = false }
 
 -- goals for cells, with the numbers after the last, in a shoen, each with its priority; none can step as yet
 abbrev pub goals_for : ℕ → ℕ → List ℕ → List (Qualified CellName) → List (Goal CellName)

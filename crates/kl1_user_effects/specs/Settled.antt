@@ -14,6 +14,9 @@ use Rattle.kl1_store.specs.declared.cell.Cell.{Cell}
 use Rattle.kl1_store.specs.Hooks.{Hook}
 use Rattle.kl1_store.specs.Held.{Held}
 use Rattle.kl1_goals.specs.declared.goal.Goal.{Goal}
+use Rattle.kl1_goals_moves.specs.Judged.{DoesAs, SubstituteDoes}
+use Rattle.kl1_goals.specs.declared.standing.Standing.{Standing}
+use Rattle.kl1_goals.specs.Readies.{clause_in}
 use Rattle.kl1_goals.specs.Lists.{is_monitor}
 use Rattle.kl1_shoen_paths.specs.declared.shoen.Shoen.{Shoen}
 use Rattle.kl1_shoen.specs.Shoens.{shoen_in, is_enabled_at}
@@ -65,10 +68,17 @@ awaited_by_task rules modules c monitor = awaited_by_monitor c
 awaited_by_task rules modules c (reduces t) = awaited_by_term rules modules t
 awaited_by_task rules modules c (substitutes t) = awaited_by_substitute t
 
+-- a task that stands so is of this form; of a monitor's nothing is said
+abbrev pub TaskDoes : Rules → model.Task → Standing → Type 0
+TaskDoes rules monitor s = Unit {0}
+TaskDoes rules (reduces t) s = DoesAs rules t s
+TaskDoes rules (substitutes t) s = SubstituteDoes t s
+
 -- a goal stands as the rules, the clauses of the modules and the control streams of the shoens have it, and hangs on each variable that it
 -- waits for, for a reading
 pub record IsSettled (f : Reading) (hooks : List Hook) (h : Held CellName) (program : Program) (shoens : List (Shoen CellName)) (g : Goal CellName) : Type 0 where
-  pub standing : g.standing ≡ task_clause program.rules (contents program.loaded) (control_with (meaning f h) shoens g.shoen) (task_with (meaning f h) g.task)
+  pub standing : clause_in g.standing ≡ task_clause program.rules (contents program.loaded) (control_with (meaning f h) shoens g.shoen) (task_with (meaning f h) g.task)
+  pub does : TaskDoes program.rules (task_with (meaning f h) g.task) g.standing
   pub hung : HangsOnEach hooks g.number (awaited_by_task program.rules (contents program.loaded) (control_with (meaning f h) shoens g.shoen) (task_with (meaning f h) g.task))
 
 -- each goal does

@@ -80,7 +80,7 @@ impl Machine {
         place: usize,
         trial: &mut Trial<CellName>,
         cells: &mut Vec<Qualified<CellName>>,
-        goal: Goal<CellName>,
+        goal: &Goal<CellName>,
         cell: Qualified<CellName>,
     ) -> Result<(), AllocError>
         requires machine { IsMachine self.old }
@@ -88,14 +88,14 @@ impl Machine {
         requires predicate { AreSome predicate.names.now predicate.clauses.now }
         requires places { AreThere self.old.store.held (taken_places trial.old) }
         requires cell { IsIn self.old.store.held cell.cell }
-        requires owned { IsOwned (length self.old.shoens.shoens) goal }
-        requires level { goal.priority ≤ MONITOR_PRIORITY }
-        ensures ok { OnOk result (Commits (record { predicate = predicate.entry; place = place; places = taken_places trial.old }) goal cell self.old self.new) }
+        requires owned { IsOwned (length self.old.shoens.shoens) goal.now }
+        requires level { goal.now.priority ≤ MONITOR_PRIORITY }
+        ensures ok { OnOk result (Commits (record { predicate = predicate.entry; place = place; places = taken_places trial.old }) goal.now cell self.old self.new) }
         ensures since { (b : Machine) → Since b self.old → StillSince result b self.new }
     {
         let needs = needs_of(predicate, place);
         if !self.has_room(needs) {
-            return self.raise(goal, BuiltIn::Exhaustion, cell);
+            return self.raise(*goal, BuiltIn::Exhaustion, cell);
         }
         // Only for the proof: the shoens are numbered in order.
         let _numbered = self.shoens.len();

@@ -17,7 +17,7 @@ ghost use Rattle.kl1_user_effects.specs.Drafts.{goal_at};
 ghost use Rattle.kl1_machine.specs.Effects.{Puts, Becomes, Charges, any_reached, having_goals, having_shoens, shifting_shoens, with_shoen};
 
 use crate::machine::Machine;
-use kl1_goals::{Goal, Task};
+use kl1_goals::{Goal, Standing, Task};
 use kl1_model::Life;
 use kl1_shoen::Shoen;
 use kl1_store::Cell;
@@ -47,7 +47,7 @@ impl Machine {
             task,
             shoen,
             priority,
-            standing: None,
+            standing: Standing::Waits,
             is_enabled: false,
         })?;
         self.counts.last_goal = number;

@@ -11,7 +11,7 @@ ghost use Rattle.kl1_machine.specs.Rescheduling.{Wakes, Reschedules, AllSettled,
 use crate::machine::Machine;
 use kl1_codes::{CodeSource, CodedModule, CodedModules};
 use kl1_goals_moves::Trial;
-use kl1_ready::ready_clause_beside;
+use kl1_ready::judge_beside;
 use kl1_text::CellName;
 use std::alloc::AllocError;
 
@@ -32,18 +32,11 @@ impl Machine {
         let Some(goal) = self.goals.get(number) else {
             return Ok(());
         };
-        let clause = ready_clause_beside(
-            &mut self.store,
-            &self.shoens,
-            modules,
-            loaded,
-            trial,
-            &goal,
-        )?;
-        self.goals.set_standing(number, clause)
+        let standing = judge_beside(&mut self.store, &self.shoens, modules, loaded, trial, &goal)?;
+        self.goals.set_standing(number, standing)
     }
 
-    /// Looks at all goals, with one module more: each gets the clause by which it can step then.
+    /// Looks at all goals, with one module more: each gets what it can do then.
     pub fn reschedule_for_load<C: CodeSource>(
         &mut self,
         modules: &CodedModules<'_, C>,

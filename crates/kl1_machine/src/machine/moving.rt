@@ -32,7 +32,7 @@ impl Machine {
         made: Move<CellName>,
         trial: &mut Trial<CellName>,
         cells: &mut Vec<Qualified<CellName>>,
-        goal: Goal<CellName>,
+        goal: &Goal<CellName>,
         cell: Qualified<CellName>,
     ) -> Result<(), AllocError>
         requires machine { IsMachine self.old }
@@ -40,23 +40,23 @@ impl Machine {
         requires predicate { AreSome predicate.names.now predicate.clauses.now }
         requires inside { MoveIn self.old.store.held predicate (taken_places trial.old) trial.old.text (Some made) }
         requires cell { IsIn self.old.store.held cell.cell }
-        requires owned { IsOwned (length self.old.shoens.shoens) goal }
-        requires level { goal.priority ≤ MONITOR_PRIORITY }
-        ensures ok { OnOk result (MovesAs (record { predicate = predicate.entry; move = made; places = taken_places trial.old; text = trial.old.text }) goal cell self.old self.new) }
+        requires owned { IsOwned (length self.old.shoens.shoens) goal.now }
+        requires level { goal.now.priority ≤ MONITOR_PRIORITY }
+        ensures ok { OnOk result (MovesAs (record { predicate = predicate.entry; move = made; places = taken_places trial.old; text = trial.old.text }) goal.now cell self.old self.new) }
         ensures since { (b : Machine) → Since b self.old → StillSince result b self.new }
     {
         match made {
             Move::Commits(place) => self.commit(predicate, place, trial, cells, goal, cell),
-            Move::Raises(kind) => self.raise(goal, kind, cell),
+            Move::Raises(kind) => self.raise(*goal, kind, cell),
             Move::Unifies(left, right) => match unify(&mut self.store, left, right)? {
                 Unified::Bound => Ok(()),
-                Unified::Clash => self.raise(goal, BuiltIn::Failure, cell),
+                Unified::Clash => self.raise(*goal, BuiltIn::Failure, cell),
             },
             Move::Names(_target) => unreachable!(),
             Move::Opens(structure) => {
                 // Only for the proof: which order the structure is.
                 let _order = order_at(&self.store, structure);
-                self.open_child(structure, goal, cell)
+                self.open_child(structure, *goal, cell)
             }
             Move::Goes => Ok(()),
             Move::GivesWay => self.put(goal.shoen, goal.priority, Task::Reduces(cell)),

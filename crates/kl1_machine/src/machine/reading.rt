@@ -16,7 +16,7 @@ use kl1_user_effects::PathScan;
 use std::alloc::AllocError;
 
 impl Machine {
-    /// `monitor`, the number of the monitor of a shoen, reads this, and after that shoens terminate; nobody is charged. What `scan` holds after it is of no use.
+    /// `monitor`, the number of the monitor of a shoen, reads this, and then shoens terminate; nobody is charged. What `scan` holds after it is of no use.
     pub fn read(
         &mut self,
         scan: &mut PathScan,

@@ -75,7 +75,7 @@ impl Machine {
             Err(refusal) => return Ok(Some(refusal)),
             Ok(goal) => goal,
         };
-        let Some(plan) = plan_of(&self.store, &self.shoens, modules, trial, goal, clause)? else {
+        let Some(plan) = plan_of(&self.store, &self.shoens, modules, trial, &goal, clause)? else {
             return Ok(Some(Refusal::Step));
         };
         if is_full {
@@ -91,13 +91,13 @@ impl Machine {
             }
             Plan::Moves(planned) => {
                 self.remove(goal.number)?;
-                let predicate = planned.predicate;
+                let located = planned.located;
+                let predicate = located.predicate;
                 let (made, cell) = (planned.made, planned.cell);
-                self.step_goal(scan, predicate, made, trial, cells, goal, cell)?;
+                self.step_goal(scan, predicate, made, trial, cells, &goal, cell)?;
                 let calls = CallCache {
                     modules,
-                    known: planned.kind,
-                    predicate,
+                    hint: located.place,
                 };
                 self.reschedule(&calls, trial, goal.shoen)?;
                 Ok(None)

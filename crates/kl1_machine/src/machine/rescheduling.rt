@@ -8,13 +8,12 @@ ghost use Rattle.kl1_machine.specs.declared.machine.Machine.{Machine};
 ghost use Rattle.kl1_machine.specs.Machines.{IsMachine, IsBegun, Keeps};
 ghost use Rattle.kl1_machine.specs.Since.{Since};
 ghost use Rattle.kl1_machine.specs.Rested.{IsRested};
-ghost use Rattle.kl1_ready.specs.Serving.{IsServed};
 ghost use Rattle.kl1_machine.specs.Rescheduling.{Wakes, Schedules, Shifts, all_told, Reschedules, LetsStill};
 
 use crate::machine::Machine;
 use kl1_codes::{CodeSource, CodedModules};
-use kl1_goals_moves::{Kind, Trial};
-use kl1_ready::{CallCache, enable_each, may_step, predicate_of, put_in_order, ready_clause};
+use kl1_goals_moves::Trial;
+use kl1_ready::{CallCache, enable_each, judge, may_step, put_in_order};
 use kl1_text::CellName;
 use std::alloc::AllocError;
 
@@ -33,7 +32,7 @@ impl Machine {
         Ok(())
     }
 
-    /// Looks at goal `number`, if it is there: it gets the clause by which it can step.
+    /// Looks at goal `number`, if it is there: it gets what it can do.
     fn wake<C: CodeSource>(
         &mut self,
         calls: &CallCache<'_, '_, C>,
@@ -41,15 +40,14 @@ impl Machine {
         number: u64,
     ) -> Result<(), AllocError>
         requires machine { IsMachine self.old }
-        requires served { IsServed calls.now.modules.now.loaded calls.now.known calls.now.predicate }
         ensures ok { OnOk result (Wakes calls.now.modules.now (number ∷ []) self.old self.new) }
         ensures keeps { (b : Machine) → Keeps b self.old → Keeps b self.new }
     {
         let Some(goal) = self.goals.lend(number) else {
             return Ok(());
         };
-        let clause = ready_clause(&mut self.store, &self.shoens, calls, trial, goal)?;
-        self.goals.set_standing(number, clause)
+        let standing = judge(&mut self.store, &self.shoens, calls, trial, goal)?;
+        self.goals.set_standing(number, standing)
     }
 
     /// Looks at the goals that are told, monitors too.
@@ -59,7 +57,6 @@ impl Machine {
         trial: &mut Trial<CellName>,
     ) -> Result<(), AllocError>
         requires machine { IsMachine self.old }
-        requires served { IsServed calls.now.modules.now.loaded calls.now.known calls.now.predicate }
         ensures ok { OnOk result (Wakes calls.now.modules.now self.old.told.items self.old self.new) }
         ensures keeps { (b : Machine) → Keeps b self.old → Keeps b self.new }
     {
@@ -70,7 +67,7 @@ impl Machine {
         Ok(())
     }
 
-    /// Looks at goal `number`, if it is there: it gets the clause by which it can step, and may step if its shoen lets it. Shoen `running`
+    /// Looks at goal `number`, if it is there: it gets what it can do, and may step if its shoen lets it. Shoen `running`
     /// is known to let its goals step.
     fn schedule<C: CodeSource>(
         &mut self,
@@ -80,7 +77,6 @@ impl Machine {
         number: u64,
     ) -> Result<(), AllocError>
         requires machine { IsMachine self.old }
-        requires served { IsServed calls.now.modules.now.loaded calls.now.known calls.now.predicate }
         requires lets { is_enabled_at self.old.shoens.shoens self.old.shoens.work running ≡ true }
         ensures ok { (n : ℕ) → number ≡ suc n → OnOk result (Schedules calls.now.modules.now n number self.old self.new) }
         ensures keeps { (b : Machine) → Keeps b self.old → Keeps b self.new }
@@ -88,12 +84,12 @@ impl Machine {
         let Some(goal) = self.goals.lend(number) else {
             return Ok(());
         };
-        let clause = ready_clause(&mut self.store, &self.shoens, calls, trial, goal)?;
+        let standing = judge(&mut self.store, &self.shoens, calls, trial, goal)?;
         let is_enabled = may_step(&self.shoens, running, goal);
-        self.goals.look(number, clause, is_enabled)
+        self.goals.look(number, standing, is_enabled)
     }
 
-    /// Looks at the goals that came since the event began, up to goal `last`: each gets the clause by which it can step, and may step if its
+    /// Looks at the goals that came since the event began, up to goal `last`: each gets what it can do, and may step if its
     /// shoen lets it. Shoen `running` is known to let its goals step.
     fn schedule_new<C: CodeSource>(
         &mut self,
@@ -103,7 +99,6 @@ impl Machine {
         last: u64,
     ) -> Result<(), AllocError>
         requires machine { IsMachine self.old }
-        requires served { IsServed calls.now.modules.now.loaded calls.now.known calls.now.predicate }
         requires lets { is_enabled_at self.old.shoens.shoens self.old.shoens.work running ≡ true }
         ensures ok { OnOk result (Schedules calls.now.modules.now self.old.begun.last_goal last self.old self.new) }
         ensures keeps { (b : Machine) → Keeps b self.old → Keeps b self.new }
@@ -149,7 +144,6 @@ impl Machine {
         running: u64,
     ) -> Result<(), AllocError>
         requires machine { IsMachine self.old }
-        requires served { IsServed calls.now.modules.now.loaded calls.now.known calls.now.predicate }
         requires lets { LetsStill running self.old }
         ensures ok { OnOk result (Reschedules self.old self.new) }
         ensures rested { (b : Machine) → IsBegun b → Since b self.old → IsRested calls.now.modules.now b → OnOk result (IsRested calls.now.modules.now self.new) }
@@ -163,7 +157,7 @@ impl Machine {
         self.shift()
     }
 
-    /// Ends an event as `reschedule` does, with no clauses looked up before, and no shoen known that lets its goals step.
+    /// Ends an event as `reschedule` does, with no place known where a predicate may stand, and no shoen known that lets its goals step.
     pub(crate) fn reschedule_anew<C: CodeSource>(
         &mut self,
         modules: &CodedModules<'_, C>,
@@ -174,11 +168,7 @@ impl Machine {
         ensures rested { (b : Machine) → IsBegun b → Since b self.old → IsRested modules.now b → OnOk result (IsRested modules.now self.new) }
         ensures keeps { Keeps self.old self.new }
     {
-        let calls = CallCache {
-            modules,
-            known: Kind::Nothing,
-            predicate: predicate_of(modules, Kind::Nothing),
-        };
+        let calls = CallCache { modules, hint: 0 };
         self.reschedule(&calls, trial, 0)
     }
 }

@@ -33,7 +33,7 @@ impl Machine {
         made: Move<CellName>,
         trial: &mut Trial<CellName>,
         cells: &mut Vec<Qualified<CellName>>,
-        goal: Goal<CellName>,
+        goal: &Goal<CellName>,
         cell: Qualified<CellName>,
     ) -> Result<(), AllocError>
         requires machine { IsMachine self.old }
@@ -42,11 +42,11 @@ impl Machine {
         requires predicate { AreSome predicate.names.now predicate.clauses.now }
         requires inside { MoveIn self.old.store.held predicate (taken_places trial.old) trial.old.text (Some made) }
         requires cell { IsIn self.old.store.held cell.cell }
-        requires owned { IsOwned (length self.old.shoens.shoens) goal }
-        requires level { goal.priority ≤ MONITOR_PRIORITY }
-        requires lets { is_enabled_at self.old.shoens.shoens self.old.shoens.work goal.shoen ≡ true }
+        requires owned { IsOwned (length self.old.shoens.shoens) goal.now }
+        requires level { goal.now.priority ≤ MONITOR_PRIORITY }
+        requires lets { is_enabled_at self.old.shoens.shoens self.old.shoens.work goal.now.shoen ≡ true }
         requires few { length self.old.shoens.work + 1 < 2 ^ 63 }
-        ensures ok { OnOk result (StepsAs (record { predicate = predicate.entry; move = made; places = taken_places trial.old; text = trial.old.text }) goal cell self.old self.new) }
+        ensures ok { OnOk result (StepsAs (record { predicate = predicate.entry; move = made; places = taken_places trial.old; text = trial.old.text }) goal.now cell self.old self.new) }
         ensures since { (b : Machine) → length self.old.shoens.work ≤ length b.shoens.work → Since b self.old → StillSince result b self.new }
     {
         self.charge(goal.shoen)?;

@@ -1,24 +1,32 @@
 // What goals can do by the clauses of a code.
 
-ghost use Rattle.std.specs.Prelude.{◌<◌, length, IfSome};
+ghost use Rattle.std.specs.Prelude.{◌<◌, length, IfOk, IfSome};
+ghost use Rattle.kl1_store.specs.Held.{IsIn};
 ghost use Rattle.kl1_clause.specs.Predicates.{AreSome};
 ghost use Rattle.kl1_match.specs.Instances.{AreThere};
-ghost use Rattle.kl1_goals_moves.specs.Moves.{taken_places};
+ghost use Rattle.kl1_goals_moves.specs.Moves.{taken_places, MoveIn};
 ghost use Rattle.kl1_goals_moves.specs.Kinds.{KindIn};
 
 use crate::matching::heads::{behind_colon, cell_of, put_numbers};
 use crate::matching::printed_cells::{push_arguments, put_cells, put_goals};
 use kl1_clause::{Code, Predicate};
-use kl1_goals_moves::{Kind, Move, Trial, commit, kind_of, move_of, or_none, standing_of};
+use kl1_goals::Standing;
+use kl1_goals_moves::{
+    Kind, Move, Trial, call_at, commit, commit_as_judged, kind_of, move_as_judged, move_of,
+    or_none, standing_of,
+};
 use kl1_model::{BuiltIn, Rules};
 use kl1_read::read_goal;
-use kl1_store::{Cell, Store};
+use kl1_store::{Cell, Qualified, Store};
 use kl1_term::Term;
 use kl1_tests_rows::Text;
 use kl1_text::{AtomText, NameValue, put_atom};
 use std::alloc::AllocError;
 
-/// By which rules goals are tried, and whether they count as judged: each is asked for by the least clause by which it can step.
+/// Where the predicate of a goal is said to stand, which has to be told of it when it commits.
+const PLACE: u64 = 7;
+
+/// By which rules goals are tried, and whether as judged ones, by how they stand, or by the least clause by which they can step.
 #[derive(Clone, Copy)]
 struct How {
     rules: Rules,
@@ -85,7 +93,7 @@ fn put_all(
     goals: &[Cell<AtomText>],
 ) -> Result<(), AllocError> {
     for goal in goals {
-        put_move(answer, store, code, how, *goal)?;
+        put_move(answer, store, code, how, goal)?;
     }
     Ok(())
 }
@@ -107,7 +115,8 @@ fn put_kind(answer: &mut Text, kind: &Kind<AtomText>) {
 
 /// What kind of goal a cell is, if it is one of the store.
 fn kind_in<N: NameValue>(store: &Store<N>, goal: Cell<N>) -> Option<Kind<N>>
-    ensures { IfSome result (KindIn store.now.held) }
+    ensures inside { IfSome result (λ kind. IsIn store.now.held goal) }
+    ensures kind { IfSome result (KindIn store.now.held) }
 {
     if !store.holds(goal) {
         return None;
@@ -134,10 +143,10 @@ fn put_move(
     store: &mut Store<AtomText>,
     code: &Code,
     how: How,
-    goal: Cell<AtomText>,
+    goal: &Cell<AtomText>,
 ) -> Result<(), AllocError> {
-    match kind_in(store, goal) {
-        Some(kind) => put_of_kind(answer, store, code, how, &kind),
+    match kind_in(store, *goal) {
+        Some(kind) => put_of_kind(answer, store, code, how, goal, &kind),
         None => Err(AllocError),
     }
 }
@@ -148,20 +157,16 @@ fn put_of_kind(
     store: &mut Store<AtomText>,
     code: &Code,
     how: How,
+    goal: &Cell<AtomText>,
     kind: &Kind<AtomText>,
 ) -> Result<(), AllocError>
-    requires { KindIn store.old.held kind.now }
+    requires goal { IsIn store.old.held goal.now }
+    requires kind { KindIn store.old.held kind.now }
 {
     put_kind(answer, kind);
     let mut trial = Trial::new(answer.alloc);
-    put_tried(
-        answer,
-        store,
-        how,
-        kind,
-        predicate_of(code, kind),
-        &mut trial,
-    )
+    let predicate = predicate_of(code, kind);
+    put_tried(answer, store, how, goal, kind, predicate, &mut trial)
 }
 
 /// Puts the variables that a goal of a kind waits for, or what it does, with a trial for what is tried.
@@ -169,25 +174,58 @@ fn put_tried(
     answer: &mut Text,
     store: &mut Store<AtomText>,
     how: How,
+    goal: &Cell<AtomText>,
     kind: &Kind<AtomText>,
     predicate: Predicate<'_, AtomText>,
     trial: &mut Trial<AtomText>,
 ) -> Result<(), AllocError>
+    requires goal { IsIn store.old.held goal.now }
     requires kind { KindIn store.old.held kind.now }
     requires predicate { AreSome predicate.names.now predicate.clauses.now }
 {
     let tried = *kind;
-    match standing_of(store, how.rules, tried, predicate, trial)? {
-        Some(clause) => {
-            let moved = *kind;
-            put_done(answer, store, how, moved, predicate, clause, trial)
-        }
-        None => {
-            answer.put(b" waits");
-            put_numbers(answer, trial.awaited.as_slice());
-            Ok(())
-        }
+    let standing = standing_of(store, how.rules, tried, predicate, PLACE, trial)?;
+    let Some(clause) = standing.clause() else {
+        answer.put(b" waits");
+        put_numbers(answer, trial.awaited.as_slice());
+        return Ok(());
+    };
+    let made = if how.is_judged {
+        move_judged(store, how.rules, *goal, predicate, standing, trial)?
+    } else {
+        let moved = *kind;
+        move_of(store, how.rules, moved, predicate, clause, trial)?
+    };
+    put_done(answer, store, predicate, clause, made, trial)
+}
+
+/// What a goal does that was judged and stands so, or nothing if another place is told of its predicate than was said.
+fn move_judged(
+    store: &Store<AtomText>,
+    rules: Rules,
+    goal: Cell<AtomText>,
+    predicate: Predicate<'_, AtomText>,
+    standing: Standing,
+    trial: &mut Trial<AtomText>,
+) -> Result<Option<Move<AtomText>>, AllocError>
+    requires goal { IsIn store.now.held goal }
+    requires predicate { AreSome predicate.names.now predicate.clauses.now }
+    ensures { IfOk result (MoveIn store.now.held predicate.entry (taken_places trial.new) trial.new.text) }
+{
+    let whole = Qualified {
+        module_name: None,
+        cell: goal,
+    };
+    let Standing::Commits(number, place) = standing else {
+        return Ok(move_as_judged(store, rules, whole, standing, trial));
+    };
+    let Some(call) = call_at(store, whole) else {
+        return Ok(None);
+    };
+    if place != PLACE {
+        return Ok(None);
     }
+    commit_as_judged(store, call, predicate, number, trial)
 }
 
 /// Puts the kind of an exception that a goal raises.
@@ -222,22 +260,20 @@ fn put_opened(
     put_cells(answer, store, &[Cell::Structure(structure)])
 }
 
-/// Puts what a goal of a kind does by clause `clause`: the clause and the goals of its body, the terms that it unifies,
-/// the name that it uses, the shoen that it opens, the kind of the exception that it raises, or a word.
+/// Puts what a goal does by clause `clause`: the clause and the goals of its body, the terms that it unifies, the name that it
+/// uses, the shoen that it opens, the kind of the exception that it raises, or a word.
 fn put_done(
     answer: &mut Text,
     store: &mut Store<AtomText>,
-    how: How,
-    kind: Kind<AtomText>,
     predicate: Predicate<'_, AtomText>,
     clause: u64,
+    made: Option<Move<AtomText>>,
     trial: &mut Trial<AtomText>,
 ) -> Result<(), AllocError>
-    requires kind { KindIn store.old.held kind }
     requires predicate { AreSome predicate.names.now predicate.clauses.now }
+    requires inside { MoveIn store.old.held predicate (taken_places trial.old) trial.old.text made }
 {
-    let How { rules, is_judged } = how;
-    match move_of(store, rules, kind, predicate, clause, is_judged, trial)? {
+    match made {
         None => answer.fail(),
         Some(Move::Raises(kind)) => put_raised(answer, kind)?,
         Some(Move::Goes) => answer.put(b" goes"),

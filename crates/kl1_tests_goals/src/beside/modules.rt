@@ -1,7 +1,7 @@
 // Modules by the numbers of their names, and what is found in them.
 
 use kl1_clause::{Code, Predicate};
-use kl1_codes::{CodeSource, CodedModule, CodedModules, Loaded, Modules, PlainCodes};
+use kl1_codes::{CodeSource, CodedModule, CodedModules, Loaded, Located, Modules, PlainCodes};
 use kl1_model::Rules;
 use kl1_tests_rows::Text;
 use kl1_text::CellName;
@@ -88,19 +88,32 @@ fn load_both(seen: &mut Text, codes: &mut PlainCodes, modules: &mut Modules<Plai
     load(seen, codes, modules, SECOND, &[name(75), name(71)]);
 }
 
+/// Puts how many variables the head of each clause of a predicate has.
+fn put_clauses(seen: &mut Text, predicate: Predicate<'_, CellName>) {
+    for clause in predicate.clauses {
+        seen.put(b" ");
+        seen.put_number(clause.head_variables);
+    }
+}
+
 /// Puts how many variables the head of each clause of a predicate has, and after a colon the numbers of its code's names;
 /// `none` if no predicate was found.
 fn put_found(seen: &mut Text, found: Option<Predicate<'_, CellName>>) {
     match found {
         None => seen.put(b" none"),
         Some(predicate) => {
-            for clause in predicate.clauses {
-                seen.put(b" ");
-                seen.put_number(clause.head_variables);
-            }
+            put_clauses(seen, predicate);
             seen.put(b":");
             put_names(seen, predicate.names);
         }
+    }
+}
+
+/// Puts a predicate that was found among modules, or `none`.
+fn put_located(seen: &mut Text, found: Option<Located<'_>>) {
+    match found {
+        None => put_found(seen, None),
+        Some(located) => put_found(seen, Some(located.predicate)),
     }
 }
 
@@ -120,9 +133,9 @@ fn put_find(
     predicate: u64,
     count: usize,
 ) {
-    put_found(
+    put_located(
         seen,
-        modules.find(name(module_name), name(predicate), count),
+        modules.find(name(module_name), name(predicate), count, 0),
     );
 }
 
@@ -142,13 +155,67 @@ pub fn see_finds(seen: &mut Text) {
     put_find(seen, &modules, 71, 71, 1);
 }
 
-/// Puts whether a module of a name is there.
-fn put_has(seen: &mut Text, modules: &Modules<PlainCodes>, name: CellName) {
-    if modules.has(name) {
+/// Puts `yes` or `no`.
+fn put_answer(seen: &mut Text, answer: bool) {
+    if answer {
         seen.put(b" yes");
     } else {
         seen.put(b" no");
     }
+}
+
+/// Puts the clauses of a predicate that is looked for first at the place that a hint says, and whether it stands at another place.
+fn put_hinted(
+    seen: &mut Text,
+    modules: &CodedModules<'_, PlainCodes>,
+    module_name: u64,
+    predicate: u64,
+    count: usize,
+    hint: u64,
+    place: u64,
+) {
+    match modules.find(name(module_name), name(predicate), count, hint) {
+        None => seen.put(b" none"),
+        Some(located) => {
+            put_clauses(seen, located.predicate);
+            put_answer(seen, located.place == place);
+        }
+    }
+}
+
+/// Puts a predicate that is looked for by its own place, the next one, the first two of all, and one that no module has; and each
+/// time whether it stands at its own.
+fn put_by_hints(
+    seen: &mut Text,
+    modules: &CodedModules<'_, PlainCodes>,
+    module_name: u64,
+    predicate: u64,
+    count: usize,
+) {
+    let place = match modules.find(name(module_name), name(predicate), count, 0) {
+        None => 0,
+        Some(located) => located.place,
+    };
+    for hint in [place, place.wrapping_add(1), 0, 1, u64::MAX] {
+        put_hinted(seen, modules, module_name, predicate, count, hint, place);
+    }
+}
+
+/// Predicates that are looked for by right and by wrong hints.
+pub fn see_hints(seen: &mut Text) {
+    let mut codes = PlainCodes::new(seen.alloc);
+    let mut loaded = Modules::new(seen.alloc);
+    load_both(seen, &mut codes, &mut loaded);
+    let modules = CodedModules::over(Rules::Three, &loaded, &codes);
+    put_by_hints(seen, &modules, 70, 71, 2);
+    put_by_hints(seen, &modules, 70, 73, 1);
+    put_by_hints(seen, &modules, 75, 71, 2);
+    put_by_hints(seen, &modules, 70, 72, 1);
+}
+
+/// Puts whether a module of a name is there.
+fn put_has(seen: &mut Text, modules: &Modules<PlainCodes>, name: CellName) {
+    put_answer(seen, modules.has(name));
 }
 
 /// Puts the number of the module at a place, or `none`.
@@ -189,7 +256,7 @@ fn put_beside(
     }
     let coded = CodedModules::over(Rules::Three, modules, codes);
     let draft = CodedModule::over(draft, codes);
-    put_found(
+    put_located(
         seen,
         coded.find_beside(&draft, module_name, name(71), count),
     );
@@ -208,7 +275,7 @@ fn put_draft(
     put_beside(seen, codes, modules, draft, name(70), 1);
     put_beside(seen, codes, modules, draft, name(75), 2);
     put_has(seen, modules, spare);
-    put_found(seen, modules.find(codes, spare, name(71), 2));
+    put_located(seen, modules.find(codes, spare, name(71), 2, 0));
 }
 
 /// Puts what is found of modules and a draft with a spare number beside them.
@@ -228,6 +295,50 @@ pub fn see_draft(seen: &mut Text) {
     see_beside(seen, &mut codes, &modules);
 }
 
+/// The place of the predicate 71 of two arguments in module 75, which is a draft beside modules; a place that no module has, if it isn't
+/// found.
+fn place_beside(
+    codes: &PlainCodes,
+    modules: &Modules<PlainCodes>,
+    draft: &Loaded<PlainCodes>,
+) -> u64 {
+    if modules.has(draft.number()) {
+        return u64::MAX;
+    }
+    let coded = CodedModules::over(Rules::Three, modules, codes);
+    let draft = CodedModule::over(draft, codes);
+    match coded.find_beside(&draft, name(75), name(71), 2) {
+        None => u64::MAX,
+        Some(located) => located.place,
+    }
+}
+
+/// Puts a draft after modules, and whether its predicate stands where it stood in the draft.
+fn put_published(
+    seen: &mut Text,
+    codes: &PlainCodes,
+    modules: &mut Modules<PlainCodes>,
+    draft: Loaded<PlainCodes>,
+) {
+    let place = place_beside(codes, modules, &draft);
+    let done = put_module(modules, draft);
+    seen.note(done);
+    let coded = CodedModules::over(Rules::Three, modules, codes);
+    put_hinted(seen, &coded, 75, 71, 2, 0, place);
+    put_hinted(seen, &coded, 75, 71, 2, place, place);
+}
+
+/// A predicate of a draft stands at the same place when the draft is one of the modules.
+pub fn see_published(seen: &mut Text) {
+    let mut codes = PlainCodes::new(seen.alloc);
+    let mut modules = Modules::new(seen.alloc);
+    load_first(seen, &mut codes, &mut modules);
+    match loaded_of(seen.alloc, &mut codes, SECOND, &[name(75), name(71)]) {
+        Ok(draft) => put_published(seen, &codes, &mut modules, draft),
+        Err(_refused) => seen.fail(),
+    }
+}
+
 /// Puts other numbers in place of those of a module, if there are as many.
 fn renumber(
     seen: &mut Text,
@@ -242,10 +353,19 @@ fn renumber(
     }
 }
 
+/// Puts the predicate of a module with a name and two arguments.
+fn put_own(seen: &mut Text, module: &CodedModule<'_, PlainCodes>, name: CellName) {
+    match module.find(name, 2) {
+        None => put_found(seen, None),
+        Some((_row, predicate)) => put_found(seen, Some(predicate)),
+    }
+}
+
 /// Puts the predicates of a module by the name that was its second at first, and by another.
 fn put_by_names(seen: &mut Text, codes: &PlainCodes, draft: &Loaded<PlainCodes>, spare: CellName) {
-    put_found(seen, draft.find(codes, spare, 2));
-    put_found(seen, draft.find(codes, name(71), 2));
+    let module = CodedModule::over(draft, codes);
+    put_own(seen, &module, spare);
+    put_own(seen, &module, name(71));
 }
 
 /// Puts what is found of a module before and after its names have new numbers.

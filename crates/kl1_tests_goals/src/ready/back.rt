@@ -7,7 +7,7 @@ use crate::ready::goals::{
     are_found, filled, goal, is_first, is_goal, is_monitor, is_quiet, put_goal,
 };
 use crate::ready::turns::{counts, in_turn};
-use kl1_goals::{Goal, GoalTable};
+use kl1_goals::{Goal, GoalTable, Standing};
 use kl1_text::AtomNo;
 use std::alloc::{AllocError, Global};
 
@@ -16,8 +16,8 @@ fn stand_and_begin(table: &mut GoalTable<AtomNo>) -> Result<(), AllocError>
     ensures last { OnOk result (table.new.last ≡ table.old.last) }
     ensures shoens { OnOk result (table.new.shoens ≡ table.old.shoens) }
 {
-    table.set_standing(2, Some(3))?;
-    table.set_standing(7, Some(1))?;
+    table.set_standing(2, Standing::Commits(3, 0))?;
+    table.set_standing(7, Standing::Commits(1, 0))?;
     table.begin();
     Ok(())
 }
@@ -33,8 +33,8 @@ fn begin_and_put(table: &mut GoalTable<AtomNo>) -> Result<(), AllocError>
 
 /// Does each thing more that an event does.
 fn change(table: &mut GoalTable<AtomNo>) -> Result<(), AllocError> {
-    table.set_standing(7, None)?;
-    table.look(8, Some(2), true)?;
+    table.set_standing(7, Standing::Waits)?;
+    table.look(8, Standing::Commits(2, 0), true)?;
     table.open()?;
     table.remove(2)?;
     table.remove_monitor(2)?;

@@ -2,31 +2,32 @@
 
 ghost use Rattle.std.specs.Prelude.{◌≡◌, ◌<◌, ◌++◌, ◌∷◌, true, [], None, IfOk, OnOk};
 ghost use Rattle.kl1_goals.specs.declared.task.Task.TheVariants.{Monitor, Reduces};
+ghost use Rattle.kl1_goals.specs.declared.standing.Standing.TheVariants.{Waits};
 ghost use Rattle.kl1_store.specs.declared.cell.Cell.TheVariants.{Integer};
 ghost use Rattle.kl1_goals.specs.Tables.{IsNext};
 
-use kl1_goals::{Goal, GoalTable, Task};
+use kl1_goals::{Goal, GoalTable, Standing, Task};
 use kl1_store::{Cell, Qualified};
 use kl1_text::AtomNo;
 use std::alloc::{AllocError, Global};
 
 /// The monitor of a shoen.
 fn monitor(number: u64, shoen: u64) -> Goal<AtomNo>
-    ensures { result ≡ record { number = number; task = Monitor; shoen = shoen; priority = 4096; standing = None; is_enabled = true } }
+    ensures { result ≡ record { number = number; task = Monitor; shoen = shoen; priority = 4096; standing = Waits; is_enabled = true } }
 {
     Goal {
         number,
         task: Task::Monitor,
         shoen,
         priority: 4096,
-        standing: None,
+        standing: Standing::Waits,
         is_enabled: true,
     }
 }
 
 /// A goal of a shoen with a priority, whose term is an integer.
 pub(crate) fn goal(number: u64, shoen: u64, priority: u64, term: i64) -> Goal<AtomNo>
-    ensures { result ≡ record { number = number; task = Reduces (record { module_name = None; cell = Integer term }); shoen = shoen; priority = priority; standing = None; is_enabled = true } }
+    ensures { result ≡ record { number = number; task = Reduces (record { module_name = None; cell = Integer term }); shoen = shoen; priority = priority; standing = Waits; is_enabled = true } }
 {
     Goal {
         number,
@@ -36,7 +37,7 @@ pub(crate) fn goal(number: u64, shoen: u64, priority: u64, term: i64) -> Goal<At
         }),
         shoen,
         priority,
-        standing: None,
+        standing: Standing::Waits,
         is_enabled: true,
     }
 }
@@ -173,19 +174,19 @@ pub(crate) fn is_quiet(table: &GoalTable<AtomNo>) -> bool {
 pub fn the_greatest_priority_then_the_least_number(alloc: Global) -> Result<bool, AllocError> {
     let mut table = filled(alloc)?;
     let none = is_quiet(&table);
-    table.set_standing(2, Some(3))?;
+    table.set_standing(2, Standing::Commits(3, 0))?;
     let one = is_first(&table, 2, 3);
-    table.set_standing(7, Some(1))?;
+    table.set_standing(7, Standing::Commits(1, 0))?;
     let greater = is_first(&table, 7, 1);
-    table.set_standing(4, Some(2))?;
+    table.set_standing(4, Standing::Commits(2, 0))?;
     let lesser = is_first(&table, 4, 2);
-    table.set_standing(5, Some(1))?;
-    let monitor = is_first(&table, 5, 1);
-    table.set_standing(5, None)?;
+    table.set_standing(5, Standing::Reads)?;
+    let monitor = is_first(&table, 5, 0);
+    table.set_standing(5, Standing::Waits)?;
     let back = is_first(&table, 4, 2);
     table.remove(4)?;
     let next = is_first(&table, 7, 1);
-    table.set_standing(7, None)?;
+    table.set_standing(7, Standing::Waits)?;
     let last = is_first(&table, 2, 3);
     table.remove(2)?;
     Ok(none & one & greater & lesser & monitor & back & next & last & is_quiet(&table))
@@ -217,17 +218,17 @@ pub fn ends_of_shoens_are_seen(alloc: Global) -> Result<bool, AllocError> {
 /// Whether goals of a shoen can't step until they are let, and monitors can.
 pub fn goals_wait_until_they_are_let(alloc: Global) -> Result<bool, AllocError> {
     let mut table = filled(alloc)?;
-    table.set_standing(2, Some(3))?;
-    table.set_standing(7, Some(1))?;
+    table.set_standing(2, Standing::Commits(3, 0))?;
+    table.set_standing(7, Standing::Commits(1, 0))?;
     let all = is_first(&table, 7, 1);
     table.enable(2, false)?;
     let one = is_first(&table, 2, 3);
-    table.set_standing(5, Some(1))?;
-    let monitor = is_first(&table, 5, 1);
-    table.set_standing(5, None)?;
+    table.set_standing(5, Standing::Reads)?;
+    let monitor = is_first(&table, 5, 0);
+    table.set_standing(5, Standing::Waits)?;
     table.enable(1, false)?;
     let none = is_quiet(&table);
-    table.set_standing(4, Some(2))?;
+    table.set_standing(4, Standing::Commits(2, 0))?;
     let held = is_quiet(&table);
     table.enable(1, true)?;
     table.enable(2, true)?;
@@ -243,8 +244,8 @@ pub fn goals_of_a_shoen_are_removed(alloc: Global) -> Result<bool, AllocError> {
     let one = table.count(2) == 1;
     let unknown = (table.count(0) == 0) & (table.count(4) == 0);
     let counts = (table.alive() == 3) & two & one & unknown;
-    table.set_standing(4, Some(2))?;
-    table.set_standing(7, Some(1))?;
+    table.set_standing(4, Standing::Commits(2, 0))?;
+    table.set_standing(7, Standing::Commits(1, 0))?;
     table.remove_all(1)?;
     table.remove_all(3)?;
     let left = is_monitor(table.after(0), 5, 2)

@@ -3,7 +3,7 @@
 ghost use Rattle.std.specs.Prelude.{◌≡◌, ◌≤◌};
 
 use crate::ready::goals::{goal, is_first, is_quiet, of_three, put_goal};
-use kl1_goals::GoalTable;
+use kl1_goals::{GoalTable, Standing};
 use kl1_text::AtomNo;
 use std::alloc::{AllocError, Global};
 
@@ -26,7 +26,7 @@ pub(crate) fn in_turn(alloc: Global, count: u64) -> Result<GoalTable<AtomNo>, Al
     let mut table = of_three(alloc)?;
     put_in_turn(&mut table, count)?;
     for number in 1..count + 1 {
-        table.set_standing(number, Some(1))?;
+        table.set_standing(number, Standing::Commits(1, 0))?;
     }
     Ok(table)
 }

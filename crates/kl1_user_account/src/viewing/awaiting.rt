@@ -70,8 +70,9 @@ fn await_as_goal<C: CodeSource>(
     ensures { OnOk result ((shoens : List (Shoen CellName)) (shoen : ℕ) → Awaits modules.now shoens store.now.held shoen (Reduces cell) trial.new.awaited.items) }
 {
     let kind = kind_of_qualified(store, cell);
-    let predicate = predicate_of(modules, kind);
-    let _standing = standing_of(store, modules.rules(), kind, predicate, trial)?;
+    let located = predicate_of(modules, kind, 0);
+    let (rules, predicate) = (modules.rules(), located.predicate);
+    let _standing = standing_of(store, rules, kind, predicate, located.place, trial)?;
     Ok(())
 }
 

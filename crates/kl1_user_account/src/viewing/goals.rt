@@ -30,7 +30,7 @@ fn view_of(goal: &Goal<CellName>) -> GoalView
         shoen: ShoenNo(goal.shoen),
         priority: goal.priority,
         task: kind_of(goal.task),
-        can_step: goal.is_enabled && goal.standing.is_some(),
+        can_step: goal.is_enabled && goal.standing.clause().is_some(),
     }
 }
 

@@ -1,16 +1,21 @@
 use Rattle.std.proofs.Common.{[], ◌∷◌, ◌++◌, ap, ◌∙◌}
-use Rattle.std.proofs.lemmas.Result.{IfOk-weaker}
 use Rattle.kl1_goals_moves.specs.declared.look.Look.TheVariants as look
-use Rattle.kl1_goals_moves.proofs.Taking.{are_clauses, kind_executes, kind_stands}
+use Rattle.kl1_goals_moves.specs.declared.spelling.Spelling.TheVariants as spelling
+use Rattle.kl1_goals_moves.proofs.Taking.{are_clauses}
+use Rattle.kl1_goals_moves.proofs.Standings.{kind_executes, kind_spells, kind_stands}
 use Rattle.kl1_goals_moves.proofs.standing.standing_of.Goals as goal
 
 pub choose-requires-clause-clauses : goal.choose-requires-clause-clauses
 choose-requires-clause-clauses g c = are_clauses c.args.predicate.names.now c.args.predicate.clauses.now c.requires.predicate
 
-pub returns-in-Calls-clause-standing : goal.returns-in-Calls-clause-standing
-returns-in-Calls-clause-standing g c =
-    IfOk-weaker c.choose.result _ _ (λ choice e. λ f r modules t k p.
-    kind_stands g.N.NameValue.built f c.args.store.now.held c.args.rules modules t c.args.kind c.in-Calls.call c.cell.result c.args.predicate c.clear.new.self.items c.choose.new.awaited.items choice r c.in-Calls.is c.cell.ensures c.clear.ensures.items e k p) c.choose.ensures.choice
+pub returns-in_ok-clause-in-Calls-clause-standing : goal.returns-in_ok-clause-in-Calls-clause-standing
+returns-in_ok-clause-in-Calls-clause-standing g c = λ f r modules t k p.
+    kind_stands g.N.NameValue.built f c.args.store.now.held c.args.rules modules t c.args.kind c.in-Calls.call c.cell.result c.args.predicate c.clear.new.self.items c.choose.new.awaited.items c.in_ok-clause-in-Calls.clause c.args.place c.called.result r
+    c.in-Calls.is c.cell.ensures c.clear.ensures.items c.in_ok-clause-in-Calls.ensures.choice k p c.called.ensures
+
+pub returns-in-Spelled-clause-standing : goal.returns-in-Spelled-clause-standing
+returns-in-Spelled-clause-standing g c = λ f r modules t k p.
+    kind_spells f c.args.store.now.held c.args.rules modules t c.args.kind c.in-Spells.codes c.in-Spells.field-1 spelling.Spelled c.spell.new.text c.clear.new.self.items c.in-Spells.is (c.in-Spelled.ensures.spelling f r) c.clear.ensures.items k
 
 pub returns-in-Right-clause-standing : goal.returns-in-Right-clause-standing
 returns-in-Right-clause-standing g c = λ f r modules t k p.

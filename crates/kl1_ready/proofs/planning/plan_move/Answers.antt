@@ -1,34 +1,18 @@
-use Rattle.kl1_ready.proofs.Words.{ap, ◌∙◌, subst, option_map, moves, move_by, is_monitor_task, MovesAs, taken_places, contents, aim, kind_at}
-use Rattle.kl1_ready.proofs.Plans.{goal_does, judged_by, move_found}
+use Rattle.kl1_ready.proofs.Words.{◌≡◌, List, [], CellName, Made, Place, Predicate, taken_places, contents}
+use Rattle.kl1_ready.proofs.Plans.{judged_as, IsFound, goal_found, nothing_found, move_found, no_predicate}
+use Rattle.kl1_ready.proofs.planning.plan_move.Goals.{After-move_as_judged}
 use Rattle.kl1_ready.proofs.planning.plan_move.Goals as goal
 
-pub returns-in_default : goal.returns-in_default
-returns-in_default g c w rules f judges s is =
-    let h = c.args.store.now.held in
-    let ms = c.args.modules.now in
-    let t = aim f h c.args.cell in
-    let p = c.predicate_of-predicate in
-    let k = kind_at f h c.args.cell c.kind_of_qualified-kind.result (c.kind_of_qualified-kind.ensures.kind f judges.knows.reads) in
-    goal_does ms h w c.args.clause c.args.goal f c.args.cell rules c.requires.reduces s is
-    ∙ ap (option_map (moves t))
-    (subst (MovesAs f h ms.rules (contents ms.loaded) t c.args.clause p.result (taken_places c.move_of.new.trial) c.move_of.new.trial.text) c.in_default.is
-    (rw c.rules-rules.ensures at (c.in_ok-made.ensures.moves f judges.knows.reads (contents ms.loaded) t k (p.ensures.has f judges.knows h t k) (judged_by c.args.cell c.args.clause c.stands_by-is_judged.result c.rules-rules.ensures c.requires.reduces c.stands_by-is_judged.ensures judges))))
+-- what was found is what the goal can do
+found : (g : _) (c : After-move_as_judged g) (w : Made) (p : Predicate CellName) (places : List (Place CellName)) → w.rules ≡ c.args.modules.now.rules →
+    IsFound c.args.modules.now c.args.store.now.held w c.args.goal.now c.args.clause places c.move_as_judged.new.trial.text c.args.cell p c.move_as_judged.result
+found g c w p places rules = goal_found (record { rules = rules; task = c.requires.reduces; cell = c.requires.cell }) (c.move_as_judged.ensures.inside p places) (λ f judges.
+    let by = c.stands_by.ensures c.if-not-stands_by.false in
+    let j = judged_as c.args.cell c.args.clause c.rules.ensures c.requires.reduces by judges in
+    rw c.rules.ensures at (c.move_as_judged.ensures.moves f judges.knows.reads c.in_default.not-Commits j.0 (contents c.args.modules.now.loaded) c.args.clause by j.1 p places))
+
+pub returns-in_default-move_as_judged : goal.returns-in_default-move_as_judged
+returns-in_default-move_as_judged g c w rules = nothing_found c.in_default-move_as_judged.is (found g (goal.at.returns-in_default-move_as_judged g c).After-move_as_judged w no_predicate [] rules)
 
 pub returns : goal.returns
-returns g c w rules =
-    let h = c.args.store.now.held in
-    let ms = c.args.modules.now in
-    let x = c.args.cell in
-    let p = c.predicate_of-predicate in
-    move_found _ c.in-Some.is
-    (record {
-      reduces = ap is_monitor_task c.requires.reduces;
-      cell = c.requires.cell;
-      inside = c.in_ok-made.ensures.inside;
-      move = λ f. move_by ms.rules (contents ms.loaded) (aim f h x) c.args.clause;
-      is = λ f judges.
-          let k = kind_at f h x c.kind_of_qualified-kind.result (c.kind_of_qualified-kind.ensures.kind f judges.knows.reads) in
-          rw c.rules-rules.ensures at (c.in_ok-made.ensures.moves f judges.knows.reads (contents ms.loaded) (aim f h x) k (p.ensures.has f judges.knows h (aim f h x) k) (judged_by x c.args.clause c.stands_by-is_judged.result c.rules-rules.ensures c.requires.reduces c.stands_by-is_judged.ensures judges));
-      does = λ f judges. goal_does ms h w c.args.clause c.args.goal f x rules c.requires.reduces;
-    })
-    p.ensures.some p.ensures.serves
+returns g c w rules = move_found _ c.in-Some.is (found g (goal.at.returns g c).After-move_as_judged w c.located_or_none.result.predicate (taken_places c.move_as_judged.new.trial) rules) c.located_or_none.ensures.some

@@ -14,4 +14,4 @@ pub plan_substitute-requires-clause-cell : goal.plan_substitute-requires-clause-
 plan_substitute-requires-clause-cell g c = subst (λ t. IsTaskIn c.args.store.now.held t) c.in-Substitutes.is c.requires.task
 
 pub returns-in-Substitutes : goal.returns-in-Substitutes
-returns-in-Substitutes g c w rules shoens = c.plan_substitute.ensures w (taken_places c.args.trial.now) c.args.trial.now.text
+returns-in-Substitutes g c w rules shoens = c.plan_substitute.ensures c.args.modules.now w (taken_places c.args.trial.now) c.args.trial.now.text

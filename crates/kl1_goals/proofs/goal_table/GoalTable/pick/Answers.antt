@@ -14,8 +14,8 @@ returns-in-None g c =
     let A : List ℕ → Type 0 = λ rs. AreNone rs in
     rw (← c.self.view_is) (sym (ap (option_map chosen) (none_first None ss (subst A c.self.invariant.now.slots.ranked c.in-None.ensures))))
 
-pub returns-in-None-standing : goal.returns-in-None-standing
-returns-in-None-standing g c =
+pub returns-in-None-clause : goal.returns-in-None-clause
+returns-in-None-clause g c =
     let ss = c.self.inside.slots.items in
     let x = c.index.result.now in
     let A : List ℕ → Type 0 = λ rs. IsFirst rs c.in-Some.place in
@@ -23,13 +23,13 @@ returns-in-None-standing g c =
     let within : c.in-Some.place < length ss = omega (arith, first.within, length-map ss (rank_in {N = g.row.N.Denot})) in
     let at = field_read rank_in ss c.in-Some.place x within c.index.ensures in
     let stands = stands_some x.goal (ready_held x (omega (arith, at, first.ready))).1 in
-    absurd (false≢true (ap is_some (sym c.in-None-standing.is) ∙ stands))
+    absurd (false≢true (ap is_some (c.in-None-clause.ensures) ∙ stands))
 
-pub returns-in-Some-standing : goal.returns-in-Some-standing
-returns-in-Some-standing g c =
+pub returns-in-Some-clause : goal.returns-in-Some-clause
+returns-in-Some-clause g c =
     let ss = c.self.inside.slots.items in
     let x = c.index.result.now in
     let A : List ℕ → Type 0 = λ rs. IsFirst rs c.in-Some.place in
     let first = subst A c.self.invariant.now.slots.ranked c.in-Some.ensures in
     let within : c.in-Some.place < length ss = omega (arith, first.within, length-map ss (rank_in {N = g.row.N.Denot})) in
-    rw (← c.self.view_is) (sym (ap (option_map chosen) (picked ss c.self.inside.queue.ranks c.in-Some.place x c.in-Some-standing.clause c.self.invariant.now.slots.ascend c.self.invariant.now.slots.ranked c.in-Some.ensures within c.index.ensures c.in-Some-standing.is)))
+    rw (← c.self.view_is) (sym (ap (option_map chosen) (picked ss c.self.inside.queue.ranks c.in-Some.place x c.in-Some-clause.clause c.self.invariant.now.slots.ascend c.self.invariant.now.slots.ranked c.in-Some.ensures within c.index.ensures (sym c.in-Some-clause.ensures))))

@@ -12,33 +12,33 @@ unreachable-requires c = c.requires.nameless c.in-Names._target c.in-Names.is
 
 pub returns-in-Commits-clause-ok : goal.returns-in-Commits-clause-ok
 returns-in-Commits-clause-ok c =
-    on_ok_weaker c.commit.result (moves_commit (tried c.args.predicate c.args.made c.args.trial.now) c.in-Commits.place c.args.goal c.args.cell c.args.self.now c.commit.new.self c.in-Commits.is) c.commit.ensures.ok
+    on_ok_weaker c.commit.result (moves_commit (tried c.args.predicate c.args.made c.args.trial.now) c.in-Commits.place c.args.goal.now c.args.cell c.args.self.now c.commit.new.self c.in-Commits.is) c.commit.ensures.ok
 
 pub returns-in-Raises-clause-ok : goal.returns-in-Raises-clause-ok
 returns-in-Raises-clause-ok c =
-    on_ok_weaker c.raise.result (moves_one (tried c.args.predicate c.args.made c.args.trial.now) (move.Raises c.in-Raises.kind) (λ f. raises (text_of c.in-Raises.kind)) c.args.goal c.args.cell c.args.self.now c.raise.new.self c.in-Raises.is (λ f k e. e)) c.raise.ensures.ok
+    on_ok_weaker c.raise.result (moves_one (tried c.args.predicate c.args.made c.args.trial.now) (move.Raises c.in-Raises.kind) (λ f. raises (text_of c.in-Raises.kind)) c.args.goal.now c.args.cell c.args.self.now c.raise.new.self c.in-Raises.is (λ f k e. e)) c.raise.ensures.ok
 
 pub returns-in-Opens-clause-ok : goal.returns-in-Opens-clause-ok
 returns-in-Opens-clause-ok c =
-    on_ok_weaker c.open_child.result (moves_order (tried c.args.predicate c.args.made c.args.trial.now) c.in-Opens.structure c.order_at-order.result c.args.goal c.args.cell c.args.self.now c.open_child.new.self c.in-Opens.is c.order_at-order.ensures.order) c.open_child.ensures.ok
+    on_ok_weaker c.open_child.result (moves_order (tried c.args.predicate c.args.made c.args.trial.now) c.in-Opens.structure c.order_at-order.result c.args.goal.now c.args.cell c.args.self.now c.open_child.new.self c.in-Opens.is c.order_at-order.ensures.order) c.open_child.ensures.ok
 
 pub returns-in-Goes-clause-ok : goal.returns-in-Goes-clause-ok
 returns-in-Goes-clause-ok c =
     let m = c.args.self.now in
-    moves_one (tried c.args.predicate c.args.made c.args.trial.now) move.Goes (λ f. goes) c.args.goal c.args.cell m m c.in-Goes.is (λ f k e. e) (as_none m c.requires.machine)
+    moves_one (tried c.args.predicate c.args.made c.args.trial.now) move.Goes (λ f. goes) c.args.goal.now c.args.cell m m c.in-Goes.is (λ f k e. e) (as_none m c.requires.machine)
 
 -- ---- two terms that are unified
 
 pub returns-in-Bound-clause-ok : goal.returns-in-Bound-clause-ok
 returns-in-Bound-clause-ok c =
-    moves_unification (tried c.args.predicate c.args.made c.args.trial.now) c.in-Unifies.left c.in-Unifies.right c.args.goal c.args.cell c.args.self.now _ c.in-Unifies.is
-    (unified_bound c.args.goal c.args.cell c.in-Unifies.left c.in-Unifies.right c.args.self.now c.unify.new.store c.requires.machine c.unify.ensures.hooks (rw c.in-Bound.is at c.in_ok-unify-in-Unifies.ensures.ok))
+    moves_unification (tried c.args.predicate c.args.made c.args.trial.now) c.in-Unifies.left c.in-Unifies.right c.args.goal.now c.args.cell c.args.self.now _ c.in-Unifies.is
+    (unified_bound c.args.goal.now c.args.cell c.in-Unifies.left c.in-Unifies.right c.args.self.now c.unify.new.store c.requires.machine c.unify.ensures.hooks (rw c.in-Bound.is at c.in_ok-unify-in-Unifies.ensures.ok))
 
 pub returns-in-Clash-clause-ok : goal.returns-in-Clash-clause-ok
 returns-in-Clash-clause-ok c =
     on_ok_weaker c.raise-in-Clash.result
-    (λ raised. moves_unification (tried c.args.predicate c.args.made c.args.trial.now) c.in-Unifies.left c.in-Unifies.right c.args.goal c.args.cell c.args.self.now c.raise-in-Clash.new.self c.in-Unifies.is
-    (unified_clash c.args.goal c.args.cell c.in-Unifies.left c.in-Unifies.right c.args.self.now c.unify.new.store c.raise-in-Clash.new.self (rw c.in-Clash.is at c.in_ok-unify-in-Unifies.ensures.ok) raised))
+    (λ raised. moves_unification (tried c.args.predicate c.args.made c.args.trial.now) c.in-Unifies.left c.in-Unifies.right c.args.goal.now c.args.cell c.args.self.now c.raise-in-Clash.new.self c.in-Unifies.is
+    (unified_clash c.args.goal.now c.args.cell c.in-Unifies.left c.in-Unifies.right c.args.self.now c.unify.new.store c.raise-in-Clash.new.self (rw c.in-Clash.is at c.in_ok-unify-in-Unifies.ensures.ok) raised))
     c.raise-in-Clash.ensures.ok
 
 pub raise-requires-in-Clash-clause-machine : goal.raise-requires-in-Clash-clause-machine
@@ -72,4 +72,4 @@ put-requires-clause-monitor c = λ e. absurd (cc)
 
 pub returns-in-GivesWay-clause-ok : goal.returns-in-GivesWay-clause-ok
 returns-in-GivesWay-clause-ok c =
-    on_ok_weaker c.put.result (moves_giving_way (tried c.args.predicate c.args.made c.args.trial.now) c.args.goal c.args.cell c.args.self.now c.put.new.self c.in-GivesWay.is c.requires.machine c.requires.cell c.requires.owned) c.put.ensures.ok
+    on_ok_weaker c.put.result (moves_giving_way (tried c.args.predicate c.args.made c.args.trial.now) c.args.goal.now c.args.cell c.args.self.now c.put.new.self c.in-GivesWay.is c.requires.machine c.requires.cell c.requires.owned) c.put.ensures.ok

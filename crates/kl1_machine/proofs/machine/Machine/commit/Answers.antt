@@ -8,7 +8,7 @@ pub unreachable-requires : goal.unreachable-requires
 unreachable-requires c =
     let low = c.requires.owned.low in
     let high = c.requires.owned.high in
-    never_absent 0 c.args.goal.shoen c.args.self.now.shoens.shoens c.len-numbered.ensures.numbered low (omega (arith, high)) (sym c.in_default.ensures.value)
+    never_absent 0 c.args.goal.now.shoen c.args.self.now.shoens.shoens c.len-numbered.ensures.numbered low (omega (arith, high)) (sym c.in_default.ensures.value)
 
 pub put_each-requires : goal.put_each-requires
 put_each-requires c =
@@ -17,7 +17,7 @@ put_each-requires c =
     let number = c.in-Some.ensures.number in
     let low = c.requires.owned.low in
     let high = c.requires.owned.high in
-    let parent = found_shoen_in m.store.held c.args.goal.shoen m.shoens.shoens c.in-Some.lent.now c.requires.machine.inside.shoens (sym c.in-Some.ensures.value) in
+    let parent = found_shoen_in m.store.held c.args.goal.now.shoen m.shoens.shoens c.in-Some.lent.now c.requires.machine.inside.shoens (sym c.in-Some.ensures.value) in
     record {
       machine = needs_machine c.needs_of-needs.result _ (grown_machine m c.commit.new.store (record { grown = e.grown; hooks = e.hooks }) c.requires.machine);
       low = omega (arith, number, low);
@@ -31,7 +31,7 @@ put_each-requires c =
 pub returns-then-not-has_room-clause-ok : goal.returns-then-not-has_room-clause-ok
 returns-then-not-has_room-clause-ok c =
     on_ok_weaker c.raise.result
-    (commits_exhausted (record { predicate = c.args.predicate; place = c.args.place; places = taken_places c.args.trial.now }) c.args.goal c.args.cell c.args.self.now c.raise.new.self c.needs_of-needs.result c.needs_of-needs.ensures (sym c.has_room.ensures ∙ c.if-not-has_room.true))
+    (commits_exhausted (record { predicate = c.args.predicate; place = c.args.place; places = taken_places c.args.trial.now }) c.args.goal.now c.args.cell c.args.self.now c.raise.new.self c.needs_of-needs.result c.needs_of-needs.ensures (sym c.has_room.ensures ∙ c.if-not-has_room.true))
     c.raise.ensures.ok
 
 pub returns : goal.returns
@@ -44,12 +44,12 @@ returns c =
     let cells = c.commit.new.goals.items in
     let ps = c.priorities_of.result.now in
     let u = c.put_each.new.self in
-    let G : List (Qualified CellName) → Type 0 = λ xs. u ≡ with_goals sh.number (priorities_by (Some sh) c.args.goal.priority ps) xs (with_needs n (record m { store = k })) in
+    let G : List (Qualified CellName) → Type 0 = λ xs. u ≡ with_goals sh.number (priorities_by (Some sh) c.args.goal.now.priority ps) xs (with_needs n (record m { store = k })) in
     let grows : Grows m k = record { grown = e.grown; hooks = e.hooks } in
     record {
       ok =
           on_ok_both c.put_each.result
-          (λ after is. commits_body (record { predicate = c.args.predicate; place = c.args.place; places = taken_places c.args.trial.now }) c.args.goal c.args.cell m k sh ps cells n u
+          (λ after is. commits_body (record { predicate = c.args.predicate; place = c.args.place; places = taken_places c.args.trial.now }) c.args.goal.now c.args.cell m k sh ps cells n u
           (record {
             machine = c.requires.machine;
             owned = c.requires.owned;

@@ -111,7 +111,7 @@ step_goal-requires g c =
     let r = p.makes.runnable in
     let removed = c.in_ok-remove-in-Moves.ensures.ok in
     let few = c.requires.few in
-    let I : Machine → Type 0 = λ x. MoveIn x.store.held p.planned.predicate p.places p.text (Some p.planned.made) in
+    let I : Machine → Type 0 = λ x. MoveIn x.store.held p.planned.located.predicate p.places p.text (Some p.planned.made) in
     let same : length c.remove.new.self.shoens.work ≡ length m.shoens.work = ap (λ (x : Machine). length x.shoens.work) removed.is in
     record {
       machine = removed.machine;
@@ -140,7 +140,6 @@ reschedule-requires g c =
     let high = (owned_by program m c.args.number c.args.clause p).high in
     record {
       machine = c.in_ok-step_goal-in-Moves.ensures.ok.machine;
-      served = record { some = p.makes.runnable.some; serves = p.makes.runnable.serves };
       lets = still_lets m c.step_goal.new.self p.goal.shoen (stepped g (goal.at.reschedule-requires g c).In_ok-step_goal-in-Moves) (omega (arith, high)) (let_by program m c.args.number c.args.clause p);
     }
 

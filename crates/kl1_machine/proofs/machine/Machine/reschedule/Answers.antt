@@ -3,8 +3,8 @@ use Rattle.kl1_machine.proofs.Looking.{looks_machine}
 use Rattle.kl1_machine.proofs.Resting.{told_machine, lets_looked, steps_reschedule, steps_rested}
 use Rattle.kl1_machine.proofs.machine.Machine.reschedule.Goals as goal
 
-pub wake_affected-requires-clause-machine : goal.wake_affected-requires-clause-machine
-wake_affected-requires-clause-machine g c = told_machine c.args.self.now c.tell_bound.new.self c.in_ok-tell_bound.ensures.rest c.requires.machine
+pub wake_affected-requires : goal.wake_affected-requires
+wake_affected-requires g c = record { machine = told_machine c.args.self.now c.tell_bound.new.self c.in_ok-tell_bound.ensures.rest c.requires.machine }
 
 pub schedule_new-requires-clause-machine : goal.schedule_new-requires-clause-machine
 schedule_new-requires-clause-machine g c =

@@ -34,11 +34,11 @@ pub returns-in_ok-end_path-in-Becomes-clause-ok : goal.returns-in_ok-end_path-in
 returns-in_ok-end_path-in-Becomes-clause-ok c =
     let m = c.args.self.now in
     let d = c.use_name.new.self in
-    let n = c.args.goal.shoen in
+    let n = c.args.goal.now.shoen in
     let v = c.in-Becomes.variable in
     let a = tried c.args.predicate c.args.made c.args.trial.now in
     let marks = marked a n v m c.charge.new.self d _ c.requires.none c.requires.machine c.in_ok-charge.ensures.ok c.in-Becomes.ensures.ok in
-    on_ok_weaker c.bind_spare.result (steps_bound a c.args.goal c.args.cell m d c.end_path.new.self c.bind_spare.new.self v marks c.in_ok-end_path-in-Becomes.ensures.ok) c.bind_spare.ensures.ok
+    on_ok_weaker c.bind_spare.result (steps_bound a c.args.goal.now c.args.cell m d c.end_path.new.self c.bind_spare.new.self v marks c.in_ok-end_path-in-Becomes.ensures.ok) c.bind_spare.ensures.ok
 
 -- ---- a move by which none does
 
@@ -62,25 +62,25 @@ pub is_calm-requires : goal.is_calm-requires
 is_calm-requires c =
     let m = c.args.self.now in
     let high = c.requires.owned.high in
-    still_lets m c.apply_move.new.self c.args.goal.shoen (c.in_ok-apply_move-in-Does.ensures.since m (c.use_name.ensures.since m (c.in_ok-charge.ensures.since m (omega arith) (since_same m)))) (omega (arith, high)) c.requires.lets
+    still_lets m c.apply_move.new.self c.args.goal.now.shoen (c.in_ok-apply_move-in-Does.ensures.since m (c.use_name.ensures.since m (c.in_ok-charge.ensures.since m (omega arith) (since_same m)))) (omega (arith, high)) c.requires.lets
 
 -- the move is made, after the charge
-ran : (c : In_ok-apply_move-in-Does) → RunsAs (tried c.args.predicate c.args.made c.args.trial.now) c.args.goal c.args.cell c.args.self.now c.apply_move.new.self
+ran : (c : In_ok-apply_move-in-Does) → RunsAs (tried c.args.predicate c.args.made c.args.trial.now) c.args.goal.now c.args.cell c.args.self.now c.apply_move.new.self
 ran c =
     let a = tried c.args.predicate c.args.made c.args.trial.now in
-    runs a c.in-Does.found c.args.goal c.args.cell c.args.self.now c.charge.new.self c.use_name.new.self c.apply_move.new.self _ c.in_ok-charge.ensures.ok (c.in-Does.ensures.ok c.args.predicate a.places) c.in_ok-apply_move-in-Does.ensures.ok
+    runs a c.in-Does.found c.args.goal.now c.args.cell c.args.self.now c.charge.new.self c.use_name.new.self c.apply_move.new.self _ c.in_ok-charge.ensures.ok (c.in-Does.ensures.ok c.args.predicate a.places) c.in_ok-apply_move-in-Does.ensures.ok
 
 pub returns-then-is_calm-clause-ok : goal.returns-then-is_calm-clause-ok
 returns-then-is_calm-clause-ok c =
     let u = c.apply_move.new.self in
     let calm = c.if-is_calm.true in
-    steps_run _ c.args.goal c.args.cell c.args.self.now u u c.requires.unspelled (ran (goal.at.returns-then-is_calm-clause-ok c).In_ok-apply_move-in-Does)
-    (calm_after u c.args.goal.shoen c.in_ok-apply_move-in-Does.ensures.ok.machine (c.is_calm.ensures.lives calm) (λ ending. c.is_calm.ensures.unreached ending calm))
+    steps_run _ c.args.goal.now c.args.cell c.args.self.now u u c.requires.unspelled (ran (goal.at.returns-then-is_calm-clause-ok c).In_ok-apply_move-in-Does)
+    (calm_after u c.args.goal.now.shoen c.in_ok-apply_move-in-Does.ensures.ok.machine (c.is_calm.ensures.lives calm) (λ ending. c.is_calm.ensures.unreached ending calm))
 
 pub returns-else-is_calm-clause-ok : goal.returns-else-is_calm-clause-ok
 returns-else-is_calm-clause-ok c =
     let did = ran (goal.at.returns-else-is_calm-clause-ok c).In_ok-apply_move-in-Does in
-    let n = c.args.goal.shoen in
+    let n = c.args.goal.now.shoen in
     let u = c.apply_move.new.self in
     let v = c.end_path-in-Does.new.self in
-    on_ok_weaker c.end_path-in-Does.result (λ ends. steps_run _ c.args.goal c.args.cell c.args.self.now u v c.requires.unspelled did (comes_early u v n ends)) c.end_path-in-Does.ensures.ok
+    on_ok_weaker c.end_path-in-Does.result (λ ends. steps_run _ c.args.goal.now c.args.cell c.args.self.now u v c.requires.unspelled did (comes_early u v n ends)) c.end_path-in-Does.ensures.ok

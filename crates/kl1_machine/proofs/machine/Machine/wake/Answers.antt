@@ -4,14 +4,14 @@ use Rattle.kl1_machine.proofs.Looking.{found_holds}
 use Rattle.kl1_machine.proofs.Waking.{wakes_one, wakes_none}
 use Rattle.kl1_machine.proofs.machine.Machine.wake.Goals as goal
 
-pub ready_clause-requires-clause-task : goal.ready_clause-requires-clause-task
-ready_clause-requires-clause-task g c = let m = c.args.self.now in found_holds (λ x. IsTaskIn m.store.held x.task) (has_number c.args.number) m.goals.goals c.in-Some.goal.now c.requires.machine.inside.goals c.in-Some.ensures.goal
+pub judge-requires-clause-task : goal.judge-requires-clause-task
+judge-requires-clause-task g c = let m = c.args.self.now in found_holds (λ x. IsTaskIn m.store.held x.task) (has_number c.args.number) m.goals.goals c.in-Some.goal.now c.requires.machine.inside.goals c.in-Some.ensures.goal
 
 pub returns-in_default-clause-ok : goal.returns-in_default-clause-ok
 returns-in_default-clause-ok g c = wakes_none c.args.calls.now.modules.now c.args.self.now c.args.number (ap option_copied (sym c.in_default.is) ∙ c.lend.ensures.goal)
 
 pub returns-clause-ok : goal.returns-clause-ok
 returns-clause-ok g c =
-    let e = c.in_ok-clause.ensures in
-    wakes_one c.set_standing.result c.args.calls.now.modules.now c.args.self.now c.ready_clause.new.store c.set_standing.new.self c.args.number c.in-Some.goal.now c.in_ok-clause.clause
+    let e = c.in_ok-standing.ensures in
+    wakes_one c.set_standing.result c.args.calls.now.modules.now c.args.self.now c.judge.new.store c.set_standing.new.self c.args.number c.in-Some.goal.now c.in_ok-standing.standing
     (record { order = c.lend.ensures.order; found = c.in-Some.ensures.goal; number = c.in-Some.ensures.number; held = e.held; grown = e.grown; ready = e.ready }) c.set_standing.ensures.rest c.set_standing.ensures.ok

@@ -6,8 +6,8 @@ use Rattle.kl1_machine.proofs.machine.Machine.wake_affected.Goals as goal
 pub loop-place-init : goal.loop-place-init
 loop-place-init g c = record { looks = looks_same c.args.self.now; flags = refl; settles = λ f knows q all. all }
 
-pub wake-requires-clause-machine : goal.wake-requires-clause-machine
-wake-requires-clause-machine g c = looks_machine c.args.self.now c.loop-place.self c.loop-place.invariant.looks c.requires.machine
+pub wake-requires : goal.wake-requires
+wake-requires g c = record { machine = looks_machine c.args.self.now c.loop-place.self c.loop-place.invariant.looks c.requires.machine }
 
 pub loop-place-preserved : goal.loop-place-preserved
 loop-place-preserved g c =

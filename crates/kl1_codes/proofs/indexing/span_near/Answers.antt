@@ -1,6 +1,0 @@
-use Rattle.std.proofs.Common.{sym}
-use Rattle.kl1_codes.proofs.Rows.{span_hit}
-use Rattle.kl1_codes.proofs.indexing.span_near.Goals as goal
-
-pub returns-then-is_at : goal.returns-then-is_at
-returns-then-is_at c = sym (span_hit c.args.index.now c.args.key c.loop-place.place c.requires (c.is_at.ensures c.if-is_at.true) ((0, 0), record { start = 0; end = 0 }))
