@@ -12,8 +12,9 @@ use Rattle.kl1_model.specs.Event.{syntax, reports, refuse, is_number}
 use Rattle.kl1_model.specs.Asking.{reply_to, origin_at, elements_of}
 use Rattle.kl1_model.specs.code.Steps.{reports_of}
 use Rattle.kl1_model_server.specs.Command.{written_line, written_lines}
+use Rattle.kl1_user_events.specs.Views.{listed_in}
 use Rattle.kl1_run_work.specs.declared.reports.TheConstants.{MOST_PAGES}
-use Rattle.kl1_run_work.specs.Answers.{listed_in, is_exception, reports_by, reports_in, all_reports, report_lines, exceptions_of}
+use Rattle.kl1_run_work.specs.Answers.{is_exception, reports_by, reports_in, all_reports, report_lines, exceptions_of}
 
 false_true : (X : Type 0) → false ≡ true → X
 false_true X e = cc

@@ -26,22 +26,6 @@ use Rattle.kl1_run_work.specs.declared.wanted.Wanted.{Wanted}
 use Rattle.kl1_run_work.specs.Works.{Worked, worked, source_refused, goal_refused}
 use Rattle.kl1_run_work.specs.Streams.{Stream, WritesAll, OneBreaksOff}
 
--- the texts that a reply lists
-abbrev pub listed_in : Reply → List (List ℕ)
-listed_in (listed texts) = texts
-listed_in (loaded name) = []
-listed_in (opened n) = []
-listed_in sent = []
-listed_in reduced = []
-listed_in (ran n) = []
-listed_in (shown text) = []
-listed_in (status_is c charged allowance alive) = []
-listed_in (quiet_is b) = []
-listed_in (welcome name) = []
-listed_in bye = []
-listed_in was_reset = []
-listed_in (refused r) = []
-
 -- a shoen's goal as it was started, with what is bound now, as much of it as is told
 abbrev pub told_value : Extent → State → ℕ → List ℕ
 told_value e s n = unwrap_or (value_text e s n) []

@@ -3,14 +3,13 @@
 ghost use Rattle.std.specs.Prelude.{◌≡◌, ◌++◌, ◌<◌, ◌*◌, [], length, map, take, drop, filter, IfOk, OnOk};
 ghost use Rattle.kl1_model_server.specs.Command.{written_line, written_lines};
 ghost use Rattle.kl1_model.specs.declared.limits.TheConstants.{MOST_LISTED};
-ghost use Rattle.kl1_user_events.specs.Views.{reply_of};
-ghost use Rattle.kl1_run_work.specs.Answers.{listed_in, is_exception, reports_in, report_lines, exceptions_of};
+ghost use Rattle.kl1_run_work.specs.Answers.{is_exception, reports_in, report_lines, exceptions_of};
 
 use crate::asked::ask;
 use crate::exceptions::is_exception;
 use kl1_command::UnbookedHost;
 use kl1_model::limits::MOST_LISTED;
-use kl1_user_events::{Listed, Query, Reply, ShoenNo};
+use kl1_user_events::{Listed, Query, ShoenNo};
 use std::alloc::{AllocError, Global};
 
 /// The reports that one reply lists.
@@ -24,27 +23,6 @@ const MOST_PAGES: u64 = 262_144;
 pub(crate) struct Reported {
     pub(crate) reports: Vec<u8>,
     pub(crate) exceptions: Vec<Vec<u8>>,
-}
-
-/// The texts that a reply lists.
-fn listed_in(alloc: Global, reply: Reply) -> Listed
-    ensures { result ≡ listed_in (reply_of reply) }
-{
-    match reply {
-        Reply::Listed(texts) => texts,
-        Reply::Loaded(_name) => Listed::new(alloc),
-        Reply::Opened(_shoen) => Listed::new(alloc),
-        Reply::Sent => Listed::new(alloc),
-        Reply::Reduced => Listed::new(alloc),
-        Reply::Ran(_steps) => Listed::new(alloc),
-        Reply::Shown(_text) => Listed::new(alloc),
-        Reply::Status { .. } => Listed::new(alloc),
-        Reply::Quiet(_is_quiet) => Listed::new(alloc),
-        Reply::Welcome(_name) => Listed::new(alloc),
-        Reply::Bye => Listed::new(alloc),
-        Reply::Reset => Listed::new(alloc),
-        Reply::Refused(_refusal) => Listed::new(alloc),
-    }
 }
 
 /// Puts a line after the bytes. After an `Err` some of it may be there.
@@ -87,7 +65,7 @@ fn page_from<H: UnbookedHost>(
 {
     let from = done + 1;
     let reply = ask(host, Query::Reports { shoen, from })?;
-    Ok(listed_in(alloc, reply))
+    Ok(reply.into_listed(alloc))
 }
 
 /// The lines of a shoen's reports, and the exceptions among them.

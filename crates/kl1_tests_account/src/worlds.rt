@@ -7,6 +7,7 @@ use kl1_tests_rows::{Text, cut};
 use kl1_user_events::{Event, Reply};
 use kl1_world::{AccountName, Rules};
 use std::alloc::Global;
+use std::mem;
 
 /// An event, with its account's place among the names, from 0.
 type Deed = (usize, Event);
@@ -46,8 +47,14 @@ fn events_of(alloc: Global, names: &[AccountName], records: &[u8]) -> Option<Vec
         };
         let account = place_in(names, record.name)?;
         match command_in(alloc, record.request).ok()? {
-            Parsed::Command(Command::Does(event)) => events.push((account, event)).ok()?,
-            _ => return None,
+            Parsed::Command(mut command) => match &mut command {
+                Command::Does(event) => {
+                    let event = mem::replace(event, Event::Login);
+                    events.push((account, event)).ok()?;
+                }
+                _ => return None,
+            },
+            Parsed::Refused => return None,
         }
         left = record.rest;
     }
