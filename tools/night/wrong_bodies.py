@@ -165,8 +165,9 @@ def judge(said, status, lines, written, text_of):
     if status == 0:
         return Verdict(PROVED, "its contract lets the body through")
     if not ENDED.search(said):
-        first = next((it for it in said.splitlines() if "error" in it), "the check ended early")
-        return Verdict(UNREAD, first[:160])
+        # 3: the prover met a limit; below 0: the check was killed, most likely for memory
+        error = next((it for it in said.splitlines() if "error" in it), "")
+        return Verdict(UNREAD if error and status in (1, 2) else UNTOLD, error[:160] or f"the check ended with status {status}")
     told = [found for line in lines if (found := PLACE.match(line))]
     errors = [it for it in told if it["said"].startswith("error")]
     for it in errors:
@@ -193,7 +194,6 @@ def judge(said, status, lines, written, text_of):
         return Verdict(OPEN, f"{choice['file']}: nothing shows that a loop ends")
     if errors:
         return Verdict(FORM, f"only a proof file is refused that names what is gone: {errors[0][0][:120]}")
-    other = next((it for it in told), None)
-    if other:
-        return Verdict(OPEN, f"{other['file']}:{other['line']}: {other['said'][:120]}")
-    return Verdict(UNTOLD, next((it for it in said.splitlines() if "no verdict" in it or "could not tell" in it), "no line says why")[:160])
+    if told:
+        return Verdict(OPEN, f"{told[0]['file']}:{told[0]['line']}: {told[0]['said'][:120]}")
+    return Verdict(UNTOLD, "no line says why")
