@@ -1,4 +1,1 @@
-pub mod After
-pub mod Alone
 pub mod Used
-pub mod Scripted

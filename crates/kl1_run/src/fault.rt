@@ -5,7 +5,7 @@ use std::io;
 use std::io::{ErrorKind, Write};
 use std::process::ExitCode;
 
-/// The status if words, files, sources or the goal are bad, and if memory is refused or a write fails.
+/// The status if words, files, sources, tests or the goal are bad, and if memory is refused or a write fails.
 pub const BAD: u8 = 2;
 
 /// The status if nobody reads what is written: 128 and the number of SIGPIPE, as a shell tells of a program that this signal ended.
@@ -36,13 +36,13 @@ impl Fault {
         }
     }
 
-    /// Tells the fault, and answers the program's status.
-    pub fn tell(&self, rt: &HostRuntime) -> ExitCode {
+    /// Tells the fault as one of the program of this name, and answers the status.
+    pub fn tell(&self, rt: &HostRuntime, program: &str) -> ExitCode {
         let _ = match self {
             Fault::Lines(lines) => rt.stderr().write_all(lines.as_slice()),
-            Fault::System(error) => eprintln!(rt; "kl1_run: {error}"),
-            Fault::Write => eprintln!(rt; "kl1_run: write fault"),
-            Fault::Memory => eprintln!(rt; "kl1_run: no memory"),
+            Fault::System(error) => eprintln!(rt; "{program}: {error}"),
+            Fault::Write => eprintln!(rt; "{program}: write fault"),
+            Fault::Memory => eprintln!(rt; "{program}: no memory"),
             Fault::Left => return ExitCode::from(LEFT),
         };
         ExitCode::from(BAD)
@@ -64,5 +64,14 @@ impl<T: Drop> From<AllocFailed<T>> for Fault {
 impl From<io::Error> for Fault {
     fn from(error: io::Error) -> Self {
         Fault::System(error)
+    }
+}
+
+/// What came of a write, of which a failure is told as the system has it.
+pub fn written(result: io::Result<()>) -> Result<(), Fault> {
+    match result {
+        Ok(()) => Ok(()),
+        Err(error) if error.kind() == ErrorKind::BrokenPipe => Err(Fault::Left),
+        Err(error) => Err(Fault::System(error)),
     }
 }

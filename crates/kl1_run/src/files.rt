@@ -1,86 +1,40 @@
 // The files that are read.
 
 use crate::fault::Fault;
-use crate::reasons::put_refusal;
-use kl1_run_work::{MOST_SOURCE_BYTES, SourceFile};
 use std::alloc::{AllocError, Global};
-use std::fs::{File, Metadata};
+use std::fs::File;
 use std::io;
 use std::io::Read;
-use std::os::unix::fs::MetadataExt;
 
-/// What tells a file from all others: its device, and its number there.
-#[derive(Clone, Copy)]
-pub struct FileId {
-    device: u64,
-    number: u64,
-}
-
-impl FileId {
-    /// That of the file with these attributes.
-    pub fn of(attributes: &Metadata) -> Self {
-        FileId {
-            device: attributes.dev(),
-            number: attributes.ino(),
-        }
-    }
-
-    /// Whether both are the same file.
-    pub fn is(self, other: FileId) -> bool {
-        self.device == other.device && self.number == other.number
-    }
-}
-
-/// Files that were read, all of them modules.
-#[derive(Drop)]
-pub struct Modules {
-    pub files: Vec<SourceFile>,
-    /// Which files they are.
-    pub ids: Vec<FileId>,
-}
-
-/// Reads a file, at most one byte more than a source may have.
-fn read_text(rt: &HostRuntime, name: &str) -> io::Result<(FileId, Vec<u8>)> {
+/// Reads a file, at most `most` bytes of it.
+pub fn read_up_to(rt: &HostRuntime, name: &str, most: usize) -> io::Result<Vec<u8>> {
     let mut text = Vec::new(rt.alloc());
-    let file = File::open(rt, name)?;
-    let id = FileId::of(&file.metadata()?);
-    file.take(MOST_SOURCE_BYTES as u64 + 1)
+    File::open(rt, name)?
+        .take(most as u64)
         .read_to_end(&mut text)?;
-    Ok((id, text))
+    Ok(text)
 }
 
-/// Puts the line of a file that can't be read or written after the bytes.
+/// Puts the line of a file that can't be read or written after the bytes, as the program of this name tells it.
 pub fn put_file_fault(
     alloc: Global,
+    program: &str,
     name: &str,
     error: &io::Error,
     out: &mut Vec<u8>,
 ) -> Result<(), AllocError> {
-    let line = format!(in alloc; "kl1_run: {name}: {error}\n")?;
+    let line = format!(in alloc; "{program}: {name}: {error}\n")?;
     out.extend_from_slice(line.as_bytes())
 }
 
-/// Reads the files of these names, in order. Tells each that can't be read, and each that is no module.
-pub fn read_each(rt: &HostRuntime, names: &[&str]) -> Result<Modules, Fault> {
-    let alloc = rt.alloc();
-    let mut files = Vec::new(alloc);
-    let mut ids = Vec::new(alloc);
-    let mut faults = Vec::new(alloc);
-    for name in names {
-        match read_text(rt, name) {
-            Ok((id, text)) => {
-                let name = Vec::from_slice(alloc, name.as_bytes())?;
-                let file = SourceFile { name, text };
-                put_refusal(alloc, &file, &mut faults)?;
-                files.push(file)?;
-                ids.push(id)?;
-            }
-            Err(error) => put_file_fault(alloc, name, &error, &mut faults)?,
-        }
-    }
-    if faults.is_empty() {
-        Ok(Modules { files, ids })
-    } else {
-        Err(Fault::Lines(faults))
-    }
+/// The fault of such a file.
+pub fn file_fault(
+    alloc: Global,
+    program: &str,
+    name: &str,
+    error: &io::Error,
+) -> Result<Fault, AllocError> {
+    let mut lines = Vec::new(alloc);
+    put_file_fault(alloc, program, name, error, &mut lines)?;
+    Ok(Fault::Lines(lines))
 }
