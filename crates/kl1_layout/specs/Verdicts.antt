@@ -3,8 +3,8 @@ use Rattle.std.specs.Prelude.{◌≡◌, ◌≢◌, ℕ, ◌<◌, ◌≤◌, Lis
 use Rattle.kl1_model.specs.declared.limits.TheConstants.{MOST_SOURCE_BYTES}
 use Rattle.kl1_model.specs.Token.{tokens_of_text}
 use Rattle.kl1_layout.specs.Layouts.{IsLayoutOf}
-use Rattle.kl1_fmt.specs.declared.verdict.Verdict.{Verdict}
-use Rattle.kl1_fmt.specs.declared.verdict.Verdict.TheVariants.{LaidOut, Differs, TooLong, Grows, Broken}
+use Rattle.kl1_layout.specs.declared.verdict.Verdict.{Verdict}
+use Rattle.kl1_layout.specs.declared.verdict.Verdict.TheVariants.{LaidOut, Differs, TooLong, Grows, Broken}
 
 -- a source may have so many bytes
 abbrev pub Fits : List ℕ → Type 0

@@ -2,9 +2,10 @@
 
 ghost use Rattle.std.specs.Prelude.{IfOk};
 ghost use Rattle.kl1_layout.specs.Layouts.{IsLayoutOf};
-ghost use Rattle.kl1_fmt.specs.Verdicts.{Fits, IsVerdict};
+ghost use Rattle.kl1_layout.specs.Verdicts.{Fits, IsVerdict};
 
-use kl1_layout::{LayoutFault, format};
+use crate::formatting::format;
+use crate::layout_fault::LayoutFault;
 use kl1_model::limits::MOST_SOURCE_BYTES;
 use std::alloc::{AllocError, Global};
 

@@ -18,19 +18,17 @@ mod told;
 mod watched;
 mod words;
 
-pub(crate) use origins::copies_of;
-pub(crate) use progress::NoWatch;
-
-use crate::called::Program;
-use crate::fault::Fault;
-use crate::words::tell;
+use kl1_words::{Fault, asked_in};
+pub use origins::copies_of;
+pub use progress::NoWatch;
 use tasks::do_task;
-use words::asked_in;
+pub use words::RUN;
+use words::asked_of;
 
 /// Does what the words of `kl1_run` ask for, of which the first is its name, and answers its status.
 pub fn run_modules(rt: &HostRuntime, words: &[String]) -> Result<u8, Fault> {
-    match asked_in(rt.alloc(), words) {
-        Ok(asked) => do_task(rt, &asked),
-        Err(error) => tell(rt, Program::Run, &error),
+    match asked_in(rt.alloc(), &RUN, words) {
+        Ok(asked) => do_task(rt, &asked_of(&asked)),
+        Err(unasked) => unasked.tell(rt, &RUN),
     }
 }

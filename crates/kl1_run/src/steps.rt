@@ -1,11 +1,10 @@
 // What is told of the steps of a run or of a journal: a trace, a profile, a picture.
 
-use crate::called::Program;
-use crate::fault::Fault;
-use crate::kept_files::{FileId, picture_file};
+use crate::kept_files::{PICTURE, file_for};
 use kl1_command::Views;
 use kl1_timeline::{Observers, Timeline, put_picture};
 use kl1_trace_work::{Pattern, Profile, Texts, Trace, Viewer, profile_json, put_table};
+use kl1_words::{Asked, Fault, FileId, Program, named_line};
 use std::alloc::Global;
 use std::io::Write;
 
@@ -23,7 +22,7 @@ pub enum Profiles {
 /// What is to be told of steps, and by which program.
 #[derive(Clone, Copy)]
 pub struct StepsAsked<'a> {
-    pub program: Program,
+    program: Program,
     /// The patterns of the steps that are told; `None` if none is.
     pub trace: Option<&'a str>,
     /// How it is told what each predicate did.
@@ -34,7 +33,22 @@ pub struct StepsAsked<'a> {
     pub lanes: Option<&'a str>,
 }
 
-impl StepsAsked<'_> {
+impl<'a> StepsAsked<'a> {
+    /// What the words of a program ask for.
+    pub fn of(program: Program, asked: &Asked<'a>) -> Self {
+        StepsAsked {
+            program,
+            trace: asked.text("trace"),
+            profile: match asked.text("profile") {
+                Some("json") => Profiles::Json,
+                Some(_) => Profiles::Table,
+                None => Profiles::None,
+            },
+            timeline: asked.text("timeline"),
+            lanes: asked.text("lanes"),
+        }
+    }
+
     /// Whether anything is to be told.
     pub fn is_any(&self) -> bool {
         if self.trace.is_some() || self.timeline.is_some() {
@@ -48,12 +62,11 @@ impl StepsAsked<'_> {
 }
 
 /// The pattern of these words, which stand between commas.
-fn pattern_in(alloc: Global, program: Program, words: &str) -> Result<Pattern, Fault> {
+fn pattern_in(alloc: Global, program: &Program, words: &str) -> Result<Pattern, Fault> {
     let mut pattern = Pattern::all(alloc);
     for word in words.split(',') {
         if !word.is_empty() && !pattern.narrow(word.as_bytes())? {
-            let line = format!(in alloc; "{}: no pattern of steps: {word}\n", program.name())?;
-            return Err(Fault::Lines(line.into_bytes()));
+            return Err(named_line(alloc, program, "no pattern of steps", word));
         }
     }
     Ok(pattern)
@@ -69,7 +82,7 @@ pub fn observers_for<'a, W: Write + Drop>(
     let trace = match asked.trace {
         None => None,
         Some(words) => {
-            let pattern = pattern_in(alloc, asked.program, words)?;
+            let pattern = pattern_in(alloc, &asked.program, words)?;
             Some(Trace::new(texts, pattern, out))
         }
     };
@@ -80,7 +93,7 @@ pub fn observers_for<'a, W: Write + Drop>(
     let timeline = match asked.timeline {
         None => None,
         Some(_file) => {
-            let pattern = pattern_in(alloc, asked.program, asked.lanes.unwrap_or(""))?;
+            let pattern = pattern_in(alloc, &asked.program, asked.lanes.unwrap_or(""))?;
             Some(Timeline::new(alloc, pattern))
         }
     };
@@ -144,12 +157,12 @@ fn write_picture(
         return Ok(());
     };
     let alloc = rt.alloc();
-    let mut file = picture_file(rt, asked.program, name, modules)?;
+    let mut file = file_for(rt, &asked.program, PICTURE, name, modules)?;
     let mut picture = Vec::new(alloc);
     put_picture(alloc, timeline, title.as_bytes(), &mut picture)?;
     match file.write_all(picture.as_slice()) {
         Ok(()) => Ok(()),
-        Err(error) => Err(Fault::of_write(&error)),
+        Err(error) => Err(Fault::Write(error)),
     }
 }
 
@@ -165,13 +178,13 @@ pub fn finish<H: Views, W: Write + Drop>(
 ) -> Result<(), Fault> {
     if let Some(trace) = &mut viewer.observer.trace {
         trace.flush();
-        if let Some(error) = &trace.failure {
-            return Err(Fault::of_write(error));
+        if let Some(error) = trace.failure.take() {
+            return Err(Fault::Write(error));
         }
     }
     let lines = profile_lines(rt.alloc(), asked, viewer, host)?;
     if let Err(error) = out.write_all(lines.as_slice()) {
-        return Err(Fault::of_write(&error));
+        return Err(Fault::Write(error));
     }
     match &viewer.observer.timeline {
         Some(timeline) => write_picture(rt, asked, title, modules, timeline),

@@ -4,24 +4,40 @@ mod files;
 mod found;
 mod results;
 mod trial;
-mod words;
 
-use crate::called::Program;
-use crate::fault::{Fault, written};
-use crate::words::tell;
 use files::read_each;
+use kl1_words::{Fault, OptionSpec, Program, SystemFaults, Takes, asked_in};
 use results::{Results, results_of};
 use std::io::Write;
-use words::asked_in;
+
+/// What the program knows.
+const OPTIONS: [OptionSpec; 1] = [OptionSpec {
+    name: "files",
+    takes: Takes::Words(1),
+    value: "FILE",
+    help: "Files with modules, which are all loaded for each test",
+    beside: &[],
+    with: "",
+}];
+
+/// The program that runs the tests that stand in comments of modules.
+pub const TEST: Program = Program {
+    name: "kl1_test",
+    about: "Runs the tests that stand in comments of modules",
+    usage: "kl1_test FILE...\n       kl1_test --help | --version",
+    options: &OPTIONS,
+    tasks: &[],
+    faults: SystemFaults::Pipes,
+};
 
 /// The status if a test failed.
 const FAILED: u8 = 1;
 
 /// Runs the tests of the files that the words of `kl1_test` name, of which the first is its own name, and answers its status.
 pub fn test_files(rt: &HostRuntime, words: &[String]) -> Result<u8, Fault> {
-    match asked_in(rt.alloc(), words) {
-        Ok(names) => test_each(rt, names.as_slice()),
-        Err(error) => tell(rt, Program::Test, &error),
+    match asked_in(rt.alloc(), &TEST, words) {
+        Ok(asked) => test_each(rt, asked.words()),
+        Err(unasked) => unasked.tell(rt, &TEST),
     }
 }
 
@@ -33,7 +49,7 @@ fn test_each(rt: &HostRuntime, names: &[&str]) -> Result<u8, Fault> {
         differences,
         passed,
     } = results_of(rt.alloc(), files.as_slice())?;
-    written(rt.stdout().write_all(lines.as_slice()))?;
-    written(rt.stderr().write_all(differences.as_slice()))?;
+    rt.stdout().write_all(lines.as_slice())?;
+    rt.stderr().write_all(differences.as_slice())?;
     Ok(if passed { 0 } else { FAILED })
 }

@@ -1,22 +1,18 @@
 // What is done with each file.
 
-use crate::called::Program;
-use crate::fault::{BAD, Fault, written};
-use crate::files::read_up_to;
-use crate::fmt::files::replace;
-use crate::fmt::words::Asked;
 use kl1_layout::{Verdict, verdict_of};
 use kl1_model::limits::MOST_SOURCE_BYTES;
+use kl1_words::{BAD, Fault, read_up_to, replace};
 use std::{fs, io};
 
 /// The status if a file is not laid out.
 const DIFFERS: u8 = 1;
 
 /// Lays each file out, or tells those that aren't laid out, and answers the program's status: the greatest that a file gives.
-pub fn format_each(rt: &HostRuntime, asked: &Asked<'_>) -> Result<u8, Fault> {
+pub fn format_each(rt: &HostRuntime, names: &[&str], check: bool) -> Result<u8, Fault> {
     let mut status = 0;
-    for name in &asked.names {
-        let one = format_one(rt, name, asked.check)?;
+    for name in names {
+        let one = format_one(rt, name, check)?;
         if status < one {
             status = one;
         }
@@ -26,7 +22,7 @@ pub fn format_each(rt: &HostRuntime, asked: &Asked<'_>) -> Result<u8, Fault> {
 
 /// Lays a file out, or tells its name if it isn't laid out. Answers the status that it gives.
 fn format_one(rt: &HostRuntime, name: &str, check: bool) -> Result<u8, Fault> {
-    let source = match read_up_to(rt, name, MOST_SOURCE_BYTES + 1) {
+    let source = match read_up_to(rt, name, MOST_SOURCE_BYTES as u64 + 1) {
         Ok(source) => source,
         Err(error) => return tell_file(rt, name, &error),
     };
@@ -34,15 +30,15 @@ fn format_one(rt: &HostRuntime, name: &str, check: bool) -> Result<u8, Fault> {
         Verdict::LaidOut => Ok(0),
         Verdict::Differs(layout) => settle(rt, name, layout.as_slice(), check),
         Verdict::TooLong => {
-            written(eprintln!(rt; "{name}:1: too long"))?;
+            eprintln!(rt; "{name}:1: too long")?;
             Ok(BAD)
         }
         Verdict::Grows => {
-            written(eprintln!(rt; "{name}:1: too long if it is laid out"))?;
+            eprintln!(rt; "{name}:1: too long if it is laid out")?;
             Ok(BAD)
         }
         Verdict::Broken(line) => {
-            written(eprintln!(rt; "{name}:{line}: no token"))?;
+            eprintln!(rt; "{name}:{line}: no token")?;
             Ok(BAD)
         }
     }
@@ -51,7 +47,7 @@ fn format_one(rt: &HostRuntime, name: &str, check: bool) -> Result<u8, Fault> {
 /// Has a file hold its layout, or tells its name. Answers the status that it gives.
 fn settle(rt: &HostRuntime, name: &str, layout: &[u8], check: bool) -> Result<u8, Fault> {
     if check {
-        written(println!(rt; "{name}"))?;
+        println!(rt; "{name}")?;
         return Ok(DIFFERS);
     }
     // Through links: what is replaced is the file that holds the text.
@@ -69,6 +65,6 @@ fn settle(rt: &HostRuntime, name: &str, layout: &[u8], check: bool) -> Result<u8
 
 /// Tells why a file can't be read or written, and answers the status that it gives.
 fn tell_file(rt: &HostRuntime, name: &str, error: &io::Error) -> Result<u8, Fault> {
-    written(eprintln!(rt; "{}: {name}: {error}", Program::Fmt.name()))?;
+    eprintln!(rt; "kl1_fmt: {name}: {error}")?;
     Ok(BAD)
 }

@@ -1,7 +1,7 @@
 // What is told of an account in which a run is over.
 
-use crate::called::Program;
 use crate::run::origins::Again;
+use crate::run::words::RUN;
 use kl1_command::Views;
 use kl1_run_work::{Ending, Stop};
 use kl1_user_events::{ShoenNo, Usage};
@@ -70,7 +70,7 @@ pub fn after_run<H: Views>(
     let standing = standing_of(alloc, host, looks.most)?;
     let notes = looks.origins.notes_of(&standing)?;
     let told = Told {
-        program: Program::Run.name().as_bytes(),
+        program: RUN.name.as_bytes(),
         names: &looks.names,
         notes: &notes,
     };

@@ -1,14 +1,9 @@
 // The files that are read.
 
-use crate::called::Program;
-use crate::fault::Fault;
-use crate::files::put_file_fault;
-use crate::kept_files::FileId;
 use crate::run::reasons::put_refusal;
+use crate::run::words::RUN;
 use kl1_run_work::{MOST_SOURCE_BYTES, SourceFile};
-use std::fs::File;
-use std::io;
-use std::io::Read;
+use kl1_words::{Fault, FileId, put_named_line, read_known};
 
 /// Files that were read, all of them modules.
 #[derive(Drop)]
@@ -18,16 +13,6 @@ pub struct Modules {
     pub ids: Vec<FileId>,
 }
 
-/// Reads a file, at most one byte more than a source may have.
-fn read_text(rt: &HostRuntime, name: &str) -> io::Result<(FileId, Vec<u8>)> {
-    let mut text = Vec::new(rt.alloc());
-    let file = File::open(rt, name)?;
-    let id = FileId::of(&file.metadata()?);
-    file.take(MOST_SOURCE_BYTES as u64 + 1)
-        .read_to_end(&mut text)?;
-    Ok((id, text))
-}
-
 /// Reads the files of these names, in order. Tells each that can't be read, and each that is no module.
 pub fn read_each(rt: &HostRuntime, names: &[&str]) -> Result<Modules, Fault> {
     let alloc = rt.alloc();
@@ -35,7 +20,7 @@ pub fn read_each(rt: &HostRuntime, names: &[&str]) -> Result<Modules, Fault> {
     let mut ids = Vec::new(alloc);
     let mut faults = Vec::new(alloc);
     for name in names {
-        match read_text(rt, name) {
+        match read_known(rt, name, MOST_SOURCE_BYTES as u64 + 1) {
             Ok((id, text)) => {
                 let name = Vec::from_slice(alloc, name.as_bytes())?;
                 let file = SourceFile { name, text };
@@ -43,9 +28,7 @@ pub fn read_each(rt: &HostRuntime, names: &[&str]) -> Result<Modules, Fault> {
                 files.push(file)?;
                 ids.push(id)?;
             }
-            Err(error) => {
-                put_file_fault(alloc, Program::Run.name(), name, &error, &mut faults)?;
-            }
+            Err(error) => put_named_line(alloc, &RUN, name, &error, &mut faults)?,
         }
     }
     if faults.is_empty() {

@@ -1,11 +1,11 @@
 // The prompt: lines of standard input, one after another, on an account of its own.
 
 use crate::run::asked::Asked;
-use crate::fault::Fault;
 use crate::run::files::{Modules, read_each};
 use crate::run::reasons::line_reasons;
 use crate::run::shown::{MOST_FORMED, Shown, put_at_prompt};
-use crate::run::tasks::journal_of;
+use crate::run::tasks::{failed_write, journal_of};
+use crate::run::told::written;
 use crate::world::{OwnWorld, fresh_world};
 use kl1_prompt::{
     Line, News, Plan, Stand, Table, do_line, load_all, parse_line, put_answer, put_help, put_news,
@@ -14,6 +14,7 @@ use kl1_prompt::{
 use kl1_run_work::{Extent, Host, SourceFile, Stop, Term, UnbookedHost, put_fault, put_journal};
 use kl1_user_events::Reply;
 use kl1_watch::Names;
+use kl1_words::Fault;
 use std::alloc::Global;
 use std::io::{BufRead, IsTerminal, Lock, Write};
 
@@ -85,7 +86,7 @@ pub fn run_prompt(rt: &HostRuntime, asked: &Asked<'_>, names: &[&str]) -> Result
         match put_journal(alloc, &world, sink) {
             Ok(()) => {}
             Err(Stop::Memory) => return Err(Fault::Memory),
-            Err(_stop) => return Err(Fault::Write),
+            Err(_stop) => return Err(failed_write()),
         }
     }
     Ok(if session.has_faults && !is_watched {
@@ -148,14 +149,8 @@ impl Session<'_, '_> {
 
     /// Writes what is to be told.
     fn tell(&mut self) -> Result<(), Fault> {
-        match self.rt.stdout().write_all(self.told.answers.as_slice()) {
-            Ok(()) => {}
-            Err(error) => return Err(Fault::of_write(&error)),
-        }
-        match self.rt.stderr().write_all(self.told.faults.as_slice()) {
-            Ok(()) => {}
-            Err(error) => return Err(Fault::of_write(&error)),
-        }
+        written(self.rt.stdout().write_all(self.told.answers.as_slice()))?;
+        written(self.rt.stderr().write_all(self.told.faults.as_slice()))?;
         self.has_faults = self.has_faults || !self.told.faults.is_empty();
         self.told.answers.clear();
         self.told.faults.clear();

@@ -1,12 +1,13 @@
 // What is told of files and goals: why they are refused, and what was hardly meant.
 
-use crate::fault::Fault;
+use crate::run::told::written;
 use kl1_lines::{is_same, split_word};
 use kl1_prompt::put_help;
 use kl1_reasons::{
     NamedText, Predicates, predicates_of, put_reason, put_reasons, put_warnings, reason_of_goal,
 };
 use kl1_run_work::{ReadFault, SourceFile, Term, read_goal};
+use kl1_words::Fault;
 use std::alloc::{AllocError, Global};
 use std::io::Write;
 
@@ -39,10 +40,8 @@ pub fn warn(rt: &HostRuntime, files: &[SourceFile], are_faults: bool) -> Result<
     if has_warnings && are_faults {
         return Err(Fault::Lines(lines));
     }
-    match rt.stderr().write_all(lines.as_slice()) {
-        Ok(()) => Ok(0),
-        Err(error) => Err(Fault::of_write(&error)),
-    }
+    written(rt.stderr().write_all(lines.as_slice()))?;
+    Ok(0)
 }
 
 /// The goal that a word is, over these files.

@@ -1,12 +1,10 @@
 // What is done for each task.
 
+use crate::kept_files::{JOURNAL, file_for};
 use crate::run::after::{After, Looks};
 use crate::run::alone::{LoneWork, RunResult, run_alone};
 use crate::run::asked::{Asked, Task, USAGE};
 use crate::run::copied::Copied;
-use crate::called::Program;
-use crate::fault::Fault;
-use crate::kept_files::{FileId, journal_file};
 use crate::run::files::{Modules, read_each};
 use crate::run::origins::{Again, copies_of};
 use crate::run::pipe::Pipe;
@@ -16,21 +14,24 @@ use crate::run::reasons::{goal_in, warn};
 use crate::run::scripts::script_alone;
 use crate::run::shown::{MOST_WHOLE, Shown, in_form};
 use crate::run::stats::tell_stats;
-use crate::run::told::{tell_ending, used_of};
+use crate::run::told::{tell_ending, used_of, written};
 use crate::run::watched::tell_steps;
+use crate::run::words::RUN;
 use kl1_run_work::{Ending, FailureCounter, Stop, Term, Work, put_fault, words_of};
 use kl1_shown::variable_names;
 use kl1_watch::Names;
+use kl1_words::{Fault, FileId};
 use std::alloc::{AllocError, Global};
 use std::fs::File;
-use std::io::Write;
+use std::io;
+use std::io::{ErrorKind, Write};
 
 /// The most bytes of a goal that are told with what is wrong with it.
 const MOST_TOLD: usize = 200;
 
 /// Does what the words ask for, and answers the program's status.
 pub fn do_task(rt: &HostRuntime, asked: &Asked<'_>) -> Result<u8, Fault> {
-    match (asked.task, asked.words.as_slice()) {
+    match (asked.task, asked.words) {
         (Task::Check, names) => {
             let Modules { files, .. } = read_each(rt, names)?;
             warn(rt, files.as_slice(), asked.warnings_are_faults)
@@ -69,10 +70,8 @@ fn write_script(
         Ok(script) => script,
         Err(stop) => return Err(fault_of(alloc, stop, names, word)?),
     };
-    match rt.stdout().write_all(script.as_slice()) {
-        Ok(()) => Ok(0),
-        Err(error) => Err(Fault::of_write(&error)),
-    }
+    written(rt.stdout().write_all(script.as_slice()))?;
+    Ok(0)
 }
 
 /// The file for the journal, made or emptied, if one is named; none of these modules.
@@ -84,7 +83,7 @@ pub fn journal_of(
     match asked.journal {
         None => Ok(None),
         Some(name) => {
-            let file = journal_file(rt, Program::Run, name, modules)?;
+            let file = file_for(rt, &RUN, JOURNAL, name, modules)?;
             Ok(Some(FailureCounter::new(file)))
         }
     }
@@ -133,7 +132,7 @@ fn run_goal(rt: &HostRuntime, asked: &Asked<'_>, names: &[&str], word: &str) -> 
     } = run_alone(alloc, lone, &mut progress, &mut out, &mut err, &mut journal);
     progress.clear();
     if out.inner.inner.is_left || err.inner.is_left {
-        return Err(Fault::Left);
+        return Err(Fault::Write(io::Error::from(ErrorKind::BrokenPipe)));
     }
     let status = match ending {
         Ok(ending) => {
@@ -164,10 +163,7 @@ fn tell_after(rt: &HostRuntime, asked: &Asked<'_>, after: Option<After>) -> Resu
     let Some(after) = after else {
         return Err(Fault::Memory);
     };
-    match rt.stderr().write_all(after.lines.as_slice()) {
-        Ok(()) => {}
-        Err(error) => return Err(Fault::of_write(&error)),
-    }
+    written(rt.stderr().write_all(after.lines.as_slice()))?;
     if asked.has_stats {
         tell_stats(rt, after.reductions, &after.usage)?;
     }
@@ -188,10 +184,7 @@ fn show_goal(
     let shown = Shown::new(alloc, asked.form, word, goal, written)?;
     if asked.form.is_other() {
         let text = in_form(alloc, asked.form, asked.most, &shown, written)?;
-        match rt.stdout().write_all(text.as_slice()) {
-            Ok(()) => {}
-            Err(error) => return Err(Fault::of_write(&error)),
-        }
+        written(rt.stdout().write_all(text.as_slice()))?;
     }
     if shown.is_left(asked.form) {
         eprintln!(rt; "kl1_run: the goal is too long for --bindings and --infix")?;
@@ -202,12 +195,14 @@ fn show_goal(
     if let Ending::Terminated = ending {
         let mut warnings = Vec::new(alloc);
         shown.put_warnings(&mut warnings)?;
-        match rt.stderr().write_all(warnings.as_slice()) {
-            Ok(()) => {}
-            Err(error) => return Err(Fault::of_write(&error)),
-        }
+        written(rt.stderr().write_all(warnings.as_slice()))?;
     }
     Ok(())
+}
+
+/// The fault of a write that failed otherwise than as nobody reads.
+pub fn failed_write() -> Fault {
+    Fault::Write(io::Error::from(ErrorKind::Other))
 }
 
 /// The fault for which work was stopped, of which these are the files and the goal.
@@ -229,7 +224,7 @@ fn fault_of(alloc: Global, stop: Stop, names: &[&str], goal: &str) -> Result<Fau
             lines.push(b'\n')?;
             Ok(Fault::Lines(lines))
         }
-        Stop::Write => Ok(Fault::Write),
+        Stop::Write => Ok(failed_write()),
         Stop::Memory => Ok(Fault::Memory),
     }
 }

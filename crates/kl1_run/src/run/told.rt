@@ -7,6 +7,7 @@ use crate::run::after::After;
 use kl1_model::Condition;
 use kl1_run_work::Ending;
 use kl1_watch::Standing;
+use kl1_words::Fault;
 use kl1_world::Rules;
 use std::io;
 
@@ -80,5 +81,13 @@ pub fn tell_ending<R: Eprint>(
             }
             Ok(4)
         }
+    }
+}
+
+/// What came of a write.
+pub fn written(result: io::Result<()>) -> Result<(), Fault> {
+    match result {
+        Ok(()) => Ok(()),
+        Err(error) => Err(Fault::Write(error)),
     }
 }

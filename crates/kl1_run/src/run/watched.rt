@@ -1,13 +1,12 @@
 // A run that is told step by step, by its predicates, or as a picture.
 
-use crate::fault::Fault;
-use crate::kept_files::FileId;
 use crate::run::asked::Asked;
 use crate::run::origins::Again;
 use crate::steps::{finish, observers_for};
 use kl1_timeline::draw_new;
 use kl1_trace_work::{Texts, Viewer, watch_first};
 use kl1_watch::Names;
+use kl1_words::{Fault, FileId};
 
 /// Does the work in an account of its own, and tells its steps as far as that is asked for.
 pub fn tell_steps(

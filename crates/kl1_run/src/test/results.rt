@@ -1,6 +1,5 @@
 // What came of tests, as lines.
 
-use crate::fault::Fault;
 use crate::test::found::tests_of;
 use crate::test::trial::{allowance_of, answers_for};
 use kl1_lines::{put_decimal, split_line};
@@ -8,6 +7,7 @@ use kl1_run_work::{Answers, Ending, Refusal, SourceFile, Stop, put_fault, words_
 use kl1_test_lines::{
     Equation, Expectation, Test, has_values, put_line, put_place, put_plan, put_values,
 };
+use kl1_words::Fault;
 use std::alloc::{AllocError, Global};
 
 /// What came of all tests.
@@ -22,15 +22,13 @@ pub struct Results {
 }
 
 /// The first exception of a shoen.
-fn first_exception(answers: &Answers) -> &[u8]
-{
+fn first_exception(answers: &Answers) -> &[u8] {
     let (first, _behind) = split_line(answers.exceptions.as_slice());
     first
 }
 
 /// The goal with what is bound.
-fn value_line(answers: &Answers) -> &[u8]
-{
+fn value_line(answers: &Answers) -> &[u8] {
     let (line, _behind) = split_line(answers.value.as_slice());
     line
 }

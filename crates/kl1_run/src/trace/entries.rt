@@ -1,6 +1,5 @@
 // The entries of a journal, done one after another and told.
 
-use crate::fault::Fault;
 use kl1_command::{UnbookedHost, Views};
 use kl1_journal_entries::{Deed, entry_of, next_line};
 use kl1_lines::put_decimal;
@@ -8,6 +7,7 @@ use kl1_model::{Message, Rules};
 use kl1_timeline::{Observers, draw_new};
 use kl1_trace_work::{NewGoal, Predicates, Trace, Viewer, Watched, watch_first, watch_step};
 use kl1_user_events::{Event, Reply};
+use kl1_words::Fault;
 use std::alloc::{AllocError, Global};
 use std::io::Write;
 

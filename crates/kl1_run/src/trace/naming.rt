@@ -1,10 +1,10 @@
 // The names that an account had used when its journal began.
 
-use crate::fault::Fault;
 use kl1_command::Host;
 use kl1_journal_entries::{may_follow, name_of, next_line};
 use kl1_text::{AtomText, put_atom, put_name};
 use kl1_user_events::{Event, Reply};
+use kl1_words::Fault;
 use std::alloc::{AllocError, Global};
 
 /// The most names that one source brings in.

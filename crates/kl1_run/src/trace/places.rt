@@ -1,7 +1,7 @@
 // Where the clauses of the modules that a journal loads stand.
 
-use crate::files::NamedText;
 use kl1_journal_entries::{Deed, entry_of, next_line};
+use kl1_run_work::SourceFile;
 use kl1_steps::{ClausePlace, put_clauses};
 use kl1_user_events::Event;
 use std::alloc::{AllocError, Global};
@@ -14,7 +14,7 @@ pub struct Places {
 }
 
 /// The name of the file that has this text, if one has.
-fn name_among<'a>(sources: &'a [NamedText], text: &[u8]) -> Option<&'a [u8]> {
+fn name_among<'a>(sources: &'a [SourceFile], text: &[u8]) -> Option<&'a [u8]> {
     for source in sources {
         if source.text.as_slice() == text {
             return Some(source.name.as_slice());
@@ -28,7 +28,7 @@ impl Places {
     fn take(
         &mut self,
         alloc: Global,
-        sources: &[NamedText],
+        sources: &[SourceFile],
         text: &[u8],
     ) -> Result<(), AllocError> {
         let place = self.files.len();
@@ -49,7 +49,7 @@ impl Places {
 }
 
 /// The clauses of the modules that the entries of a text load.
-pub fn places_in(alloc: Global, text: &[u8], sources: &[NamedText]) -> Result<Places, AllocError> {
+pub fn places_in(alloc: Global, text: &[u8], sources: &[SourceFile]) -> Result<Places, AllocError> {
     let mut places = Places {
         clauses: Vec::new(alloc),
         files: Vec::new(alloc),

@@ -1,33 +1,57 @@
 // What is done with a journal.
 
-use crate::asked::{Asked, USAGE};
-use crate::entries::{Played, Player};
-use crate::fault::Fault;
-use crate::files::{read_journal, read_sources};
-use crate::naming::{NamesRead, bring_in, read_names};
-use crate::places::{Places, places_in};
-use crate::told::{finish, observers_for};
-use kl1_atoms::PlainTable;
-use kl1_codes::PlainCodes;
+use crate::steps::{StepsAsked, finish, observers_for};
+use crate::trace::entries::{Played, Player};
+use crate::trace::naming::{NamesRead, bring_in, read_names};
+use crate::trace::places::{Places, places_in};
+use crate::trace::{TRACE, USAGE};
+use crate::world::fresh_world;
 use kl1_journal_entries::{Heading, heading_of, next_line};
+use kl1_model::limits::{MOST_SCRIPT_BYTES, MOST_SOURCE_BYTES};
+use kl1_run_work::SourceFile;
 use kl1_trace_work::{Texts, Viewer};
 use kl1_watch::Names;
-use kl1_world::{AccountName, Rules, World};
-use std::alloc::{AllocError, Global};
+use kl1_words::{Fault, named_line, put_named_line, read_up_to};
 
 /// The status if what was read is no journal.
 const NO_JOURNAL: u8 = 1;
 
-/// An account in which nothing has happened.
-fn fresh_world(alloc: Global, rules: Rules) -> Result<World<PlainTable, PlainCodes>, AllocError> {
-    let name = AccountName::read(b"me").unwrap();
-    let (table, seats) = PlainTable::new(alloc, 1)?;
-    World::new(alloc, table, seats, PlainCodes::new(alloc), &[name], rules)
+/// Reads a file, at most `most` bytes of it.
+fn read_file(rt: &HostRuntime, name: &str, most: usize) -> Result<Vec<u8>, Fault> {
+    match read_up_to(rt, name, most as u64) {
+        Ok(text) => Ok(text),
+        Err(error) => {
+            let mut lines = Vec::new(rt.alloc());
+            put_named_line(rt.alloc(), &TRACE, name, &error, &mut lines)?;
+            Err(Fault::Lines(lines))
+        }
+    }
 }
 
-/// Tells the steps of the journal that the words name, and answers the program's status.
-pub fn do_task(rt: &HostRuntime, asked: &Asked<'_>) -> Result<u8, Fault> {
-    let [name, sources @ ..] = asked.words.as_slice() else {
+/// Reads a journal, which has no more bytes than one that is replayed.
+fn read_journal(rt: &HostRuntime, name: &str) -> Result<Vec<u8>, Fault> {
+    let text = read_file(rt, name, MOST_SCRIPT_BYTES.saturating_add(1))?;
+    if MOST_SCRIPT_BYTES < text.len() {
+        return Err(named_line(rt.alloc(), &TRACE, name, "too long"));
+    }
+    Ok(text)
+}
+
+/// Reads the files of sources, in order.
+fn read_sources(rt: &HostRuntime, names: &[&str]) -> Result<Vec<SourceFile>, Fault> {
+    let alloc = rt.alloc();
+    let mut files = Vec::new(alloc);
+    for name in names {
+        let text = read_file(rt, name, MOST_SOURCE_BYTES.saturating_add(1))?;
+        let name = Vec::from_slice(alloc, name.as_bytes())?;
+        files.push(SourceFile { name, text })?;
+    }
+    Ok(files)
+}
+
+/// Tells the steps of the journal that the first word names, with the sources that the others name, and answers the program's status.
+pub fn tell_journal(rt: &HostRuntime, asked: &StepsAsked<'_>, words: &[&str]) -> Result<u8, Fault> {
+    let [name, sources @ ..] = words else {
         let line = format!(in rt.alloc(); "kl1_trace: a journal is wanted\nUsage: {USAGE}\n")?;
         return Err(Fault::Lines(line.into_bytes()));
     };
@@ -51,7 +75,7 @@ pub fn do_task(rt: &HostRuntime, asked: &Asked<'_>) -> Result<u8, Fault> {
 /// Tells the steps of a journal that begins with this heading.
 fn tell_headed(
     rt: &HostRuntime,
-    asked: &Asked<'_>,
+    asked: &StepsAsked<'_>,
     name: &str,
     sources: &[&str],
     heading: Heading,
@@ -83,7 +107,7 @@ fn tell_headed(
     };
     let mut world = fresh_world(alloc, heading.rules)?;
     bring_in(alloc, &mut world, names.as_slice())?;
-    let observers = observers_for(rt, asked, texts)?;
+    let observers = observers_for(asked, texts, rt.stdout())?;
     let is_waking = observers.is_waking();
     let mut player = Player {
         alloc,
@@ -91,6 +115,14 @@ fn tell_headed(
         viewer: Viewer::new(alloc, &mut world, observers, is_waking)?,
     };
     let played = player.play(&mut world, rest, first)?;
-    finish(rt, asked, name, &mut player.viewer, &world)?;
+    finish(
+        rt,
+        asked,
+        name,
+        &[],
+        &mut player.viewer,
+        &world,
+        &mut rt.stdout(),
+    )?;
     Ok(played)
 }
