@@ -75,26 +75,13 @@ pub fn named_line(alloc: Global, program: &Program, name: &str, words: &str) -> 
     }
 }
 
-/// What came of a file that was to be written over.
-pub enum Opened {
-    /// It is open, and has no byte.
-    Empty(File),
+/// Why a file isn't written over.
+#[derive(Clone, Copy)]
+pub enum NotOpened {
     /// It is one of the files that are kept.
     Kept,
     /// It has something in it that doesn't begin so.
     Other,
-}
-
-/// Not derived, so that programs don't prove the drop of each part again.
-impl Drop for Opened {
-    fn drop(self) {
-        match self {
-            Opened::Empty(file) => {
-                let _ = file;
-            }
-            Opened::Kept | Opened::Other => {}
-        }
-    }
 }
 
 /// Opens a file, made if there is none, and empties it only once it is known that nothing is lost but what begins so, and that it is none
@@ -104,23 +91,23 @@ pub fn open_over<R: Files<File = File> + AllocGlobal>(
     name: &str,
     kept: &[FileId],
     beginning: &[u8],
-) -> io::Result<Opened> {
+) -> io::Result<Result<File, NotOpened>> {
     let file = OpenOptions::new().write(true).create(true).open(rt, name)?;
     let attributes = file.metadata()?;
     let id = FileId::of(&attributes);
     for other in kept {
         if id.is(*other) {
-            return Ok(Opened::Kept);
+            return Ok(Err(NotOpened::Kept));
         }
     }
     // Terminals, pipes and other devices have nothing that could be lost.
     if attributes.is_file() {
         if attributes.len() != 0 && !begins_with(rt, name, beginning)? {
-            return Ok(Opened::Other);
+            return Ok(Err(NotOpened::Other));
         }
         file.set_len(0)?;
     }
-    Ok(Opened::Empty(file))
+    Ok(Ok(file))
 }
 
 /// Whether a file begins so.

@@ -12,8 +12,8 @@ mod unasked;
 pub use asked::{Asked, asked_in, words_of};
 pub use fault::{BAD, Fault, LEFT};
 pub use files::{
-    FileId, Opened, named_line, open_over, put_named_line, read_known, read_up_to, rename_written,
-    replace,
+    FileId, NotOpened, named_line, open_over, put_named_line, read_known, read_up_to,
+    rename_written, replace,
 };
 pub use program::{OptionSpec, Program, SystemFaults, Takes, TaskSpec};
 pub use unasked::Unasked;
