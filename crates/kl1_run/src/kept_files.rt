@@ -1,6 +1,6 @@
 // The files to which journals and pictures are written.
 
-use kl1_words::{Fault, FileId, Opened, Program, named_line, open_over, put_named_line};
+use kl1_words::{Fault, FileId, NotOpened, Program, named_line, open_over, put_named_line};
 use std::fs::File;
 
 /// What is written to a file.
@@ -37,9 +37,9 @@ pub fn file_for(
 ) -> Result<File, Fault> {
     let alloc = rt.alloc();
     let why = match open_over(rt, name, modules, kind.beginning) {
-        Ok(Opened::Empty(file)) => return Ok(file),
-        Ok(Opened::Kept) => IS_MODULE,
-        Ok(Opened::Other) => kind.is_other,
+        Ok(Ok(file)) => return Ok(file),
+        Ok(Err(NotOpened::Kept)) => IS_MODULE,
+        Ok(Err(NotOpened::Other)) => kind.is_other,
         Err(error) => {
             let mut line = Vec::new(alloc);
             put_named_line(alloc, program, name, &error, &mut line)?;

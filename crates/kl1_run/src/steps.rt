@@ -49,6 +49,17 @@ impl<'a> StepsAsked<'a> {
         }
     }
 
+    /// The same, but each step if there is nothing else to be told.
+    pub fn or_all(self) -> Self {
+        if self.is_any() {
+            return self;
+        }
+        StepsAsked {
+            trace: Some(""),
+            ..self
+        }
+    }
+
     /// Whether anything is to be told.
     pub fn is_any(&self) -> bool {
         if self.trace.is_some() || self.timeline.is_some() {

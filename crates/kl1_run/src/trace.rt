@@ -5,8 +5,8 @@ mod naming;
 mod places;
 mod tasks;
 
-use crate::steps::{Profiles, StepsAsked};
-use kl1_words::{Asked, Fault, OptionSpec, Program, SystemFaults, Takes, asked_in};
+use crate::steps::StepsAsked;
+use kl1_words::{Fault, OptionSpec, Program, SystemFaults, Takes, asked_in};
 use tasks::tell_journal;
 
 /// How the program is called.
@@ -67,22 +67,14 @@ pub const TRACE: Program = Program {
     faults: SystemFaults::Writes,
 };
 
-/// What is to be told of steps: all of them, without an option.
-fn steps_of<'a>(asked: &Asked<'a>) -> StepsAsked<'a> {
-    let steps = StepsAsked::of(TRACE, asked);
-    if steps.is_any() {
-        return steps;
-    }
-    StepsAsked {
-        trace: Some(""),
-        ..steps
-    }
-}
-
 /// Does what the words of `kl1_trace` ask for, of which the first is its name, and answers its status.
 pub fn trace_journal(rt: &HostRuntime, words: &[String]) -> Result<u8, Fault> {
     match asked_in(rt.alloc(), &TRACE, words) {
-        Ok(asked) => tell_journal(rt, &steps_of(&asked), asked.words()),
+        Ok(asked) => {
+            // Without an option all steps are told.
+            let steps = StepsAsked::of(TRACE, &asked).or_all();
+            tell_journal(rt, &steps, asked.words())
+        }
         Err(unasked) => unasked.tell(rt, &TRACE),
     }
 }

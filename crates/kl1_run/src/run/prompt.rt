@@ -5,7 +5,7 @@ use crate::run::files::{Modules, read_each};
 use crate::run::reasons::line_reasons;
 use crate::run::shown::{MOST_FORMED, Shown, put_at_prompt};
 use crate::run::tasks::{failed_write, journal_of};
-use crate::run::told::written;
+use crate::run::told::write_done;
 use crate::world::{OwnWorld, fresh_world};
 use kl1_prompt::{
     Line, News, Plan, Stand, Table, do_line, load_all, parse_line, put_answer, put_help, put_news,
@@ -149,8 +149,8 @@ impl Session<'_, '_> {
 
     /// Writes what is to be told.
     fn tell(&mut self) -> Result<(), Fault> {
-        written(self.rt.stdout().write_all(self.told.answers.as_slice()))?;
-        written(self.rt.stderr().write_all(self.told.faults.as_slice()))?;
+        write_done(self.rt.stdout().write_all(self.told.answers.as_slice()))?;
+        write_done(self.rt.stderr().write_all(self.told.faults.as_slice()))?;
         self.has_faults = self.has_faults || !self.told.faults.is_empty();
         self.told.answers.clear();
         self.told.faults.clear();
@@ -373,10 +373,12 @@ fn read_modules(
     }
     match read_each(rt, words.as_slice()) {
         Ok(Modules { files, .. }) => Ok(Some(files)),
-        Err(Fault::Lines(lines)) => {
+        Err(fault) => {
+            let Fault::Lines(lines) = &fault else {
+                return Err(fault);
+            };
             faults.extend_from_slice(lines.as_slice())?;
             Ok(None)
         }
-        Err(fault) => Err(fault),
     }
 }

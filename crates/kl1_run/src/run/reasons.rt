@@ -1,6 +1,6 @@
 // What is told of files and goals: why they are refused, and what was hardly meant.
 
-use crate::run::told::written;
+use crate::run::told::write_done;
 use kl1_lines::{is_same, split_word};
 use kl1_prompt::put_help;
 use kl1_reasons::{
@@ -40,7 +40,7 @@ pub fn warn(rt: &HostRuntime, files: &[SourceFile], are_faults: bool) -> Result<
     if has_warnings && are_faults {
         return Err(Fault::Lines(lines));
     }
-    written(rt.stderr().write_all(lines.as_slice()))?;
+    write_done(rt.stderr().write_all(lines.as_slice()))?;
     Ok(0)
 }
 

@@ -14,7 +14,7 @@ use crate::run::reasons::{goal_in, warn};
 use crate::run::scripts::script_alone;
 use crate::run::shown::{MOST_WHOLE, Shown, in_form};
 use crate::run::stats::tell_stats;
-use crate::run::told::{tell_ending, used_of, written};
+use crate::run::told::{tell_ending, used_of, write_done};
 use crate::run::watched::tell_steps;
 use crate::run::words::RUN;
 use kl1_run_work::{Ending, FailureCounter, Stop, Term, Work, put_fault, words_of};
@@ -70,7 +70,7 @@ fn write_script(
         Ok(script) => script,
         Err(stop) => return Err(fault_of(alloc, stop, names, word)?),
     };
-    written(rt.stdout().write_all(script.as_slice()))?;
+    write_done(rt.stdout().write_all(script.as_slice()))?;
     Ok(0)
 }
 
@@ -163,7 +163,7 @@ fn tell_after(rt: &HostRuntime, asked: &Asked<'_>, after: Option<After>) -> Resu
     let Some(after) = after else {
         return Err(Fault::Memory);
     };
-    written(rt.stderr().write_all(after.lines.as_slice()))?;
+    write_done(rt.stderr().write_all(after.lines.as_slice()))?;
     if asked.has_stats {
         tell_stats(rt, after.reductions, &after.usage)?;
     }
@@ -184,7 +184,7 @@ fn show_goal(
     let shown = Shown::new(alloc, asked.form, word, goal, written)?;
     if asked.form.is_other() {
         let text = in_form(alloc, asked.form, asked.most, &shown, written)?;
-        written(rt.stdout().write_all(text.as_slice()))?;
+        write_done(rt.stdout().write_all(text.as_slice()))?;
     }
     if shown.is_left(asked.form) {
         eprintln!(rt; "kl1_run: the goal is too long for --bindings and --infix")?;
@@ -195,7 +195,7 @@ fn show_goal(
     if let Ending::Terminated = ending {
         let mut warnings = Vec::new(alloc);
         shown.put_warnings(&mut warnings)?;
-        written(rt.stderr().write_all(warnings.as_slice()))?;
+        write_done(rt.stderr().write_all(warnings.as_slice()))?;
     }
     Ok(())
 }

@@ -85,8 +85,8 @@ pub fn tell_ending<R: Eprint>(
 }
 
 /// What came of a write.
-pub fn written(result: io::Result<()>) -> Result<(), Fault> {
-    match result {
+pub fn write_done(done: io::Result<()>) -> Result<(), Fault> {
+    match done {
         Ok(()) => Ok(()),
         Err(error) => Err(Fault::Write(error)),
     }
