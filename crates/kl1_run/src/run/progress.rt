@@ -1,7 +1,5 @@
 // What is told while a run goes on.
 
-ghost use Rattle.std.specs.Prelude.{None};
-
 use kl1_run_work::Watch;
 use std::io::IsTerminal;
 use std::time::Instant;
@@ -52,9 +50,6 @@ impl<'r> Progress<'r> {
 }
 
 impl Watch for Progress<'_> {
-    // What the terminal took isn't known.
-    ghost told = { λ p. None };
-
     fn is_due(&mut self) -> bool {
         let Some(start) = self.start else {
             return false;
@@ -82,8 +77,6 @@ impl Watch for Progress<'_> {
 pub struct NoWatch;
 
 impl Watch for NoWatch {
-    ghost told = { λ w. None };
-
     fn is_due(&mut self) -> bool {
         false
     }

@@ -1,8 +1,5 @@
 // What standard error is told, and the program's status.
 
-ghost use Rattle.std.specs.Prelude.{◌≡◌, ◌+◌, ℕ};
-ghost use Rattle.kl1_run.specs.Used.{used_of};
-
 use crate::run::after::After;
 use kl1_model::Condition;
 use kl1_run_work::Ending;
@@ -22,9 +19,7 @@ pub enum Used {
 
 /// What a run of at most `steps` steps has used up, after loads of this many files and a start, if goals can still step after it:
 /// without runs each step is an entry of the journal, and with them a run of more steps than any allowance is one.
-pub fn used_of(rules: Rules, files: u64, steps: u64) -> Used
-    ensures { result ≡ used_of rules files steps }
-{
+pub fn used_of(rules: Rules, files: u64, steps: u64) -> Used {
     let entries = u128::from(files) + 1 + u128::from(steps);
     if !rules.has_runs() && u128::from(rules.limits().entries) < entries {
         Used::Journal
