@@ -52,7 +52,7 @@ fn is_substitute(goal: &NewGoal) -> bool {
 
 /// How many of new goals wait for an answer to an exception.
 pub fn raised_among(new: &[NewGoal]) -> usize {
-    let mut count = 0;
+    let mut count: usize = 0;
     for goal in new {
         if is_substitute(goal) {
             count = count.saturating_add(1);

@@ -57,7 +57,7 @@ fn is_waiting(goal: &NewGoal) -> bool {
 
 /// How many of new goals are to be reduced.
 fn reduced_among(new: &[NewGoal]) -> usize {
-    let mut count = 0;
+    let mut count: usize = 0;
     for goal in new {
         if is_reduced(goal) {
             count = count.saturating_add(1);
