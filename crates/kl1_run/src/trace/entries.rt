@@ -153,7 +153,7 @@ impl<W: Write + Drop> Player<'_, W> {
             return Ok(done_by(watch_step(host, *goal, *clause, &mut self.viewer)?));
         }
         let reply = host.apply(event)?;
-        if let Reply::Refused(_refusal) = reply {
+        if let Reply::Refused(_refusal) = &reply {
             return Ok(Done::Refused);
         }
         let new = self.viewer.look_anew(host)?;

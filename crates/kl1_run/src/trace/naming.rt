@@ -101,7 +101,7 @@ pub fn bring_in<H: Host>(alloc: Global, host: &mut H, names: &[AtomText]) -> Res
 
 /// Has an event done, which isn't refused.
 fn apply<H: Host>(host: &mut H, event: &Event) -> Result<(), Fault> {
-    match host.apply(event)? {
+    match &host.apply(event)? {
         Reply::Refused(_refusal) => Err(Fault::Memory),
         _ => Ok(()),
     }

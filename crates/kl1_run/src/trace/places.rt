@@ -61,7 +61,7 @@ pub fn places_in(alloc: Global, text: &[u8], sources: &[SourceFile]) -> Result<P
             break;
         };
         if line.starts_with(b"load ") {
-            if let Some(Deed::Event(Event::Load { source })) = entry_of(alloc, line)? {
+            if let Some(Deed::Event(Event::Load { source })) = &entry_of(alloc, line)? {
                 places.take(alloc, sources, source.as_slice())?;
             }
         }
