@@ -22,12 +22,12 @@ pub enum Tool {
 
 impl Tool {
     /// Its name and its words.
-    pub fn program(self) -> Program {
+    pub fn program(self) -> &'static Program {
         match self {
-            Tool::Run => RUN,
-            Tool::Test => TEST,
-            Tool::Fmt => FMT,
-            Tool::Trace => TRACE,
+            Tool::Run => &RUN,
+            Tool::Test => &TEST,
+            Tool::Fmt => &FMT,
+            Tool::Trace => &TRACE,
         }
     }
 }

@@ -26,7 +26,7 @@ const OPTIONS: [OptionSpec; 2] = [
 ];
 
 /// The program that lays files out.
-pub const FMT: Program = Program {
+pub static FMT: Program = Program {
     name: "kl1_fmt",
     about: "Lays modules in files out",
     usage: "kl1_fmt [--check] FILE...\n       kl1_fmt --help | --version",

@@ -23,7 +23,7 @@ fn main(rt: HostRuntime) -> ExitCode {
     let (tool, before) = called(&rt);
     ExitCode::from(match status_of(&rt, tool, before) {
         Ok(status) => status,
-        Err(fault) => fault.tell(&mut rt.stderr(), &tool.program()),
+        Err(fault) => fault.tell(&mut rt.stderr(), tool.program()),
     })
 }
 

@@ -22,7 +22,7 @@ pub enum Profiles {
 /// What is to be told of steps, and by which program.
 #[derive(Clone, Copy)]
 pub struct StepsAsked<'a> {
-    program: Program,
+    program: &'static Program,
     /// The patterns of the steps that are told; `None` if none is.
     pub trace: Option<&'a str>,
     /// How it is told what each predicate did.
@@ -35,7 +35,7 @@ pub struct StepsAsked<'a> {
 
 impl<'a> StepsAsked<'a> {
     /// What the words of a program ask for.
-    pub fn of(program: Program, asked: &Asked<'a>) -> Self {
+    pub fn of(program: &'static Program, asked: &Asked<'a>) -> Self {
         StepsAsked {
             program,
             trace: asked.text("trace"),
@@ -93,7 +93,7 @@ pub fn observers_for<'a, W: Write + Drop>(
     let trace = match asked.trace {
         None => None,
         Some(words) => {
-            let pattern = pattern_in(alloc, &asked.program, words)?;
+            let pattern = pattern_in(alloc, asked.program, words)?;
             Some(Trace::new(texts, pattern, out))
         }
     };
@@ -104,7 +104,7 @@ pub fn observers_for<'a, W: Write + Drop>(
     let timeline = match asked.timeline {
         None => None,
         Some(_file) => {
-            let pattern = pattern_in(alloc, &asked.program, asked.lanes.unwrap_or(""))?;
+            let pattern = pattern_in(alloc, asked.program, asked.lanes.unwrap_or(""))?;
             Some(Timeline::new(alloc, pattern))
         }
     };
@@ -168,7 +168,7 @@ fn write_picture(
         return Ok(());
     };
     let alloc = rt.alloc();
-    let mut file = file_for(rt, &asked.program, PICTURE, name, modules)?;
+    let mut file = file_for(rt, asked.program, PICTURE, name, modules)?;
     let mut picture = Vec::new(alloc);
     put_picture(alloc, timeline, title.as_bytes(), &mut picture)?;
     match file.write_all(picture.as_slice()) {

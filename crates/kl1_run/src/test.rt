@@ -21,7 +21,7 @@ const OPTIONS: [OptionSpec; 1] = [OptionSpec {
 }];
 
 /// The program that runs the tests that stand in comments of modules.
-pub const TEST: Program = Program {
+pub static TEST: Program = Program {
     name: "kl1_test",
     about: "Runs the tests that stand in comments of modules",
     usage: "kl1_test FILE...\n       kl1_test --help | --version",

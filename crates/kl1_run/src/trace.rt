@@ -58,7 +58,7 @@ const OPTIONS: [OptionSpec; 5] = [
 ];
 
 /// The program that tells the steps of a journal.
-pub const TRACE: Program = Program {
+pub static TRACE: Program = Program {
     name: "kl1_trace",
     about: "Tells the steps of a journal",
     usage: USAGE,
@@ -72,7 +72,7 @@ pub fn trace_journal(rt: &HostRuntime, words: &[String]) -> Result<u8, Fault> {
     match asked_in(rt.alloc(), &TRACE, words) {
         Ok(asked) => {
             // Without an option all steps are told.
-            let steps = StepsAsked::of(TRACE, &asked).or_all();
+            let steps = StepsAsked::of(&TRACE, &asked).or_all();
             tell_journal(rt, &steps, asked.words())
         }
         Err(unasked) => unasked.tell(rt, &TRACE),

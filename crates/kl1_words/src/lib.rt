@@ -16,4 +16,4 @@ pub use files::{
     rename_written, replace,
 };
 pub use program::{OptionSpec, Program, SystemFaults, Takes, TaskSpec};
-pub use unasked::Unasked;
+pub use unasked::{Unasked, why_in};

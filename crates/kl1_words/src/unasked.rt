@@ -4,11 +4,16 @@ use crate::fault::Fault;
 use crate::program::Program;
 use clap::Error;
 use clap::error::ErrorKind;
-use std::alloc::Global;
+use std::alloc::{AllocError, Global};
 use std::io;
 
 /// How the library of words begins what it tells of a fault.
 const ERROR: &str = "error: ";
+
+/// Why words aren't understood, in what the library of words tells.
+pub fn why_in(text: &str) -> &str {
+    text.strip_prefix(ERROR).unwrap_or(text)
+}
 
 /// Words that ask for help or the version, or that aren't understood.
 pub struct Unasked {
@@ -44,12 +49,9 @@ impl Unasked {
         self.error.print(rt)
     }
 
-    /// Why the words aren't understood, with the program's name before it.
-    fn line(&self, alloc: Global, program: &Program) -> Result<String, Fault> {
-        let text = format!(in alloc; "{}", self.error)?;
-        let why = text.as_str();
-        let why = why.strip_prefix(ERROR).unwrap_or(why);
-        Ok(format!(in alloc; "{}: {why}", program.name)?)
+    /// What the library of words tells.
+    pub fn text(&self, alloc: Global) -> Result<String, AllocError> {
+        format!(in alloc; "{}", self.error)
     }
 
     /// Writes help or the version to standard output, and answers the program's status; or answers why the words aren't understood.
@@ -59,7 +61,9 @@ impl Unasked {
         program: &Program,
     ) -> Result<u8, Fault> {
         if self.is_bad() {
-            let line = self.line(rt.alloc(), program)?;
+            let text = self.text(rt.alloc())?;
+            let why = why_in(text.as_str());
+            let line = format!(in rt.alloc(); "{}: {why}", program.name)?;
             return Err(Fault::Lines(line.into_bytes()));
         }
         match self.print(rt) {

@@ -174,7 +174,7 @@ const OPTIONS: [OptionSpec; 19] = [
 ];
 
 /// The program that tries modules from files.
-pub const RUN: Program = Program {
+pub static RUN: Program = Program {
     name: "kl1_run",
     about: "Loads modules from files, and runs a goal",
     usage: USAGE,
@@ -254,7 +254,7 @@ pub fn asked_of<'a>(asked: &'a kl1_words::Asked<'a>) -> Asked<'a> {
             None => Waits::First,
         },
         has_stats: asked.has("stats"),
-        told: StepsAsked::of(RUN, asked),
+        told: StepsAsked::of(&RUN, asked),
         journal: asked.text("journal"),
         warnings_are_faults: asked.has("warn"),
     }
