@@ -1,7 +1,5 @@
 // Clients over streams in memory.
 
-ghost use Rattle.std.specs.Prelude.{⊤, None};
-
 use crate::session::streams::Pieces;
 use kl1_client_talk::{
     Caller, Connection, Fault, LineReader, ReplyWriter, TurnEnd, status_of, talk,
@@ -20,12 +18,6 @@ struct Script<'a> {
 }
 
 impl Caller for Script<'_> {
-    ghost remaining = { λ s. None };
-
-    ghost told = { λ s. None };
-
-    ghost is_file = { λ name bytes. ⊤ };
-
     fn next(&mut self, line: &mut Vec<u8>) -> Result<bool, Fault> {
         self.lines.next(line, Fault::Commands)
     }
