@@ -1,48 +1,53 @@
-//! Checks of a host over sockets of this machine and files in memory: it is stopped, its files are cut or fail, and it is started again.
-#![tactic(auto)]
+// Checks of a host over sockets of this machine and files in memory: it is stopped, its files are cut or fail, and it is started again.
 
 mod guest;
 mod hosted;
 mod restarts;
 mod visits;
 
-use crate::restarts::{
+use crate::host::restarts::{
     accounts_go_on_after_a_restart, cut_file_is_restored_to_its_whole_lines,
     failing_file_acknowledges_nothing_that_is_lost, refused_entry_ends_the_start,
 };
-use crate::visits::{
+use crate::host::visits::{
     address_has_a_limit, loads_have_a_limit, stop_ends_open_connections, stop_writes_what_is_left,
 };
-use kl1_tests_rows::{Text, put_check};
-use std::io;
-use std::io::{Error, ErrorKind, Write};
+use crate::report::Report;
+use std::alloc::Global;
+use std::net::{Net, TcpListener, TcpStream};
+use std::sync::Wait;
+use std::thread::Threads;
+use std::time::Clock;
 
-/// Writes a line on each check.
-fn main(rt: HostRuntime) -> io::Result<()> {
-    let alloc = rt.alloc();
-    let mut out = Text::new(alloc);
-    let done = accounts_go_on_after_a_restart(&rt, alloc);
-    put_check(&mut out, b"accounts_go_on_after_a_restart", done);
-    let done = cut_file_is_restored_to_its_whole_lines(&rt, alloc);
-    put_check(&mut out, b"cut_file_is_restored_to_its_whole_lines", done);
-    let done = refused_entry_ends_the_start(&rt, alloc);
-    put_check(&mut out, b"refused_entry_ends_the_start", done);
-    let done = failing_file_acknowledges_nothing_that_is_lost(&rt, alloc);
-    put_check(
-        &mut out,
-        b"failing_file_acknowledges_nothing_that_is_lost",
-        done,
+/// Puts the line on each check.
+pub(crate) fn put_checks<R>(report: &mut Report, rt: &R, alloc: Global)
+where
+    R: Net<Listener = TcpListener, Stream = TcpStream> + Threads + Wait + Clock + Sync,
+{
+    report.put(
+        b"accounts_go_on_after_a_restart",
+        accounts_go_on_after_a_restart(rt, alloc),
     );
-    let done = stop_ends_open_connections(&rt, alloc);
-    put_check(&mut out, b"stop_ends_open_connections", done);
-    let done = address_has_a_limit(&rt, alloc);
-    put_check(&mut out, b"address_has_a_limit", done);
-    let done = stop_writes_what_is_left(&rt, alloc);
-    put_check(&mut out, b"stop_writes_what_is_left", done);
-    let done = loads_have_a_limit(&rt, alloc);
-    put_check(&mut out, b"loads_have_a_limit", done);
-    if out.has_failed {
-        return Err(Error::from(ErrorKind::OutOfMemory));
-    }
-    rt.stdout().write_all(out.bytes.as_slice())
+    report.put(
+        b"cut_file_is_restored_to_its_whole_lines",
+        cut_file_is_restored_to_its_whole_lines(rt, alloc),
+    );
+    report.put(
+        b"refused_entry_ends_the_start",
+        refused_entry_ends_the_start(rt, alloc),
+    );
+    report.put(
+        b"failing_file_acknowledges_nothing_that_is_lost",
+        failing_file_acknowledges_nothing_that_is_lost(rt, alloc),
+    );
+    report.put(
+        b"stop_ends_open_connections",
+        stop_ends_open_connections(rt, alloc),
+    );
+    report.put(b"address_has_a_limit", address_has_a_limit(rt, alloc));
+    report.put(
+        b"stop_writes_what_is_left",
+        stop_writes_what_is_left(rt, alloc),
+    );
+    report.put(b"loads_have_a_limit", loads_have_a_limit(rt, alloc));
 }

@@ -9,5 +9,5 @@ mod sources;
 mod tells;
 mod times;
 
-pub use checks::put_atom_checks;
-pub use tells::put_times as put_atom_times;
+pub use checks::put_checks;
+pub use tells::put_times;

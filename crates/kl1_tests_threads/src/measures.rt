@@ -1,6 +1,29 @@
-// Times of one, two and four threads, and ratios as they are told.
+// What the clock shows; times of one, two and four threads, and ratios as they are told.
 
-use kl1_tests_rows::{Text, hundredths};
+use crate::report::Text;
+use std::rt::Clock;
+use std::time::Instant;
+
+/// What the clock shows; nothing if it can't be read.
+pub fn moment<R: Clock>(rt: &R) -> Option<Instant> {
+    Instant::now(rt).ok()
+}
+
+/// The nanoseconds since a moment; 0 if the clock can't be read.
+pub fn nanoseconds_since<R: Clock>(rt: &R, start: Option<Instant>) -> u128 {
+    match start {
+        None => 0,
+        Some(start) => match start.elapsed(rt) {
+            Ok(time) => time.as_nanos(),
+            Err(_unread) => 0,
+        },
+    }
+}
+
+/// A number, or the greatest of 64 bits if it is more.
+pub fn small(number: u128) -> u64 {
+    number.min(0xffff_ffff_ffff_ffff) as u64
+}
 
 /// Nanoseconds that one, two and four threads take, each with all the work; and whether they came to what is right.
 #[derive(Clone, Copy)]
@@ -33,19 +56,14 @@ pub fn are_all(numbers: &[u64], wanted: u64) -> bool {
     true
 }
 
-/// Puts a number of hundredths, or of all of 64 bits, if that is less.
-fn put_count(out: &mut Text, count: u128) {
-    out.put_number(count.min(0xffff_ffff_ffff_ffff) as u64);
-}
-
 /// Puts a text, and a time as a ratio to another, in hundredths.
 pub fn put_ratio(out: &mut Text, before: &[u8], time: u128, of: u128) {
-    let hundredths = hundredths(time, of);
+    let hundredths = small(time.saturating_mul(100) / of.max(1));
     out.put(before);
-    put_count(out, hundredths / 100);
+    out.put_number(hundredths / 100);
     out.put(b".");
-    put_count(out, hundredths % 100 / 10);
-    put_count(out, hundredths % 10);
+    out.put_number(hundredths % 100 / 10);
+    out.put_number(hundredths % 10);
 }
 
 /// Puts whether something is so, between two texts.

@@ -1,4 +1,4 @@
-// A text as it is put together.
+// The report, and answers as they are put together.
 
 use itoa::Buffer;
 use std::alloc::{AllocError, Global};
@@ -43,4 +43,13 @@ impl Text {
     pub fn put_number(&mut self, number: u64) {
         self.put(Buffer::new().format(number).as_bytes());
     }
+}
+
+/// Puts the line on a row or a check: its name, and `right` or `WRONG`.
+pub fn put_check(out: &mut Text, name: &[u8], done: Result<bool, AllocError>) {
+    out.put(name);
+    out.put(match done {
+        Ok(true) => b" right\n",
+        _ => b" WRONG\n",
+    });
 }

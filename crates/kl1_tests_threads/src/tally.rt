@@ -7,5 +7,5 @@ mod sums;
 mod tells;
 mod times;
 
-pub use checks::put_tally_checks;
-pub use tells::put_times as put_tally_times;
+pub use checks::put_checks;
+pub use tells::put_times;

@@ -5,4 +5,4 @@ mod left;
 mod stand_ins;
 mod threads;
 
-pub use checks::put_ticket_checks;
+pub use checks::put_checks;

@@ -1,6 +1,6 @@
 // Hosts that are started again.
 
-use crate::hosted::{Outcome, hosted};
+use crate::host::hosted::{Outcome, hosted};
 use kl1_host_work::StartFault;
 use std::alloc::{AllocError, Global};
 use std::net::{Net, TcpListener, TcpStream};

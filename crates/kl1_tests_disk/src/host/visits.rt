@@ -1,7 +1,7 @@
 // Hosts that are visited in other ways.
 
-use crate::guest::Visit;
-use crate::hosted::{Outcome, setup, visited};
+use crate::host::guest::Visit;
+use crate::host::hosted::{Outcome, setup, visited};
 use kl1_host_work::{Limits, Setup, Syncing};
 use std::alloc::{AllocError, Global};
 use std::net::{Net, TcpListener, TcpStream};

@@ -1,6 +1,6 @@
 // Files that fail.
 
-use crate::shelf::{ENOUGH, FRESH, Faults, Shelf, journal_of, on_disk, only_scribe};
+use crate::journals::shelf::{ENOUGH, FRESH, Faults, Shelf, journal_of, on_disk, only_scribe};
 use kl1_host_journals::{Keeper, Outgoing, Scribe, SyncedWriter};
 use kl1_log::Memory;
 use std::alloc::{AllocError, Global};

@@ -1,6 +1,6 @@
 // Files when a host starts.
 
-use crate::shelf::{ENOUGH, FRESH, linked, on_disk};
+use crate::journals::shelf::{ENOUGH, FRESH, linked, on_disk};
 use kl1_host_journals::{OpenFault, link, open_file};
 use kl1_log::Memory;
 use kl1_model::Rules;
@@ -69,7 +69,7 @@ pub(crate) fn same_text_is_not_written_again(alloc: Global) -> Result<bool, Allo
     let Ok((file, _)) = open_file(alloc, disk, Rules::Four, false) else {
         return Ok(false);
     };
-    let whole = crate::shelf::journal_of(alloc, b"journal 4 0 0\nrun 5\n")?;
+    let whole = crate::journals::shelf::journal_of(alloc, b"journal 4 0 0\nrun 5\n")?;
     let Ok(linked) = link(alloc, file, 3, &whole, 0) else {
         return Ok(false);
     };

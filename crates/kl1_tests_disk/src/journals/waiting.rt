@@ -1,6 +1,6 @@
 // Replies that wait for the disk.
 
-use crate::shelf::{ENOUGH, Faults, Shelf, journal_of, on_disk, only_scribe};
+use crate::journals::shelf::{ENOUGH, Faults, Shelf, journal_of, on_disk, only_scribe};
 use kl1_host_journals::{Keeper, Outgoing, SyncedWriter};
 use std::alloc::{AllocError, Global};
 use std::cell::Cell;

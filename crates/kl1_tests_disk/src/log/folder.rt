@@ -1,6 +1,6 @@
 // Files in a folder of the system.
 
-use crate::cut::{OPENING, TEXT, counted};
+use crate::log::cut::{OPENING, TEXT, counted};
 use kl1_log::{Batch, Change, Disk, FolderFile, Found, LogError, LogFile, restore};
 use std::alloc::Global;
 use std::os::unix::fs::symlink;

@@ -1,6 +1,6 @@
 // A journal with a bit that was turned.
 
-use crate::cut::{OPENING, TEXT};
+use crate::log::cut::{OPENING, TEXT};
 use kl1_log::{Found, recover};
 use std::alloc::{AllocError, Global};
 

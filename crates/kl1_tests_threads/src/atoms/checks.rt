@@ -10,14 +10,14 @@ use crate::atoms::sources::{
     seats_share,
 };
 use crate::atoms::tells::threads_find_the_same;
+use crate::report::{Text, put_check};
 use kl1_model::limits::{MOST_ACCOUNTS, MOST_NAMES};
-use kl1_tests_rows::{Text, put_check};
 use kl1_text::AtomText;
 use std::rt::Clock;
 use std::thread::Threads;
 
 /// Puts a line on each check after a report.
-pub fn put_atom_checks<R: Threads + Clock + Sync>(rt: &R, out: &mut Text) {
+pub fn put_checks<R: Threads + Clock + Sync>(rt: &R, out: &mut Text) {
     match names(out.alloc, MOST_NAMES as u32) {
         Ok(names) => put_each(rt, out, names.as_slice()),
         Err(_refused) => out.fail(),

@@ -7,9 +7,8 @@ ghost use Rattle.kl1_atoms.specs.declared.atom_seat.AtomSeat.{AtomSeat};
 ghost use Rattle.kl1_atoms.specs.Knowing.{KnowsFirst};
 
 use crate::atoms::seats::next_seat;
-use crate::ratios::are_all;
+use crate::measures::{are_all, moment, nanoseconds_since};
 use kl1_atoms::{AtomSeat, AtomTable, Turns};
-use kl1_tests_rows::{moment, nanoseconds_since};
 use kl1_text::AtomText;
 use std::alloc::AllocError;
 use std::rt::Clock;

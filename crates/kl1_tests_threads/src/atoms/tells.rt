@@ -2,8 +2,8 @@
 
 use crate::atoms::names::names;
 use crate::atoms::times::{Looks, times_of_run};
-use crate::ratios::{put_ratio, put_whether};
-use kl1_tests_rows::Text;
+use crate::measures::{put_ratio, put_whether};
+use crate::report::Text;
 use std::alloc::{AllocError, Global};
 use std::rt::Clock;
 use std::thread::Threads;

@@ -5,9 +5,8 @@ ghost use Rattle.kl1_atoms.specs.Seats.{IsNewSharedSeat, face_in};
 ghost use Rattle.kl1_atoms.specs.declared.atom_seat.AtomSeat.{AtomSeat};
 
 use crate::atoms::look_ups::found_by;
-use crate::ratios::Times;
+use crate::measures::{Times, moment, nanoseconds_since};
 use kl1_atoms::{AtomSeat, AtomTable};
-use kl1_tests_rows::{moment, nanoseconds_since};
 use kl1_text::AtomText;
 use std::alloc::{AllocError, Global};
 use std::collections::HashMap;

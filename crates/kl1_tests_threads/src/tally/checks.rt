@@ -1,14 +1,14 @@
 // The checks by their names.
 
+use crate::report::{Text, put_check};
 use crate::tally::sums::{come_to_the_numbers, threads_come_to_the_sums};
 use crate::tally::tells::threads_count_all;
 use kl1_tally::MOST_ACCOUNTS;
-use kl1_tests_rows::{Text, put_check};
 use std::rt::Clock;
 use std::thread::Threads;
 
 /// Puts a line on each check after a report.
-pub fn put_tally_checks<R: Threads + Clock + Sync>(rt: &R, out: &mut Text) {
+pub fn put_checks<R: Threads + Clock + Sync>(rt: &R, out: &mut Text) {
     let alloc = out.alloc;
     let done = threads_come_to_the_sums(rt, alloc);
     put_check(

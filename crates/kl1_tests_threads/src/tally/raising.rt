@@ -2,10 +2,9 @@
 
 ghost use Rattle.std.specs.Prelude.{◌≡◌, ◌+◌, ◌<◌, ◌≤◌, All, IfOk, OnOk, vec_len};
 
-use crate::ratios::are_all;
+use crate::measures::{are_all, moment, nanoseconds_since};
 use crate::tally::counting::{next_book, next_share};
 use kl1_tally::{BookSeat, ShareSeat, Tally};
-use kl1_tests_rows::{moment, nanoseconds_since};
 use std::alloc::{AllocError, Global};
 use std::rt::Clock;
 use std::sync::atomic::{AtomicU64, Ordering};

@@ -1,8 +1,8 @@
 // What is told of counting.
 
-use crate::ratios::{Times, put_ratio, put_whether};
+use crate::measures::{Times, put_ratio, put_whether};
+use crate::report::Text;
 use crate::tally::times::{times_of_sum, times_of_tally};
-use kl1_tests_rows::Text;
 use std::alloc::{AllocError, Global};
 use std::rt::Clock;
 use std::thread::Threads;

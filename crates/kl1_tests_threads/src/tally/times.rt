@@ -2,7 +2,7 @@
 
 ghost use Rattle.std.specs.Prelude.{◌≤◌, ◌≡◌, All, vec_len};
 
-use crate::ratios::Times;
+use crate::measures::Times;
 use crate::tally::raising::{added_by, raised_by};
 use kl1_tally::{BookSeat, ShareSeat, Tally};
 use std::alloc::{AllocError, Global};

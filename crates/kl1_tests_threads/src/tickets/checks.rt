@@ -1,9 +1,9 @@
 // The checks by their names.
 
+use crate::report::{Text, put_check};
 use crate::tickets::threads::{left, worked};
 use kl1_pool_tickets::Totals;
 use kl1_tally::MOST_ACCOUNTS;
-use kl1_tests_rows::{Text, put_check};
 use std::rt::Clock;
 use std::sync::Wait;
 use std::thread::Threads;
@@ -31,7 +31,7 @@ fn are(told: &Totals, steps: u64, puts: u128, takes: u128, left: u128) -> bool {
 }
 
 /// Puts a line on each check after a report.
-pub fn put_ticket_checks<R: Threads + Wait + Clock + Sync>(rt: &R, out: &mut Text) {
+pub fn put_checks<R: Threads + Wait + Clock + Sync>(rt: &R, out: &mut Text) {
     let worked = worked(rt, out.alloc);
     let met = match &worked {
         Ok((_, met)) => *met,

@@ -5,13 +5,12 @@ ghost use Rattle.kl1_tally.specs.declared.amounts.TheConstants.{MOST_ACCOUNTS};
 ghost use Rattle.kl1_pool_tickets.specs.Counts.{Moved, Acts};
 ghost use Rattle.kl1_pool_tickets.specs.Parts.{IsNewBook};
 
+use crate::gate::Counter;
 use kl1_pool_tickets::{Accounts, Booked, PoolShared, Share, TicketIds, TimeSlice};
 use kl1_tally::{BookSeat, Tally};
 use std::alloc::{AllocError, Global};
 use std::marker::PhantomData;
-use std::sync::atomic::{AtomicU64, Ordering};
 use std::sync::{Mutex, Wait};
-use std::thread;
 
 /// An account's book, and how many steps it still has to do.
 #[derive(Drop)]
@@ -65,7 +64,7 @@ impl<K: TicketIds> StandIn<K> {
     /// Enters the gate and does a step, if this is the account of the number.
     fn turn(
         &mut self,
-        gate: &Gate,
+        gate: &Counter,
         tally: &Tally,
         account: usize,
         share: &mut Share<K>,
@@ -80,7 +79,7 @@ impl<K: TicketIds> StandIn<K> {
                 again: false,
             };
         }
-        gate.enter();
+        gate.come();
         let done = self.step(tally, share);
         TimeSlice {
             steps: u64::from(done),
@@ -89,47 +88,12 @@ impl<K: TicketIds> StandIn<K> {
     }
 }
 
-/// Holds who comes first until a second comes, for at most 1,000,000 turns.
-#[derive(Drop)]
-pub struct Gate {
-    entered: AtomicU64,
-    met: AtomicU64,
-}
-
-impl Gate {
-    /// A gate that nobody has come to.
-    pub fn new() -> Gate {
-        Gate {
-            entered: AtomicU64::new(0),
-            met: AtomicU64::new(0),
-        }
-    }
-
-    /// Comes to the gate.
-    fn enter(&self) {
-        if self.entered.fetch_add(1, Ordering::SeqCst) == 0 {
-            for _turn in 0..1_000_000u64 {
-                if self.entered.load(Ordering::SeqCst) > 1 {
-                    self.met.store(1, Ordering::SeqCst);
-                    return;
-                }
-                thread::yield_now();
-            }
-        }
-    }
-
-    /// Whether a second came while the first was held.
-    pub fn has_met(&self) -> bool {
-        self.met.load(Ordering::SeqCst) == 1
-    }
-}
-
 /// Accounts that stand in, each under its lock, with what threads share, and a gate that each turn enters under the lock.
 #[derive(Drop)]
 pub struct Pool<K: TicketIds> {
     pub common: PoolShared<K>,
     pub accounts: Vec<Mutex<StandIn<K>>>,
-    pub gate: Gate,
+    pub gate: Counter,
 }
 
 impl<K: TicketIds> Accounts<K> for Pool<K> {

@@ -2,8 +2,9 @@
 
 ghost use Rattle.std.specs.Prelude.{◌≡◌, ◌<◌, vec_len};
 
+use crate::gate::{Counter, Held};
 use crate::tickets::left::left_over;
-use crate::tickets::stand_ins::{Gate, Pool, StandIn, stand_ins};
+use crate::tickets::stand_ins::{Pool, StandIn, stand_ins};
 use kl1_pool_tickets::{Opened, Parts, PoolShared, Share, TicketIds, Totals, gather, worker};
 use std::alloc::{AllocError, Global};
 use std::marker::Brand;
@@ -65,7 +66,7 @@ fn worked_over<K: TicketIds + Send + Sync, R: Threads + Wait + Clock + Sync>(
     let pool = Pool {
         common,
         accounts,
-        gate: Gate::new(),
+        gate: Counter::new(Held::First),
     };
     let come = AtomicU64::new(0);
     let shares = map_vec(rt, shares, &|share| take_part(rt, &pool, &come, share))?;

@@ -1,5 +1,5 @@
 use Rattle.kl1_atoms.specs.Seats.{IsSharedSeat, face_in}
-use Rattle.kl1_tests_sharing.proofs.atoms.agreement.agreed.Given as goal
+use Rattle.kl1_tests_threads.proofs.atoms.agreement.agreed.Given as goal
 
 -- both seats are of the table
 abbrev pub invariant-loop-name : goal.invariant-loop-name

@@ -1,6 +1,6 @@
 use Rattle.std.proofs.Common.{◌+◌, ◌≤◌, length}
 use Rattle.kl1_atoms.specs.Seats.{IsSharedSeat, face_in}
-use Rattle.kl1_tests_sharing.proofs.atoms.agreement.learned.Given as goal
+use Rattle.kl1_tests_threads.proofs.atoms.agreement.learned.Given as goal
 
 -- the seat is of the table, and knows no more than one name more for each look-up
 abbrev pub invariant-loop-name : goal.invariant-loop-name

@@ -1,7 +1,7 @@
 use Rattle.std.proofs.Common.{◌≡◌, ◌+◌, ℕ, Some, slice_get, vec_len}
 use Rattle.kl1_atoms.specs.declared.atom_seat.AtomSeat.{AtomSeat}
 use Rattle.kl1_atoms.specs.Seats.{IsSharedSeat, IsNewSharedSeat, face_in}
-use Rattle.kl1_tests_sharing.proofs.atoms.agreement.others_agree.Given as goal
+use Rattle.kl1_tests_threads.proofs.atoms.agreement.others_agree.Given as goal
 
 -- the seat is of the table, and the seats that are left are new
 abbrev pub invariant-loop-other : goal.invariant-loop-other

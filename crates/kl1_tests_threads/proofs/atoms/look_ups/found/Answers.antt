@@ -2,7 +2,7 @@ use Rattle.std.proofs.Common.{refl, inl, length}
 use Rattle.std.proofs.lemmas.Option.{slice_get_read}
 use Rattle.kl1_atoms.specs.Seats.{face_in}
 use Rattle.kl1_atoms.specs.Knowing.{knows_first-kept}
-use Rattle.kl1_tests_sharing.proofs.atoms.look_ups.found.Goals as goal
+use Rattle.kl1_tests_threads.proofs.atoms.look_ups.found.Goals as goal
 
 pub intern-number-requires-clause-room : goal.intern-number-requires-clause-room
 intern-number-requires-clause-room c =

@@ -2,7 +2,7 @@ use Rattle.std.proofs.Common.{refl, length, arith}
 use Rattle.std.proofs.lemmas.Option.{slice_get_read}
 use Rattle.kl1_atoms.specs.Seats.{face_in}
 use Rattle.kl1_atoms.specs.Knowing.{few_more, knows_first-more}
-use Rattle.kl1_tests_sharing.proofs.atoms.look_ups.learn.Goals as goal
+use Rattle.kl1_tests_threads.proofs.atoms.look_ups.learn.Goals as goal
 
 pub loop-place-preserved : goal.loop-place-preserved
 loop-place-preserved c = record {

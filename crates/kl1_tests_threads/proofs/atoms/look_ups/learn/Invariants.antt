@@ -1,7 +1,7 @@
 use Rattle.std.proofs.Common.{◌+◌, ◌≤◌, length}
 use Rattle.kl1_atoms.specs.Seats.{IsSharedSeat, face_in}
 use Rattle.kl1_atoms.specs.Knowing.{KnowsFirst}
-use Rattle.kl1_tests_sharing.proofs.atoms.look_ups.learn.Given as goal
+use Rattle.kl1_tests_threads.proofs.atoms.look_ups.learn.Given as goal
 
 -- the names so far are known
 abbrev pub invariant-loop-place : goal.invariant-loop-place

@@ -2,7 +2,7 @@ use Rattle.std.proofs.Common.{length, arith}
 use Rattle.std.proofs.lemmas.List.Elements.{All-push}
 use Rattle.kl1_atoms.specs.Seats.{IsSharedSeat, face_in}
 use Rattle.kl1_atoms.specs.Knowing.{KnowsFirst}
-use Rattle.kl1_tests_sharing.proofs.atoms.look_ups.next_seats.Goals as goal
+use Rattle.kl1_tests_threads.proofs.atoms.look_ups.next_seats.Goals as goal
 
 pub loop-seat-preserved : goal.loop-seat-preserved
 loop-seat-preserved c = record {

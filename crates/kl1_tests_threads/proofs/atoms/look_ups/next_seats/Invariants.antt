@@ -3,7 +3,7 @@ use Rattle.std.specs.Prelude.{All}
 use Rattle.kl1_atoms.specs.declared.atom_seat.AtomSeat.{AtomSeat}
 use Rattle.kl1_atoms.specs.Seats.{IsSharedSeat, IsNewSharedSeat, face_in}
 use Rattle.kl1_atoms.specs.Knowing.{KnowsFirst}
-use Rattle.kl1_tests_sharing.proofs.atoms.look_ups.next_seats.Given as goal
+use Rattle.kl1_tests_threads.proofs.atoms.look_ups.next_seats.Given as goal
 
 -- the seats that are left are new, and those that were taken know the names
 abbrev pub invariant-loop-seat : goal.invariant-loop-seat

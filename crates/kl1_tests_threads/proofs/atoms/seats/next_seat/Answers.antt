@@ -1,8 +1,8 @@
 use Rattle.std.proofs.Common.{◌≡◌, List, Some, slice_get, sym, subst}
 use Rattle.std.specs.Option.{option_to_list}
 use Rattle.kl1_atoms.specs.declared.atom_seat.AtomSeat.{AtomSeat}
-use Rattle.kl1_tests_sharing.proofs.Front.{in_front}
-use Rattle.kl1_tests_sharing.proofs.atoms.seats.next_seat.Goals as goal
+use Rattle.kl1_tests_threads.proofs.Front.{in_front}
+use Rattle.kl1_tests_threads.proofs.atoms.seats.next_seat.Goals as goal
 
 pub returns-clause-seats : goal.returns-clause-seats
 returns-clause-seats c = λ k seat e.

@@ -1,7 +1,7 @@
 use Rattle.std.proofs.Common.{refl, inl, length, arith}
 use Rattle.std.proofs.lemmas.Option.{slice_get_read}
 use Rattle.kl1_atoms.specs.Knowing.{few_more, knows_first-more, knows_first-kept}
-use Rattle.kl1_tests_sharing.proofs.atoms.sources.are_found_again.Goals as goal
+use Rattle.kl1_tests_threads.proofs.atoms.sources.are_found_again.Goals as goal
 
 pub loop-place-preserved : goal.loop-place-preserved
 loop-place-preserved g c =

@@ -1,6 +1,6 @@
 use Rattle.std.proofs.Common.{◌+◌, ◌≤◌, length}
 use Rattle.kl1_atoms.specs.Knowing.{KnowsFirst}
-use Rattle.kl1_tests_sharing.proofs.atoms.sources.are_found_again.Given as goal
+use Rattle.kl1_tests_threads.proofs.atoms.sources.are_found_again.Given as goal
 
 -- the names so far are known, and no more than one name more for each of them
 abbrev pub invariant-loop-place : goal.invariant-loop-place

@@ -1,6 +1,6 @@
 use Rattle.std.proofs.Common.{◌∙◌}
 use Rattle.kl1_atoms.specs.Knowing.{number_known, few_more}
-use Rattle.kl1_tests_sharing.proofs.atoms.sources.is_numbered.Goals as goal
+use Rattle.kl1_tests_threads.proofs.atoms.sources.is_numbered.Goals as goal
 
 -- the source's law, and what the look-up added
 pub text_of-read-requires-clause-known : goal.text_of-read-requires-clause-known

@@ -1,5 +1,5 @@
 use Rattle.std.proofs.Common.{◌≡◌}
-use Rattle.kl1_tests_sharing.proofs.tally.counting.count.Given as goal
+use Rattle.kl1_tests_threads.proofs.tally.counting.count.Given as goal
 
 -- book and share stay the tally's
 abbrev pub invariant-loop-event : goal.invariant-loop-event

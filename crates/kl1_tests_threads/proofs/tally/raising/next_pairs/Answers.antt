@@ -1,6 +1,6 @@
 use Rattle.std.proofs.Common.{◌≡◌, arith}
 use Rattle.std.proofs.lemmas.List.Elements.{All-push}
-use Rattle.kl1_tests_sharing.proofs.tally.raising.next_pairs.Goals as goal
+use Rattle.kl1_tests_threads.proofs.tally.raising.next_pairs.Goals as goal
 
 pub loop-pair-preserved : goal.loop-pair-preserved
 loop-pair-preserved c = record {

@@ -1,6 +1,6 @@
 use Rattle.std.proofs.Common.{◌≡◌, ◌+◌, vec_len}
 use Rattle.std.specs.Prelude.{All}
-use Rattle.kl1_tests_sharing.proofs.tally.raising.next_pairs.Given as goal
+use Rattle.kl1_tests_threads.proofs.tally.raising.next_pairs.Given as goal
 
 -- all seats are the tally's, and those that were taken are no more among the others
 abbrev pub invariant-loop-pair : goal.invariant-loop-pair

@@ -1,6 +1,6 @@
 use Rattle.std.proofs.Common.{◌≡◌, ◌+◌, vec_len}
 use Rattle.std.specs.Prelude.{All}
-use Rattle.kl1_tests_sharing.proofs.tally.sums.count_each.Given as goal
+use Rattle.kl1_tests_threads.proofs.tally.sums.count_each.Given as goal
 
 -- the books that aren't left were counted in
 abbrev pub invariant-loop-book : goal.invariant-loop-book

@@ -1,7 +1,7 @@
 use Rattle.std.proofs.Common.{◌≡◌, ◌+◌, ◌≤◌, vec_capacity, vec_len}
 use Rattle.std.specs.Prelude.{All}
 use Rattle.kl1_pool_tickets.specs.Parts.{IsNewBook}
-use Rattle.kl1_tests_sharing.proofs.tickets.stand_ins.stand_ins.Given as goal
+use Rattle.kl1_tests_threads.proofs.tickets.stand_ins.stand_ins.Given as goal
 
 -- the books that aren't left have accounts
 abbrev pub invariant-loop-book : goal.invariant-loop-book

@@ -60,6 +60,16 @@ impl Counter {
         self.met.load(Ordering::SeqCst) == 1
     }
 
+    /// Counts who enters, and holds those that are to be held.
+    pub fn come(&self) {
+        let before = self.entered.fetch_add(1, Ordering::SeqCst);
+        match self.held {
+            Held::First if before == 0 => self.meet(),
+            Held::After(count) if before >= count => self.hold(),
+            _ => {}
+        }
+    }
+
     /// Waits until a second has entered.
     fn meet(&self) {
         for _look in 0..LOOKS {
@@ -84,12 +94,7 @@ impl Counter {
 
 impl Gate for Counter {
     fn enter(&self, _worker: u64) {
-        let before = self.entered.fetch_add(1, Ordering::SeqCst);
-        match self.held {
-            Held::First if before == 0 => self.meet(),
-            Held::After(count) if before >= count => self.hold(),
-            _ => {}
-        }
+        self.come();
     }
 
     fn leave(&self, _worker: u64) {
