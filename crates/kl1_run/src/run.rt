@@ -28,7 +28,10 @@ use words::asked_of;
 /// Does what the words of `kl1_run` ask for, of which the first is its name, and answers its status.
 pub fn run_modules(rt: &HostRuntime, words: &[String]) -> Result<u8, Fault> {
     match asked_in(rt.alloc(), &RUN, words) {
-        Ok(asked) => do_task(rt, &asked_of(&asked)),
+        Ok(known) => {
+            let asked = asked_of(rt.alloc(), &known)?;
+            do_task(rt, &asked)
+        }
         Err(unasked) => unasked.tell(rt, &RUN),
     }
 }

@@ -69,10 +69,10 @@ impl Waits {
 }
 
 /// What the words ask for.
-#[derive(Clone, Copy)]
+#[derive(Drop)]
 pub struct Asked<'a> {
     /// The names of the files, and after them the goal, unless the files are checked or there is a prompt.
-    pub words: &'a [&'a str],
+    pub words: Vec<&'a str>,
     /// What is to be done with the files.
     pub task: Task,
     /// The most first steps.

@@ -31,7 +31,7 @@ const MOST_TOLD: usize = 200;
 
 /// Does what the words ask for, and answers the program's status.
 pub fn do_task(rt: &HostRuntime, asked: &Asked<'_>) -> Result<u8, Fault> {
-    match (asked.task, asked.words) {
+    match (asked.task, asked.words.as_slice()) {
         (Task::Check, names) => {
             let Modules { files, .. } = read_each(rt, names)?;
             warn(rt, files.as_slice(), asked.warnings_are_faults)

@@ -3,10 +3,27 @@
 use crate::run::asked::Asked;
 use crate::run::origins::Again;
 use crate::steps::{finish, observers_for};
+use kl1_steps::ClausePlace;
 use kl1_timeline::draw_new;
 use kl1_trace_work::{Texts, Viewer, watch_first};
 use kl1_watch::Names;
 use kl1_words::{Fault, FileId};
+use std::alloc::Global;
+
+/// What the lines of a trace are made with.
+fn texts_of<'a>(
+    alloc: Global,
+    names: Names,
+    clauses: &'a [ClausePlace],
+    files: &'a [&'a [u8]],
+) -> Texts<'a> {
+    Texts {
+        alloc,
+        names,
+        clauses,
+        files,
+    }
+}
 
 /// Does the work in an account of its own, and tells its steps as far as that is asked for.
 pub fn tell_steps(
@@ -27,12 +44,7 @@ pub fn tell_steps(
     };
     let clauses = again.clauses()?;
     let files = again.names()?;
-    let texts = Texts {
-        alloc,
-        names,
-        clauses: clauses.as_slice(),
-        files: files.as_slice(),
-    };
+    let texts = texts_of(alloc, names, clauses.as_slice(), files.as_slice());
     let observers = observers_for(&asked.told, texts, rt.stderr())?;
     let is_waking = observers.is_waking();
     let mut viewer = Viewer::new(alloc, &mut world, observers, is_waking)?;

@@ -7,6 +7,7 @@ use kl1_model::limits::MOST_PRINTED_BYTES;
 use kl1_run_work::{Extent, MOST_ALLOWANCE, MOST_STEPS, Wanted};
 use kl1_words::{OptionSpec, Program, SystemFaults, Takes};
 use kl1_world::Rules;
+use std::alloc::{AllocError, Global};
 
 /// The greatest number that an option takes.
 const MOST_NUMBER: u64 = 9_223_372_036_854_775_807;
@@ -218,7 +219,7 @@ fn task_of(asked: &kl1_words::Asked<'_>) -> Task {
 }
 
 /// What the words ask for.
-pub fn asked_of<'a>(asked: &'a kl1_words::Asked<'a>) -> Asked<'a> {
+pub fn asked_of<'a>(alloc: Global, asked: &kl1_words::Asked<'a>) -> Result<Asked<'a>, AllocError> {
     let task = task_of(asked);
     let rules = match (task, asked.number("rules")) {
         (Task::Script, _) | (_, Some(3)) => Rules::Three,
@@ -229,8 +230,8 @@ pub fn asked_of<'a>(asked: &'a kl1_words::Asked<'a>) -> Asked<'a> {
         has_bindings: asked.has("bindings") || matches!(task, Task::Prompt),
         is_infix: asked.has("infix"),
     };
-    Asked {
-        words: asked.words(),
+    Ok(Asked {
+        words: Vec::from_slice(alloc, asked.words())?,
         task,
         steps: asked
             .number("steps")
@@ -257,7 +258,7 @@ pub fn asked_of<'a>(asked: &'a kl1_words::Asked<'a>) -> Asked<'a> {
         told: StepsAsked::of(&RUN, asked),
         journal: asked.text("journal"),
         warnings_are_faults: asked.has("warn"),
-    }
+    })
 }
 
 /// How much of the goal is told. Of a goal that is cut the last variables would have no value.
