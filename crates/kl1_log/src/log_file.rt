@@ -15,7 +15,7 @@ pub struct LogFile<D: Disk> {
 }
 
 /// Not derived, so that crates above don't prove the drop of each part again.
-impl<D: Disk> Drop for LogFile<D> {
+impl<D: Disk + Drop> Drop for LogFile<D> {
     fn drop(self) {
         let LogFile {
             disk,
