@@ -1,10 +1,10 @@
 // The replay of an account's journal.
 
 use crate::pool::play::answered;
+use crate::report::Text;
 use kl1_lines::{is_same, split_feed};
 use kl1_pool::{Command, Performed, Pool, PoolIds, Share};
 use kl1_script::{FailureCounter, run_replay};
-use kl1_tests_rows::Text;
 use kl1_user_events::{Listed, Reply};
 use std::sync::Wait;
 
