@@ -32,13 +32,12 @@ fn put_event<A: AtomSource + Drop, C: CodeSource + Drop>(
     ensures before { (f : Reading) → Fits replayed.new.names f → Fits replayed.old.names f }
     ensures err { OnErr result (out.new.items ≡ out.old.items) }
 {
-    match replayed.apply(event)? {
-        Reply::Refused(_refusal) => Ok(false),
-        reply => {
-            put_reply(out, &reply)?;
-            Ok(true)
-        }
+    let reply = replayed.apply(event)?;
+    if let Reply::Refused(_refusal) = &reply {
+        return Ok(false);
     }
+    put_reply(out, &reply)?;
+    Ok(true)
 }
 
 /// Does a run, and puts its reply after the bytes, unless it is refused. Answers whether it was accepted. After an `Err` the bytes are as

@@ -1,13 +1,19 @@
-//! Tries rows and checks on accounts under locks, with threads that command them and workers, and on the server; and measures workers.
+//! Tries rows and checks of what threads share: the table of names, the tally, tickets, accounts under locks with threads that command
+//! them and workers, and the server; and measures them.
 #![tactic(auto)]
 
-mod noted;
+mod atoms;
+mod gate;
+mod measures;
 mod pool;
+mod report;
+mod rows;
 mod server;
+mod tally;
+mod tickets;
 
-use crate::noted::{Noted, Row};
-use crate::pool::{is_right, put_idle, put_times};
-use kl1_tests_rows::{Text, put_check, put_report};
+use crate::report::{Text, put_check};
+use crate::rows::cut;
 use std::io;
 use std::io::{Error, ErrorKind, Read, Write};
 use std::net::{Net, TcpListener, TcpStream};
@@ -15,15 +21,41 @@ use std::rt::Clock;
 use std::sync::Wait;
 use std::thread::Threads;
 
+/// What the heading of a group of rows begins with.
+const HEADING: &[u8] = b"== ";
+
 /// The line with which rows end if checks are to follow.
 const CHECKS: &[u8] = b"== checks\n";
 
-/// Puts a line on each row.
-fn put_rows<R: Threads + Wait + Clock + Sync>(rt: &R, out: &mut Text, rows: &[Row]) {
-    for row in rows {
-        let done = is_right(rt, out.alloc, row.act.as_slice(), row.wanted.as_slice());
-        put_check(out, row.heading.as_slice(), Ok(done));
+/// Tries the rows of a text, and puts a line on each, with the heading of its group.
+fn put_rows<R: Threads + Wait + Clock + Sync>(rt: &R, out: &mut Text, text: &[u8]) {
+    let mut heading: &[u8] = b"";
+    let mut left = text;
+    for _ in 0..text.len() {
+        let (line, behind) = cut(left, b'\n');
+        match line.strip_prefix(HEADING) {
+            Some(next) => heading = next,
+            None => {
+                if !line.is_empty() {
+                    let done = pool::is_right(rt, out.alloc, line);
+                    put_check(out, heading, Ok(done));
+                }
+            }
+        }
+        left = behind;
     }
+}
+
+/// Puts a line on each check.
+fn put_checks<R>(rt: &R, out: &mut Text)
+where
+    R: Net<Listener = TcpListener, Stream = TcpStream> + Threads + Wait + Clock + Sync,
+{
+    pool::put_checks(rt, out);
+    server::put_checks(rt, out);
+    atoms::put_checks(rt, out);
+    tally::put_checks(rt, out);
+    tickets::put_checks(rt, out);
 }
 
 /// Tries the rows of a text, and after them the checks if the text ends with the heading of checks.
@@ -31,29 +63,22 @@ fn put_tried<R>(rt: &R, out: &mut Text, text: &[u8])
 where
     R: Net<Listener = TcpListener, Stream = TcpStream> + Threads + Wait + Clock + Sync,
 {
-    let mut noted = Noted::new(out.alloc);
-    // What this report says of rows that are only noted is of no use.
-    let mut report = Text::new(out.alloc);
-    put_report(&mut report, &mut noted, text);
-    if report.has_failed || noted.has_failed {
-        out.fail();
-        return;
-    }
-    put_rows(rt, out, noted.rows.as_slice());
+    put_rows(rt, out, text);
     if text.ends_with(CHECKS) {
-        pool::put_checks(rt, out);
-        server::put_checks(rt, out);
+        put_checks(rt, out);
     }
 }
 
-/// Tries the rows of its input; if that is the word `pool` or `idle` and a line feed, the program measures.
+/// Tries the rows of its input; if that is the word for a measure and a line feed, the program measures.
 fn main(rt: HostRuntime) -> io::Result<()> {
     let mut rows = Vec::new(rt.alloc());
     rt.stdin().read_to_end(&mut rows)?;
     let mut out = Text::new(rt.alloc());
     match rows.as_slice() {
-        b"pool\n" => put_times(&rt, &mut out),
-        b"idle\n" => put_idle(&rt, &mut out),
+        b"pool\n" => pool::put_times(&rt, &mut out),
+        b"idle\n" => pool::put_idle(&rt, &mut out),
+        b"names\n" => atoms::put_times(&rt, &mut out),
+        b"tally\n" => tally::put_times(&rt, &mut out),
         text => put_tried(&rt, &mut out, text),
     }
     if out.has_failed {

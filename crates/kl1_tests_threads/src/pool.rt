@@ -1,9 +1,7 @@
 // Rows and checks on accounts that threads command while workers go on with them; and how fast that is.
 
 mod checks;
-mod gate;
 mod job;
-mod numbers;
 mod play;
 mod replaying;
 mod restoring;

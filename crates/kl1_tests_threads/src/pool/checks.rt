@@ -1,7 +1,7 @@
 // The checks by their names.
 
 use crate::pool::starts::eight_threads_start;
-use kl1_tests_rows::{Text, put_check};
+use crate::report::{Text, put_check};
 use std::rt::Clock;
 use std::sync::Wait;
 use std::thread::Threads;

@@ -1,7 +1,7 @@
 // What threads do in a pool.
 
+use crate::report::Text;
 use kl1_pool::{Pool, PoolIds, Share};
-use kl1_tests_rows::Text;
 use std::rt::Clock;
 use std::sync::Wait;
 

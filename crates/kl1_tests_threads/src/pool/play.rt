@@ -1,12 +1,13 @@
 // Commands to accounts of a pool, and what they answer.
 
-use crate::pool::gate::{Counter, LOOKS};
+use crate::gate::{Counter, LOOKS};
 use crate::pool::replaying::put_replay;
 use crate::pool::restoring::{comes_over, put_look, put_over, put_restored};
+use crate::report::Text;
+use crate::rows::{cut, number_of};
 use kl1_command::{Parsed, command_in, put_reply};
 use kl1_lines::{NextRecord, Record, Request, next_record};
 use kl1_pool::{Command, Performed, Pool, PoolIds, Share};
-use kl1_tests_rows::{Text, cut, number_of};
 use kl1_user_events::{Event, Query, Reply};
 use std::sync::Wait;
 use std::thread;
@@ -38,11 +39,12 @@ fn answered_after<'t, R: Wait, K: PoolIds>(
         return Performed::Short { steps };
     };
     let rest = Command::Run(most.saturating_sub(steps));
-    match answered(rt, pool, account, &rest, share) {
+    let performed = answered(rt, pool, account, &rest, share);
+    match &performed {
         Performed::Whole(Reply::Ran(more)) => {
-            Performed::Whole(Reply::Ran(steps.saturating_add(more)))
+            Performed::Whole(Reply::Ran(steps.saturating_add(*more)))
         }
-        performed => performed,
+        _ => performed,
     }
 }
 
@@ -93,7 +95,7 @@ pub fn is_quiet<'t, R: Wait, K: PoolIds>(
 ) -> bool {
     let command = Command::Does(Event::Read(Query::Quiet));
     matches!(
-        answered(rt, pool, account, &command, share),
+        &answered(rt, pool, account, &command, share),
         Performed::Whole(Reply::Quiet(true))
     )
 }

@@ -1,10 +1,10 @@
 // The replay of an account's journal.
 
 use crate::pool::play::answered;
+use crate::report::Text;
 use kl1_lines::{is_same, split_feed};
 use kl1_pool::{Command, Performed, Pool, PoolIds, Share};
 use kl1_script::{FailureCounter, run_replay};
-use kl1_tests_rows::Text;
 use kl1_user_events::{Listed, Reply};
 use std::sync::Wait;
 
@@ -33,9 +33,9 @@ fn put_journal<'t, R: Wait, K: PoolIds>(
             from: page * PAGE + 1,
             count: PAGE,
         };
-        match answered(rt, pool, account, &command, share) {
+        match &answered(rt, pool, account, &command, share) {
             Performed::Whole(Reply::Listed(lines)) => {
-                if put_page(text, &lines) < PAGE {
+                if put_page(text, lines) < PAGE {
                     return;
                 }
             }

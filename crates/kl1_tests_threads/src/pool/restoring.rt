@@ -1,10 +1,10 @@
 // Looking at the journals of accounts, and restoring accounts from them.
 
-use crate::pool::gate::LOOKS;
+use crate::gate::LOOKS;
 use crate::pool::play::answered;
+use crate::report::Text;
 use kl1_journal_entries::Journal;
 use kl1_pool::{Command, JournalReader, Performed, Pool, PoolIds, RestoreEnd, Restored, Share};
-use kl1_tests_rows::Text;
 use std::sync::Wait;
 use std::thread;
 

@@ -2,14 +2,15 @@
 
 ghost use Rattle.std.specs.Prelude.{◌≤◌};
 
-use crate::pool::gate::{Counter, Held};
+use crate::gate::{Counter, Held};
+use crate::measures::small;
 use crate::pool::job::Job;
-use crate::pool::numbers::small;
 use crate::pool::play::play;
 use crate::pool::setup::{BY_THREE, Setup, by_four};
 use crate::pool::tried::tried;
+use crate::report::Text;
+use crate::rows::{cut, number_of, put_decoded};
 use kl1_pool::{Pool, PoolIds, Share, Totals, worker};
-use kl1_tests_rows::{Text, cut, number_of};
 use std::alloc::Global;
 use std::rt::Clock;
 use std::sync::Wait;
@@ -132,28 +133,29 @@ fn answer<R: Threads + Wait + Clock + Sync>(rt: &R, act: &[u8], out: &mut Text) 
     }
 }
 
-/// Whether a row answers this; nothing if memory is refused elsewhere than in a command.
+/// Whether a row answers what is wanted; nothing if memory is refused elsewhere than in a command.
 fn is_answered<R: Threads + Wait + Clock + Sync>(
     rt: &R,
     alloc: Global,
     act: &[u8],
     wanted: &[u8],
 ) -> Option<bool> {
+    let mut decoded = Text::new(alloc);
+    put_decoded(&mut decoded, act);
+    let mut right = Text::new(alloc);
+    put_decoded(&mut right, wanted);
     let mut out = Text::new(alloc);
-    answer(rt, act, &mut out);
-    if out.has_failed {
+    answer(rt, decoded.bytes.as_slice(), &mut out);
+    if decoded.has_failed || right.has_failed || out.has_failed {
         return None;
     }
-    Some(out.bytes.as_slice() == wanted)
+    Some(out.bytes.as_slice() == right.bytes.as_slice())
 }
 
-/// Whether a row answers this. A row that begins with `0again` is tried a second time if memory is refused elsewhere than in a command.
-pub fn is_right<R: Threads + Wait + Clock + Sync>(
-    rt: &R,
-    alloc: Global,
-    act: &[u8],
-    wanted: &[u8],
-) -> bool {
+/// Whether a row, `ACT#WANTED`, answers what is wanted. One that begins with `0again` is tried a second time if memory is refused
+/// elsewhere than in a command.
+pub fn is_right<R: Threads + Wait + Clock + Sync>(rt: &R, alloc: Global, row: &[u8]) -> bool {
+    let (act, wanted) = cut(row, b'#');
     match is_answered(rt, alloc, act, wanted) {
         None if act.starts_with(b"0again") => {
             matches!(is_answered(rt, alloc, act, wanted), Some(true))

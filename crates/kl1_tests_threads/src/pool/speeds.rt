@@ -2,15 +2,16 @@
 
 ghost use Rattle.std.specs.Prelude.{◌≡◌, ◌<◌, ◌≤◌};
 
-use crate::pool::gate::{Counter, Held};
+use crate::gate::{Counter, Held};
+use crate::measures::{moment, nanoseconds_since, small};
 use crate::pool::job::Job;
-use crate::pool::numbers::small;
 use crate::pool::play::{is_quiet, put_answer};
 use crate::pool::setup::BY_THREE;
 use crate::pool::tried::tried;
+use crate::report::Text;
+use crate::rows::number_of;
 use kl1_lines::Request;
 use kl1_pool::{Pool, PoolIds, Share, Totals, worker};
-use kl1_tests_rows::{Text, moment, nanoseconds_since, number_of};
 use std::alloc::{AllocError, Global};
 use std::rt::Clock;
 use std::sync::Wait;

@@ -4,7 +4,7 @@ ghost use Rattle.std.specs.Prelude.{◌<◌, ◌≤◌};
 
 use crate::pool::speeds::{most_steps_a_second, put_looks};
 use crate::pool::wakes::{put_wakes, sleep_idle};
-use kl1_tests_rows::Text;
+use crate::report::Text;
 use std::rt::Clock;
 use std::sync::Wait;
 use std::thread::Threads;

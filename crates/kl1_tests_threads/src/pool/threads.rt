@@ -3,8 +3,8 @@
 ghost use Rattle.std.specs.Prelude.{◌≡◌, ◌+◌, ◌≤◌, IfOk, vec_len};
 
 use crate::pool::job::Job;
+use crate::report::Text;
 use kl1_pool::{Pool, PoolIds, Share};
-use kl1_tests_rows::Text;
 use std::alloc::{AllocError, Global};
 use std::rt::Clock;
 use std::sync::Wait;

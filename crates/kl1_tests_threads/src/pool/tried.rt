@@ -5,10 +5,10 @@ ghost use Rattle.std.specs.Prelude.{◌≡◌, ◌<◌, ◌≤◌, IfOk, vec_len
 use crate::pool::job::Job;
 use crate::pool::setup::Setup;
 use crate::pool::threads::work;
+use crate::report::Text;
 use kl1_atoms::AtomTable;
 use kl1_codes::CodeTable;
 use kl1_pool::{AccountName, Pool, PoolIds, PoolParts, Totals, gather};
-use kl1_tests_rows::Text;
 use std::alloc::{AllocError, Global};
 use std::marker::Brand;
 use std::rt::Clock;

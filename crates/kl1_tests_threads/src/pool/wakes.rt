@@ -1,15 +1,15 @@
 // Workers that sleep, and how long it takes until one is awake.
 
-use crate::pool::gate::{Counter, Held, LOOKS};
+use crate::gate::{Counter, Held, LOOKS};
+use crate::measures::{moment, nanoseconds_since, small};
 use crate::pool::job::Job;
-use crate::pool::numbers::small;
 use crate::pool::play::{comes_to_rest, put_answer};
 use crate::pool::setup::BY_THREE;
 use crate::pool::speeds::put_halves;
 use crate::pool::tried::tried;
+use crate::report::Text;
 use kl1_lines::Request;
 use kl1_pool::{Pool, PoolIds, Share, worker};
-use kl1_tests_rows::{Text, moment, nanoseconds_since};
 use std::alloc::{AllocError, Global};
 use std::rt::Clock;
 use std::sync::Wait;

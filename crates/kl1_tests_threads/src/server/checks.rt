@@ -1,8 +1,8 @@
 // The checks by their names.
 
+use crate::report::{Text, put_check};
 use crate::server::memory::{is_closed_after_each_failure, is_same_at_each_cut};
 use crate::server::socket::is_same_over_a_socket;
-use kl1_tests_rows::{Text, put_check};
 use std::net::{Net, TcpListener, TcpStream};
 use std::sync::Wait;
 use std::thread::Threads;

@@ -1,8 +1,0 @@
-// Checks of tickets, also with several threads.
-
-mod checks;
-mod left;
-mod stand_ins;
-mod threads;
-
-pub use checks::put_ticket_checks;
