@@ -9,7 +9,6 @@ use crate::face::View;
 use atomic_table::Badge;
 
 /// What one account knows of the shared table, and how many of its own entries it has used.
-#[derive(Drop)]
 pub struct AtomSeat {
     pub(crate) badge: Badge<View>,
     pub(crate) account: u64,
@@ -21,4 +20,16 @@ pub struct AtomSeat {
     pub ghost bound: { used ≤ MOST_NAMES },
     pub ghost draft: { (face_in badge.views).draft ≡ [] },
     pub ghost names: { Listed (face_in badge.views).accounts (face_in badge.views).knows },
+}
+
+/// Not derived, so that crates above don't prove the drop of each part again.
+impl Drop for AtomSeat {
+    fn drop(self) {
+        let AtomSeat {
+            badge,
+            account: _,
+            used: _,
+        } = self;
+        let _ = badge;
+    }
 }

@@ -21,12 +21,24 @@ use std::marker::Model;
 
 /// A module compiled: its source, the names in it that are not built in, and its clauses as instructions, whose names are
 /// places in the list of those.
-#[derive(Drop)]
 pub struct Code {
     source: Vec<u8>,
     name: AtomText,
     names: Names,
     clauses: Vec<CompiledClause>,
+}
+
+/// Not derived, so that crates above don't prove the drop of each part again.
+impl Drop for Code {
+    fn drop(self) {
+        let Code {
+            source,
+            name: _,
+            names,
+            clauses,
+        } = self;
+        let _ = (source, names, clauses);
+    }
 }
 
 impl Model for Code {

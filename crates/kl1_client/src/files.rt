@@ -1,6 +1,7 @@
 // Files that are loaded and written.
 
 use kl1_client_talk::{Fault, MOST_SOURCE_BYTES};
+use kl1_words::{read_up_to, rename_written};
 use std::alloc::{AllocError, Global};
 use std::env::VarError;
 use std::fs::File;
@@ -130,19 +131,15 @@ fn is_other(rt: &HostRuntime, path: &str) -> Result<bool, FileTrouble> {
     if !found.is_file() {
         return Ok(true);
     }
-    let mut front = Vec::new(rt.alloc());
-    File::open(rt, path)?
-        .take(HEADING.len() as u64)
-        .read_to_end(&mut front)?;
+    let front = read_up_to(rt, path, HEADING.len() as u64)?;
     Ok(!front.is_empty() && front.as_slice() != HEADING)
 }
 
-/// Writes these bytes to the file of the first path, and then gives it the name of the second.
-fn write_by(rt: &HostRuntime, part: &str, path: &str, bytes: &[u8]) -> io::Result<()> {
+/// Writes these bytes to the file of this path, to the disk.
+fn write_part(rt: &HostRuntime, part: &str, bytes: &[u8]) -> io::Result<()> {
     let mut file = File::create(rt, part)?;
     file.write_all(bytes)?;
-    file.sync_all()?;
-    fs::rename(rt, part, path)
+    file.sync_all()
 }
 
 /// Writes these bytes to a file that is new, empty or a journal. What was there stays until all of them are written beside it.
@@ -153,9 +150,7 @@ pub fn write(rt: &HostRuntime, name: &[u8], bytes: &[u8]) -> Result<(), FileTrou
     if is_other(rt, path.as_str())? || is_other(rt, part.as_str())? {
         return Err(FileTrouble::NoJournal);
     }
-    if let Err(error) = write_by(rt, part.as_str(), path.as_str(), bytes) {
-        let _ = fs::remove_file(rt, part.as_str());
-        return Err(error.into());
-    }
+    let part = part.as_str();
+    rename_written(rt, path.as_str(), part, write_part(rt, part, bytes))?;
     Ok(())
 }

@@ -1,11 +1,10 @@
 // The account's key.
 
 use crate::trouble::Trouble;
-use crate::words::Asked;
+use crate::words::Wanted;
 use kl1_client_talk::Fault;
+use kl1_words::read_up_to;
 use std::env::VarError;
-use std::fs::File;
-use std::io::Read;
 use std::{env, io};
 
 /// The name of the key in the environment.
@@ -25,8 +24,8 @@ pub fn is_word(bytes: &[u8], most: usize) -> bool {
 }
 
 /// The key, from its file if one is named, else from the environment.
-pub fn key_of<'a>(rt: &HostRuntime, asked: &Asked<'a>) -> Result<Vec<u8>, Trouble<'a>> {
-    let key = match asked.key_file {
+pub fn key_of<'a>(rt: &HostRuntime, wanted: &Wanted<'_, 'a>) -> Result<Vec<u8>, Trouble<'a>> {
+    let key = match wanted.key_file {
         Some(name) => match first_line(rt, name) {
             Ok(line) => line,
             Err(error) => return Err(Trouble::KeyFile(name, error)),
@@ -47,10 +46,7 @@ pub fn key_of<'a>(rt: &HostRuntime, asked: &Asked<'a>) -> Result<Vec<u8>, Troubl
 
 /// The first line of a file, without its end, or as much of it as is read.
 fn first_line(rt: &HostRuntime, name: &str) -> io::Result<Vec<u8>> {
-    let mut text = Vec::new(rt.alloc());
-    File::open(rt, name)?
-        .take(MOST_FILE_BYTES)
-        .read_to_end(&mut text)?;
+    let mut text = read_up_to(rt, name, MOST_FILE_BYTES)?;
     let mut length = text.len();
     for (place, byte) in text.iter().enumerate() {
         if *byte == b'\n' || *byte == b'\r' {

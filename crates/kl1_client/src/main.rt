@@ -11,8 +11,9 @@ mod trouble;
 mod words;
 
 use crate::started::status_by;
-use crate::words::{asked_in, tell};
+use crate::words::{PROGRAM, Wanted, tell};
 use kl1_client_talk::{BAD_WORDS, TROUBLE};
+use kl1_words::asked_in;
 use std::process::ExitCode;
 use std::{env, io};
 
@@ -28,12 +29,12 @@ fn words_in(rt: &HostRuntime) -> io::Result<Vec<String>> {
 /// Does what the words ask for, and answers the program's status.
 fn status_of(rt: &HostRuntime) -> u8 {
     match words_in(rt) {
-        Ok(words) => match asked_in(rt.alloc(), words.as_slice()) {
-            Ok(asked) => match status_by(rt, &asked) {
+        Ok(words) => match asked_in(rt.alloc(), &PROGRAM, words.as_slice()) {
+            Ok(asked) => match status_by(rt, &Wanted::of(&asked)) {
                 Ok(status) => status,
                 Err(trouble) => trouble.tell(rt),
             },
-            Err(error) => tell(rt, &error),
+            Err(unasked) => tell(rt, &unasked),
         },
         Err(error) => {
             let _ = eprintln!(rt; "kl1_client: {error}");

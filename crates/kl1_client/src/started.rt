@@ -3,7 +3,7 @@
 use crate::key::{is_word, key_of};
 use crate::terminal::Terminal;
 use crate::trouble::Trouble;
-use crate::words::Asked;
+use crate::words::Wanted;
 use kl1_client_talk::{
     Connection, FailureCounter, Fault, LineReader, ReplyWriter, Source, TROUBLE, TalkSummary,
     status_of, talk,
@@ -21,25 +21,25 @@ const MOST_NAME_BYTES: usize = 64;
 const MOST_TRIES: u64 = 60;
 
 /// Does what the words ask for, and answers the program's status.
-pub fn status_by<'a>(rt: &HostRuntime, asked: &Asked<'a>) -> Result<u8, Trouble<'a>> {
-    if !is_word(asked.name.as_bytes(), MOST_NAME_BYTES) {
+pub fn status_by<'a>(rt: &HostRuntime, wanted: &Wanted<'_, 'a>) -> Result<u8, Trouble<'a>> {
+    if !is_word(wanted.name.as_bytes(), MOST_NAME_BYTES) {
         return Err(Trouble::BadName);
     }
-    let key = key_of(rt, asked)?;
-    if asked.commands.is_empty() {
+    let key = key_of(rt, wanted)?;
+    if wanted.commands.is_empty() {
         let is_watched = rt.stdin().is_terminal() && rt.stdout().is_terminal();
         if is_watched {
             let _ = eprintln!(rt; "kl1_client: help tells the commands, quit ends");
         }
         let lines = LineReader::new(rt.alloc(), FailureCounter::new(rt.stdin()));
-        let prompt = if is_watched { Some(asked.name) } else { None };
+        let prompt = if is_watched { Some(wanted.name) } else { None };
         let mut terminal = Terminal::new(rt, lines, prompt);
-        status_with(rt, asked, key.as_slice(), &mut terminal)
+        status_with(rt, wanted, key.as_slice(), &mut terminal)
     } else {
-        let text = joined(rt.alloc(), asked.commands.as_slice())?;
+        let text = joined(rt.alloc(), wanted.commands)?;
         let lines = LineReader::new(rt.alloc(), FailureCounter::new(text.as_slice()));
         let mut terminal = Terminal::new(rt, lines, None);
-        status_with(rt, asked, key.as_slice(), &mut terminal)
+        status_with(rt, wanted, key.as_slice(), &mut terminal)
     }
 }
 
@@ -47,17 +47,17 @@ pub fn status_by<'a>(rt: &HostRuntime, asked: &Asked<'a>) -> Result<u8, Trouble<
 /// program's status.
 fn status_with<'a, S: Source>(
     rt: &HostRuntime,
-    asked: &Asked<'a>,
+    wanted: &Wanted<'_, 'a>,
     key: &[u8],
     terminal: &mut Terminal<'_, S>,
 ) -> Result<u8, Trouble<'a>> {
     let mut least = 0;
     let mut tries = 0;
     for _ in 0..u64::MAX {
-        match talk_once(rt, asked, key, terminal) {
+        match talk_once(rt, wanted, key, terminal) {
             Ok(summary) => return Ok(status_of(Ok(summary)).max(least)),
             Err(trouble) => {
-                if !asked.reconnects || tries >= MOST_TRIES {
+                if !wanted.reconnects || tries >= MOST_TRIES {
                     return Err(trouble);
                 }
                 match trouble {
@@ -100,14 +100,14 @@ fn connected(rt: &HostRuntime, address: &str, timeout: Option<Duration>) -> io::
 /// Talks with a server over one connection.
 fn talk_once<'a, S: Source>(
     rt: &HostRuntime,
-    asked: &Asked<'a>,
+    wanted: &Wanted<'_, 'a>,
     key: &[u8],
     terminal: &mut Terminal<'_, S>,
 ) -> Result<TalkSummary, Trouble<'a>> {
-    let timeout = asked.timeout.map(Duration::from_secs);
-    let stream = match connected(rt, asked.address, timeout) {
+    let timeout = wanted.timeout.map(Duration::from_secs);
+    let stream = match connected(rt, wanted.address, timeout) {
         Ok(stream) => stream,
-        Err(error) => return Err(Trouble::Address(asked.address, error)),
+        Err(error) => return Err(Trouble::Address(wanted.address, error)),
     };
     // Each request is one write, so nothing is gained by waiting for more.
     let _ = stream.set_nodelay(true);
@@ -117,16 +117,16 @@ fn talk_once<'a, S: Source>(
         FailureCounter::new(&stream),
         FailureCounter::new(&stream),
     );
-    let mut replies = ReplyWriter::new(rt.alloc(), FailureCounter::new(rt.stdout()), asked.all);
+    let mut replies = ReplyWriter::new(rt.alloc(), FailureCounter::new(rt.stdout()), wanted.all);
     let talked = talk(
         rt.alloc(),
         &mut connection,
         &mut replies,
         terminal,
-        asked.name.as_bytes(),
+        wanted.name.as_bytes(),
         key,
     );
-    match (talked, asked.timeout) {
+    match (talked, wanted.timeout) {
         (Ok(summary), _) => Ok(summary),
         (Err(Fault::Connection), Some(seconds)) if is_open(&stream) => Err(Trouble::Late(seconds)),
         (Err(fault), _) => Err(Trouble::Talk(fault)),

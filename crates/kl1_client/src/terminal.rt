@@ -1,9 +1,5 @@
 // Who gives the commands: words of the program, or standard input.
 
-ghost use Rattle.std.specs.Prelude.{⊤, None, option_map};
-ghost use Rattle.kl1_client_talk.specs.Given.{lines_in};
-ghost use Rattle.kl1_client_talk.specs.Streams.{coming};
-
 use crate::hints::{refusal_hint, standstill_hint};
 use crate::{files, help};
 use kl1_client_talk::{
@@ -80,14 +76,6 @@ impl<'r, S> Terminal<'r, S> {
 }
 
 impl<S: Source> Caller for Terminal<'_, S> {
-    ghost remaining = { λ t. option_map lines_in (coming S.remaining t.lines) };
-
-    // What is on standard error isn't known.
-    ghost told = { λ t. None };
-
-    // Any file may have any bytes.
-    ghost is_file = { λ name bytes. ⊤ };
-
     fn next(&mut self, line: &mut Vec<u8>) -> Result<bool, Fault> {
         self.is_late = false;
         self.is_told = false;

@@ -1,22 +1,84 @@
 // The words that the program knows, and what they ask for.
 
-use clap::{Arg, ArgAction, Command, Error, value_parser};
 use kl1_client_talk::{BAD_WORDS, TROUBLE};
-use std::alloc::{AllocError, Global};
+use kl1_words::{Asked, OptionSpec, Program, SystemFaults, Takes, Unasked};
 
-/// How the program is called.
-const USAGE: &str =
-    "kl1_client [--key-file FILE] [--all] [--timeout SECONDS] [--reconnect] [-c COMMAND]... ADDRESS NAME";
-
-/// The program's version.
-const VERSION: &str = "0.1.0";
+/// The program.
+pub static PROGRAM: Program = Program {
+    name: "kl1_client",
+    about: "Logs in to an account of a server, sends commands, and shows the replies",
+    usage: "kl1_client [--key-file FILE] [--all] [--timeout SECONDS] [--reconnect] [-c COMMAND]... ADDRESS NAME",
+    options: &OPTIONS,
+    tasks: &[],
+    faults: SystemFaults::Pipes,
+};
 
 /// The most seconds of `--timeout`, a day.
-const MOST_SECONDS: i64 = 86_400;
+const MOST_SECONDS: u64 = 86_400;
+
+/// The options of the program.
+const OPTIONS: [OptionSpec; 7] = [
+    OptionSpec {
+        name: "key-file",
+        takes: Takes::Text,
+        value: "FILE",
+        help: "Read the key from the first line of FILE, not from KL1_KEY in the environment",
+        beside: &[],
+        with: "",
+    },
+    OptionSpec {
+        name: "all",
+        takes: Takes::Nothing,
+        value: "",
+        help: "Ask for reports and lines of the journal up to the last one",
+        beside: &[],
+        with: "",
+    },
+    OptionSpec {
+        name: "timeout",
+        takes: Takes::Number(1, MOST_SECONDS),
+        value: "SECONDS",
+        help: "Wait for the server, and for each reply, at most SECONDS",
+        beside: &[],
+        with: "",
+    },
+    OptionSpec {
+        name: "reconnect",
+        takes: Takes::Nothing,
+        value: "",
+        help: "When the connection ends, make another and go on with the next command",
+        beside: &[],
+        with: "",
+    },
+    OptionSpec {
+        name: "command",
+        takes: Takes::Each('c'),
+        value: "COMMAND",
+        help: "Send COMMAND, and read no commands from standard input",
+        beside: &[],
+        with: "",
+    },
+    OptionSpec {
+        name: "ADDRESS",
+        takes: Takes::Word,
+        value: "",
+        help: "Where the server listens, as 127.0.0.1:7411",
+        beside: &[],
+        with: "",
+    },
+    OptionSpec {
+        name: "NAME",
+        takes: Takes::Word,
+        value: "",
+        help: "The account",
+        beside: &[],
+        with: "",
+    },
+];
 
 /// What the words ask for.
-#[derive(Drop)]
-pub struct Asked<'a> {
+#[derive(Clone, Copy)]
+pub struct Wanted<'w, 'a> {
     /// Where the server listens: a host and a port.
     pub address: &'a str,
     /// The account's name.
@@ -30,77 +92,30 @@ pub struct Asked<'a> {
     /// Whether another connection is made when one ends.
     pub reconnects: bool,
     /// The commands; if there are none, they are read from standard input.
-    pub commands: Vec<&'a str>,
+    pub commands: &'w [&'a str],
 }
 
-/// The words that the program knows.
-fn command<'a>(alloc: Global) -> Result<Command<'a>, AllocError> {
-    let key_file = Arg::new(alloc, "key-file")
-        .long("key-file")
-        .action(ArgAction::Set)
-        .value_name("FILE")
-        .help("Read the key from the first line of FILE, not from KL1_KEY in the environment");
-    let all = Arg::new(alloc, "all")
-        .long("all")
-        .action(ArgAction::SetTrue)
-        .help("Ask for reports and lines of the journal up to the last one");
-    let timeout = Arg::new(alloc, "timeout")
-        .long("timeout")
-        .action(ArgAction::Set)
-        .value_name("SECONDS")
-        .value_parser(value_parser!(u64).range(1..=MOST_SECONDS))
-        .help("Wait for the server, and for each reply, at most SECONDS");
-    let reconnect = Arg::new(alloc, "reconnect")
-        .long("reconnect")
-        .action(ArgAction::SetTrue)
-        .help("When the connection ends, make another and go on with the next command");
-    let commands = Arg::new(alloc, "command")
-        .short('c')
-        .long("command")
-        .action(ArgAction::Append)
-        .value_name("COMMAND")
-        .help("Send COMMAND, and read no commands from standard input");
-    let address = Arg::new(alloc, "ADDRESS")
-        .required(true)
-        .action(ArgAction::Set)
-        .help("Where the server listens, as 127.0.0.1:7411");
-    let name = Arg::new(alloc, "NAME")
-        .required(true)
-        .action(ArgAction::Set)
-        .help("The account");
-    Command::new(alloc, "kl1_client")
-        .about("Logs in to an account of a server, sends commands, and shows the replies")
-        .version(VERSION)
-        .override_usage(USAGE)
-        .arg(key_file)?
-        .arg(all)?
-        .arg(timeout)?
-        .arg(reconnect)?
-        .arg(commands)?
-        .arg(address)?
-        .arg(name)
-}
-
-/// What the words ask for, of which the first is the program's name.
-pub fn asked_in<'a>(alloc: Global, words: &'a [String]) -> Result<Asked<'a>, Error> {
-    let matches = command(alloc)?.try_get_matches_from(words)?;
-    Ok(Asked {
-        address: matches.get_str("ADDRESS").unwrap_or(""),
-        name: matches.get_str("NAME").unwrap_or(""),
-        key_file: matches.get_str("key-file"),
-        all: matches.get_flag("all"),
-        timeout: matches.get_one::<u64>("timeout"),
-        reconnects: matches.get_flag("reconnect"),
-        commands: Vec::from_slice(alloc, matches.get_strs("command").unwrap_or(&[]))?,
-    })
+impl<'w, 'a> Wanted<'w, 'a> {
+    /// What the words ask for.
+    pub fn of(asked: &'w Asked<'a>) -> Self {
+        Wanted {
+            address: asked.text("ADDRESS").unwrap_or(""),
+            name: asked.text("NAME").unwrap_or(""),
+            key_file: asked.text("key-file"),
+            all: asked.has("all"),
+            timeout: asked.number("timeout"),
+            reconnects: asked.has("reconnect"),
+            commands: asked.words(),
+        }
+    }
 }
 
 /// Tells help or the version, or why the words are not understood, and answers the program's status.
-pub fn tell(rt: &HostRuntime, error: &Error) -> u8 {
-    let told = error.print(rt);
+pub fn tell(rt: &HostRuntime, unasked: &Unasked) -> u8 {
+    let told = unasked.print(rt);
     if told.is_err() {
         TROUBLE
-    } else if error.use_stderr() {
+    } else if unasked.is_bad() {
         BAD_WORDS
     } else {
         0

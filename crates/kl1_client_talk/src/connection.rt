@@ -1,10 +1,5 @@
 // The connection to a server.
 
-ghost use Rattle.std.specs.Prelude.{◌≡◌, ◌∷◌, [], false, OnOk, OnErr};
-ghost use Rattle.kl1_client_talk.specs.Request.{text_of};
-ghost use Rattle.kl1_client_talk.specs.Exchanges.{wire, Asks, Hears};
-ghost use Rattle.kl1_lines.specs.Devices.{AppendsFront};
-
 use crate::fault::Fault;
 use crate::line_reader::LineReader;
 use crate::reply::is_refusal;
@@ -27,9 +22,7 @@ pub struct Connection<S, T> {
 
 impl<S: Source, T: Sink> Connection<S, T> {
     /// A connection on which nothing was sent.
-    pub fn new(alloc: Global, source: S, sink: T) -> Self
-        ensures { wire T.contents S.remaining result ≡ record { sent = T.contents sink; coming = S.remaining source; was_refused = false } }
-    {
+    pub fn new(alloc: Global, source: S, sink: T) -> Self {
         Connection {
             replies: LineReader::new(alloc, source),
             sink,
@@ -40,24 +33,17 @@ impl<S: Source, T: Sink> Connection<S, T> {
     }
 
     /// The last line that came, without its end.
-    pub fn line(&self) -> &[u8]
-        ensures { result.now ≡ self.now.line.items }
-    {
+    pub fn line(&self) -> &[u8] {
         self.line.as_slice()
     }
 
     /// Whether a reply was a refusal.
-    pub fn was_refused(&self) -> bool
-        ensures { result ≡ self.now.was_refused }
-    {
+    pub fn was_refused(&self) -> bool {
         self.was_refused
     }
 
     /// Sends a request, and takes the first line of its reply.
-    pub fn ask(&mut self, request: Request<'_>) -> Result<(), Fault>
-        ensures ok { OnOk result (Asks (wire T.contents S.remaining self.old) (wire T.contents S.remaining self.new) (text_of request.entry) self.new.line.items) }
-        ensures front { OnErr result (AppendsFront (T.contents self.old.sink) (T.contents self.new.sink) (text_of request.entry)) }
-    {
+    pub fn ask(&mut self, request: Request<'_>) -> Result<(), Fault> {
         self.request.clear();
         put_request(&mut self.request, request)?;
         if finish(&mut self.sink, self.request.as_slice()).is_err() {
@@ -76,10 +62,7 @@ impl<S: Source, T: Sink> Connection<S, T> {
     }
 
     /// Takes the next line of a reply.
-    pub fn take_line(&mut self) -> Result<(), Fault>
-        ensures ok { OnOk result (Hears (wire T.contents S.remaining self.old) (wire T.contents S.remaining self.new) (self.new.line.items ∷ [])) }
-        ensures sink { self.new.sink ≡ self.old.sink }
-    {
+    pub fn take_line(&mut self) -> Result<(), Fault> {
         if self.replies.next_whole(&mut self.line, Fault::Connection)? {
             Ok(())
         } else {

@@ -1,15 +1,5 @@
 // A whole talk.
 
-ghost use Rattle.std.specs.Prelude.{◌≡◌, [], codes, List, ℕ, OnOk, IfOk};
-ghost use Rattle.std.specs.Io.KnownBytes.{Appends};
-ghost use Rattle.kl1_model.specs.Line.{without_return};
-ghost use Rattle.kl1_client_talk.specs.Exchanges.{wire, screen, Asks, Says};
-ghost use Rattle.kl1_client_talk.specs.Conversation.{TakesTurn, TakesTurns, Talks, TellsLoad};
-ghost use Rattle.kl1_client_talk.specs.Reply.{is_bad_source};
-ghost use Rattle.kl1_client_talk.specs.UserCommand.{wanted_in, load};
-ghost use Rattle.kl1_client_talk.specs.Request.{login_line};
-ghost use Rattle.kl1_model_server.specs.Command.{written_line};
-
 use crate::caller::Caller;
 use crate::connection::Connection;
 use crate::fault::Fault;
@@ -35,9 +25,7 @@ pub fn talk<S: Source, T: Sink, O: Sink, C: Caller>(
     caller: &mut C,
     name: &[u8],
     key: &[u8],
-) -> Result<TalkSummary, Fault>
-    ensures ok { IfOk result (λ s. Talks C.is_file shown.old.are_pages_joined (login_line name.now key.now) (C.remaining caller.old) (C.remaining caller.new) (C.told caller.old) (C.told caller.new) (wire T.contents S.remaining connection.old) (wire T.contents S.remaining connection.new) (screen O.contents shown.old) (screen O.contents shown.new) s) }
-{
+) -> Result<TalkSummary, Fault> {
     connection.ask(Request::Login(name, key))?;
     let first = connection.line();
     if is_refusal(first) {
@@ -66,9 +54,7 @@ fn take_turns<S: Source, T: Sink, O: Sink, C: Caller>(
     connection: &mut Connection<S, T>,
     shown: &mut ReplyWriter<O>,
     caller: &mut C,
-) -> Result<(bool, bool), Fault>
-    ensures ok { IfOk result (λ r. TakesTurns C.is_file shown.old.are_pages_joined (C.remaining caller.old) (C.remaining caller.new) (C.told caller.old) (C.told caller.new) (wire T.contents S.remaining connection.old) (wire T.contents S.remaining connection.new) (screen O.contents shown.old) (screen O.contents shown.new) r.0 r.1) }
-{
+) -> Result<(bool, bool), Fault> {
     let mut line = Vec::new(alloc);
     let mut lacked_file = false;
     let mut stood_still = false;
@@ -91,9 +77,7 @@ fn take_turns<S: Source, T: Sink, O: Sink, C: Caller>(
 }
 
 /// Asks for the end of the session.
-fn log_out<S: Source, T: Sink>(connection: &mut Connection<S, T>) -> Result<(), Fault>
-    ensures ok { OnOk result (Asks (wire T.contents S.remaining connection.old) (wire T.contents S.remaining connection.new) (written_line (codes "logout")) connection.new.line.items) }
-{
+fn log_out<S: Source, T: Sink>(connection: &mut Connection<S, T>) -> Result<(), Fault> {
     connection.ask(Request::Line(b"logout"))
 }
 
@@ -104,11 +88,7 @@ fn take_turn<S: Source, T: Sink, O: Sink, C: Caller>(
     shown: &mut ReplyWriter<O>,
     caller: &mut C,
     line: &[u8],
-) -> Result<TurnEnd, Fault>
-    ensures ok { IfOk result (λ end. (told : List ℕ) × Says (wire T.contents S.remaining connection.old) (wire T.contents S.remaining connection.new) (screen O.contents shown.old) (screen O.contents shown.new) (TakesTurn C.is_file shown.old.are_pages_joined (without_return line.now) (wanted_in line.now) told end) × Appends (C.told caller.old) (C.told caller.new) told) }
-    ensures joined { shown.new.are_pages_joined ≡ shown.old.are_pages_joined }
-    ensures caller { C.remaining caller.new ≡ C.remaining caller.old }
-{
+) -> Result<TurnEnd, Fault> {
     let command = command_in(line);
     let line = without_return(line);
     match command {
@@ -163,11 +143,7 @@ fn load<S: Source, T: Sink, O: Sink, C: Caller>(
     shown: &mut ReplyWriter<O>,
     caller: &mut C,
     text: &[u8],
-) -> Result<TurnEnd, Fault>
-    ensures ok { IfOk result (λ end. (told : List ℕ) × Says (wire T.contents S.remaining connection.old) (wire T.contents S.remaining connection.new) (screen O.contents shown.old) (screen O.contents shown.new) (TakesTurn C.is_file shown.old.are_pages_joined [] (load text.now) told end) × Appends (C.told caller.old) (C.told caller.new) told) }
-    ensures joined { shown.new.are_pages_joined ≡ shown.old.are_pages_joined }
-    ensures caller { C.remaining caller.new ≡ C.remaining caller.old }
-{
+) -> Result<TurnEnd, Fault> {
     let mut source = Vec::new(alloc);
     let name = text.trim_ascii();
     let found = caller.file(name, &mut source)?;
@@ -182,16 +158,12 @@ fn load<S: Source, T: Sink, O: Sink, C: Caller>(
 }
 
 /// Has the caller told why a file is no module, if it was refused as one that is none.
-#[tactic(auto, using(crate::proofs::Said::explains_none, crate::proofs::Said::explains))]
 fn explain<C: Caller>(
     alloc: Global,
     caller: &mut C,
     file: NamedText<'_>,
     reply: &[u8],
-) -> Result<(), Fault>
-    ensures told { OnOk result ((told : List ℕ) × TellsLoad (is_bad_source reply.now) file.entry.name.now file.entry.text.now told × Appends (C.told caller.old) (C.told caller.new) told) }
-    ensures caller { C.remaining caller.new ≡ C.remaining caller.old }
-{
+) -> Result<(), Fault> {
     if !is_bad_source(reply) {
         return Ok(());
     }

@@ -1,9 +1,5 @@
 // A stream that is read line by line.
 
-ghost use Rattle.std.specs.Prelude.{◌≡◌, IfOk, MatchBool, drop, option_map};
-ghost use Rattle.kl1_client_talk.specs.Streams.{unread, coming, MovesLine, MovesAll, Refills, TakesLine, TakesRest};
-ghost use Rattle.kl1_client_talk.specs.Given.{GivesLine, lines_in};
-
 use crate::fault::Fault;
 use kl1_lines::{Source, split_feed};
 use std::alloc::{AllocError, Global};
@@ -24,9 +20,7 @@ pub struct LineReader<S> {
 }
 
 /// What is after the place, nothing if none is there.
-fn behind(bytes: &[u8], place: usize) -> &[u8]
-    ensures { result.now ≡ drop place bytes.now }
-{
+fn behind(bytes: &[u8], place: usize) -> &[u8] {
     if place < bytes.len() {
         &bytes[place..]
     } else {
@@ -36,9 +30,7 @@ fn behind(bytes: &[u8], place: usize) -> &[u8]
 
 impl<S: Source> LineReader<S> {
     /// The lines of a stream of which nothing was read.
-    pub fn new(alloc: Global, source: S) -> Self
-        ensures { coming S.remaining result ≡ S.remaining source }
-    {
+    pub fn new(alloc: Global, source: S) -> Self {
         LineReader {
             source,
             piece: Vec::new(alloc),
@@ -48,9 +40,7 @@ impl<S: Source> LineReader<S> {
 
     /// Puts the next line, without its line feed, in the place of `line`, and tells whether there is one. The end of the stream
     /// stands for the line feed of a last line. `bad` is the fault of a stream that can't be read or whose line is too long.
-    pub fn next(&mut self, line: &mut Vec<u8>, bad: Fault) -> Result<bool, Fault>
-        ensures { IfOk result (λ found. GivesLine (option_map lines_in (coming S.remaining self.old)) (option_map lines_in (coming S.remaining self.new)) line.new.items found) }
-    {
+    pub fn next(&mut self, line: &mut Vec<u8>, bad: Fault) -> Result<bool, Fault> {
         let is_whole = self.next_whole(line, bad)?;
         if is_whole {
             return Ok(true);
@@ -60,9 +50,7 @@ impl<S: Source> LineReader<S> {
     }
 
     /// Like `next`, but tells whether the line has a line feed. If it has none, `line` is all that was left.
-    pub fn next_whole(&mut self, line: &mut Vec<u8>, bad: Fault) -> Result<bool, Fault>
-        ensures { IfOk result (λ whole. MatchBool whole (TakesLine (coming S.remaining self.old) (coming S.remaining self.new) line.new.items) (TakesRest (coming S.remaining self.old) (coming S.remaining self.new) line.new.items)) }
-    {
+    pub fn next_whole(&mut self, line: &mut Vec<u8>, bad: Fault) -> Result<bool, Fault> {
         line.clear();
         for _ in 0..u64::MAX {
             let has_feed = self.move_front(line)?;
@@ -80,10 +68,7 @@ impl<S: Source> LineReader<S> {
     }
 
     /// Puts what was read up to the next line feed after `line`, or all that was read if it has no line feed. Tells whether it has one.
-    fn move_front(&mut self, line: &mut Vec<u8>) -> Result<bool, AllocError>
-        ensures moved { IfOk result (λ has_feed. MatchBool has_feed (MovesLine (unread self.old) (unread self.new) line.old.items line.new.items) (MovesAll (unread self.old) (unread self.new) line.old.items line.new.items)) }
-        ensures source { self.new.source ≡ self.old.source }
-    {
+    fn move_front(&mut self, line: &mut Vec<u8>) -> Result<bool, AllocError> {
         let rest = behind(self.piece.as_slice(), self.begin);
         match split_feed(rest) {
             Some((front, _)) => {
@@ -101,9 +86,7 @@ impl<S: Source> LineReader<S> {
     }
 
     /// Reads the next piece in the place of the last one, and tells whether there is one.
-    fn refill(&mut self, bad: Fault) -> Result<bool, Fault>
-        ensures { IfOk result (λ more. Refills (S.remaining self.old.source) (coming S.remaining self.new) more) }
-    {
+    fn refill(&mut self, bad: Fault) -> Result<bool, Fault> {
         self.piece.clear();
         self.begin = 0;
         let mut buffer = [0u8; PIECE];

@@ -1,11 +1,5 @@
 // Requests, and the replies to them that are shown.
 
-ghost use Rattle.std.specs.Prelude.{◌≡◌, ℕ, List, length, max, OnOk, IfOk};
-ghost use Rattle.kl1_client_talk.specs.Exchanges.{wire, screen, ShowsOne, ShowsLines, Says};
-ghost use Rattle.kl1_client_talk.specs.Conversation.{ShowsListing, AsksList, AsksPagesTo, most_of};
-ghost use Rattle.kl1_client_talk.specs.Request.{text_of};
-ghost use Rattle.kl1_model_server.specs.Command.{written_line};
-
 use crate::connection::Connection;
 use crate::fault::Fault;
 use crate::reply::{count_in, is_refusal};
@@ -19,10 +13,7 @@ pub(crate) fn ask_one<S: Source, T: Sink, O: Sink>(
     connection: &mut Connection<S, T>,
     shown: &mut ReplyWriter<O>,
     request: Request<'_>,
-) -> Result<(), Fault>
-    ensures ok { OnOk result (ShowsOne (wire T.contents S.remaining connection.old) (wire T.contents S.remaining connection.new) (screen O.contents shown.old) (screen O.contents shown.new) (text_of request.entry) connection.new.line.items) }
-    ensures joined { shown.new.are_pages_joined ≡ shown.old.are_pages_joined }
-{
+) -> Result<(), Fault> {
     connection.ask(request)?;
     shown.line(connection.line())
 }
@@ -32,10 +23,7 @@ pub(crate) fn ask_list<S: Source, T: Sink, O: Sink>(
     connection: &mut Connection<S, T>,
     shown: &mut ReplyWriter<O>,
     line: &[u8],
-) -> Result<(), Fault>
-    ensures ok { OnOk result (Says (wire T.contents S.remaining connection.old) (wire T.contents S.remaining connection.new) (screen O.contents shown.old) (screen O.contents shown.new) (AsksList (written_line line.now))) }
-    ensures joined { shown.new.are_pages_joined ≡ shown.old.are_pages_joined }
-{
+) -> Result<(), Fault> {
     connection.ask(Request::Line(line))?;
     show_list(connection, shown)
 }
@@ -44,10 +32,7 @@ pub(crate) fn ask_list<S: Source, T: Sink, O: Sink>(
 fn show_list<S: Source, T: Sink, O: Sink>(
     connection: &mut Connection<S, T>,
     shown: &mut ReplyWriter<O>,
-) -> Result<(), Fault>
-    ensures ok { OnOk result (ShowsListing (wire T.contents S.remaining connection.old) (wire T.contents S.remaining connection.new) (screen O.contents shown.old) (screen O.contents shown.new) connection.old.line.items) }
-    ensures joined { shown.new.are_pages_joined ≡ shown.old.are_pages_joined }
-{
+) -> Result<(), Fault> {
     let first = connection.line();
     shown.line(first)?;
     if is_refusal(first) {
@@ -64,10 +49,7 @@ fn show_lines<S: Source, T: Sink, O: Sink>(
     connection: &mut Connection<S, T>,
     shown: &mut ReplyWriter<O>,
     count: u64,
-) -> Result<(), Fault>
-    ensures ok { OnOk result ((lines : List (List ℕ)) × ShowsLines (wire T.contents S.remaining connection.old) (wire T.contents S.remaining connection.new) (screen O.contents shown.old) (screen O.contents shown.new) lines × (length lines ≡ count)) }
-    ensures joined { shown.new.are_pages_joined ≡ shown.old.are_pages_joined }
-{
+) -> Result<(), Fault> {
     for _ in 0..count {
         connection.take_line()?;
         shown.line(connection.line())?;
@@ -76,9 +58,7 @@ fn show_lines<S: Source, T: Sink, O: Sink>(
 }
 
 /// The least lines of a page after which another may follow: as many as a page has at most, and at least one.
-fn least_full(page: Page) -> u64
-    ensures { result ≡ max (most_of page) 1 }
-{
+fn least_full(page: Page) -> u64 {
     match page {
         Page::Reports { .. } => MOST_LISTED as u64,
         Page::Journal { count } => count.max(1),
@@ -92,10 +72,7 @@ pub(crate) fn ask_pages<S: Source, T: Sink, O: Sink>(
     shown: &mut ReplyWriter<O>,
     page: Page,
     from: u64,
-) -> Result<Option<u64>, Fault>
-    ensures ok { IfOk result (λ after. Says (wire T.contents S.remaining connection.old) (wire T.contents S.remaining connection.new) (screen O.contents shown.old) (screen O.contents shown.new) (AsksPagesTo page from after connection.new.line.items)) }
-    ensures joined { shown.new.are_pages_joined ≡ shown.old.are_pages_joined }
-{
+) -> Result<Option<u64>, Fault> {
     let least = least_full(page);
     let mut next = from;
     for _ in 0..u64::MAX {

@@ -1,9 +1,5 @@
 // What is asked of a server.
 
-ghost use Rattle.std.specs.Prelude.{◌≡◌, ◌++◌, ◌∷◌, [], OnOk};
-ghost use Rattle.kl1_client_talk.specs.Request.{load_of, page_line, status_line, login_line, text_of};
-ghost use Rattle.kl1_model_server.specs.Command.{written_line};
-
 use kl1_lines::put_decimal;
 use std::alloc::AllocError;
 
@@ -32,9 +28,7 @@ pub enum Request<'a> {
 }
 
 /// Puts the text of a request after the bytes.
-pub fn put_request(out: &mut Vec<u8>, request: Request<'_>) -> Result<(), AllocError>
-    ensures { OnOk result (out.new.items ≡ out.old.items ++ text_of request.entry) }
-{
+pub fn put_request(out: &mut Vec<u8>, request: Request<'_>) -> Result<(), AllocError> {
     match request {
         Request::Line(line) => put_line(out, line),
         Request::Load(source) => put_load(out, source),
@@ -45,18 +39,14 @@ pub fn put_request(out: &mut Vec<u8>, request: Request<'_>) -> Result<(), AllocE
 }
 
 /// Puts a line and its end after the bytes.
-fn put_line(out: &mut Vec<u8>, line: &[u8]) -> Result<(), AllocError>
-    ensures { OnOk result (out.new.items ≡ out.old.items ++ written_line line.now) }
-{
+fn put_line(out: &mut Vec<u8>, line: &[u8]) -> Result<(), AllocError> {
     out.extend_from_slice(line)?;
     out.push(b'\n')?;
     Ok(())
 }
 
 /// Puts the load of a source after the bytes: its line, the source and a line's end.
-fn put_load(out: &mut Vec<u8>, source: &[u8]) -> Result<(), AllocError>
-    ensures { OnOk result (out.new.items ≡ out.old.items ++ load_of source.now) }
-{
+fn put_load(out: &mut Vec<u8>, source: &[u8]) -> Result<(), AllocError> {
     out.extend_from_slice(b"load ")?;
     put_decimal(out, source.len() as u64)?;
     out.push(b'\n')?;
@@ -64,9 +54,7 @@ fn put_load(out: &mut Vec<u8>, source: &[u8]) -> Result<(), AllocError>
 }
 
 /// Puts the line that asks for a page from a number on after the bytes.
-fn put_page(out: &mut Vec<u8>, page: Page, from: u64) -> Result<(), AllocError>
-    ensures { OnOk result (out.new.items ≡ out.old.items ++ page_line page from) }
-{
+fn put_page(out: &mut Vec<u8>, page: Page, from: u64) -> Result<(), AllocError> {
     let (word, first, second): (&[u8], u64, u64) = match page {
         Page::Reports { shoen } => (b"reports ", shoen, from),
         Page::Journal { count } => (b"journal ", from, count),
@@ -80,9 +68,7 @@ fn put_page(out: &mut Vec<u8>, page: Page, from: u64) -> Result<(), AllocError>
 }
 
 /// Puts the line that asks for the status of a shoen after the bytes.
-fn put_status(out: &mut Vec<u8>, shoen: u64) -> Result<(), AllocError>
-    ensures { OnOk result (out.new.items ≡ out.old.items ++ status_line shoen) }
-{
+fn put_status(out: &mut Vec<u8>, shoen: u64) -> Result<(), AllocError> {
     out.extend_from_slice(b"status ")?;
     put_decimal(out, shoen)?;
     out.push(b'\n')?;
@@ -90,9 +76,7 @@ fn put_status(out: &mut Vec<u8>, shoen: u64) -> Result<(), AllocError>
 }
 
 /// Puts the line that asks to log in after the bytes.
-fn put_login(out: &mut Vec<u8>, name: &[u8], key: &[u8]) -> Result<(), AllocError>
-    ensures { OnOk result (out.new.items ≡ out.old.items ++ login_line name.now key.now) }
-{
+fn put_login(out: &mut Vec<u8>, name: &[u8], key: &[u8]) -> Result<(), AllocError> {
     out.extend_from_slice(b"login ")?;
     out.extend_from_slice(name)?;
     out.push(b' ')?;

@@ -1,10 +1,5 @@
 // The journal kept as a file.
 
-ghost use Rattle.std.specs.Prelude.{◌≡◌, ◌++◌, [], OnOk, IfOk};
-ghost use Rattle.kl1_client_talk.specs.Exchanges.{wire, screen, Says};
-ghost use Rattle.kl1_client_talk.specs.Conversation.{TakesTurn, Kept, saved_line};
-ghost use Rattle.kl1_client_talk.specs.UserCommand.{save};
-
 use crate::caller::Caller;
 use crate::connection::Connection;
 use crate::fault::Fault;
@@ -23,12 +18,7 @@ pub(crate) fn save<S: Source, T: Sink, O: Sink, C: Caller>(
     shown: &mut ReplyWriter<O>,
     caller: &mut C,
     text: &[u8],
-) -> Result<TurnEnd, Fault>
-    ensures ok { IfOk result (λ end. Says (wire T.contents S.remaining connection.old) (wire T.contents S.remaining connection.new) (screen O.contents shown.old) (screen O.contents shown.new) (TakesTurn C.is_file shown.old.are_pages_joined [] (save text.now) [] end)) }
-    ensures joined { shown.new.are_pages_joined ≡ shown.old.are_pages_joined }
-    ensures caller { C.remaining caller.new ≡ C.remaining caller.old }
-    ensures told { C.told caller.new ≡ C.told caller.old }
-{
+) -> Result<TurnEnd, Fault> {
     let name = text.trim_ascii();
     let bytes = Vec::new(alloc);
     let sink = FailureCounter::new(bytes);
@@ -66,12 +56,7 @@ fn keep<O: Sink, C: Caller>(
     name: &[u8],
     bytes: &[u8],
     count: u64,
-) -> Result<TurnEnd, Fault>
-    ensures ok { IfOk result (λ end. Kept C.is_file name.now bytes.now count (screen O.contents shown.old) (screen O.contents shown.new) end) }
-    ensures joined { shown.new.are_pages_joined ≡ shown.old.are_pages_joined }
-    ensures caller { C.remaining caller.new ≡ C.remaining caller.old }
-    ensures told { C.told caller.new ≡ C.told caller.old }
-{
+) -> Result<TurnEnd, Fault> {
     let is_kept = caller.save(name, bytes)?;
     if !is_kept {
         return Ok(TurnEnd::LacksFile);
@@ -83,9 +68,7 @@ fn keep<O: Sink, C: Caller>(
 }
 
 /// Puts the line that tells how many lines were kept after the bytes.
-fn put_saved(out: &mut Vec<u8>, count: u64) -> Result<(), AllocError>
-    ensures { OnOk result (out.new.items ≡ out.old.items ++ saved_line count) }
-{
+fn put_saved(out: &mut Vec<u8>, count: u64) -> Result<(), AllocError> {
     out.extend_from_slice(b"+ saved ")?;
     put_decimal(out, count)
 }

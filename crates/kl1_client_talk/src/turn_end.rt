@@ -1,8 +1,5 @@
 // How a turn of a talk ends.
 
-ghost use Rattle.std.specs.Prelude.{◌≡◌, ◌||◌};
-ghost use Rattle.kl1_client_talk.specs.Conversation.{lacks_file, stands_still, is_over_at};
-
 /// How a turn of a talk ends, in which one line of the user is answered.
 #[derive(Clone, Copy)]
 pub enum TurnEnd {
@@ -18,9 +15,7 @@ pub enum TurnEnd {
 
 impl TurnEnd {
     /// Whether the talk is over.
-    pub(crate) fn is_over(self) -> bool
-        ensures { result ≡ is_over_at self }
-    {
+    pub(crate) fn is_over(self) -> bool {
         match self {
             TurnEnd::Over => true,
             TurnEnd::GoesOn | TurnEnd::LacksFile | TurnEnd::StandsStill => false,
@@ -28,9 +23,7 @@ impl TurnEnd {
     }
 
     /// Whether a file could not be loaded or written in this turn or, as `before` tells, in an earlier one.
-    pub(crate) fn lacks_file(self, before: bool) -> bool
-        ensures { result ≡ (before || lacks_file self) }
-    {
+    pub(crate) fn lacks_file(self, before: bool) -> bool {
         match self {
             TurnEnd::LacksFile => true,
             TurnEnd::GoesOn | TurnEnd::StandsStill | TurnEnd::Over => before,
@@ -38,9 +31,7 @@ impl TurnEnd {
     }
 
     /// Whether a shoen that was waited for has not ended, in this turn or, as `before` tells, in an earlier one.
-    pub(crate) fn stands_still(self, before: bool) -> bool
-        ensures { result ≡ (before || stands_still self) }
-    {
+    pub(crate) fn stands_still(self, before: bool) -> bool {
         match self {
             TurnEnd::StandsStill => true,
             TurnEnd::GoesOn | TurnEnd::LacksFile | TurnEnd::Over => before,

@@ -1,9 +1,5 @@
 // What a line of the user asks for.
 
-ghost use Rattle.std.specs.Prelude.{◌≡◌};
-ghost use Rattle.kl1_client_talk.specs.UserCommand.{wanted_in, wanted_of, reports_by, journal_by, wait_by};
-ghost use Rattle.kl1_model.specs.Line.{word_in, behind_word_in, is_blank_line, number_in, only_number};
-
 use crate::request::Page;
 use kl1_lines::{is_blank_line, is_same, number_in, only_number, split_word, without_return};
 
@@ -35,9 +31,7 @@ pub enum UserCommand<'a> {
 }
 
 /// What a line, without its line feed, asks for. A line that is no good one of its kind goes to the server, which refuses it.
-pub fn command_in(line: &[u8]) -> UserCommand<'_>
-    ensures { wanted_of result ≡ wanted_in line.now }
-{
+pub fn command_in(line: &[u8]) -> UserCommand<'_> {
     let (word, rest) = split_word(without_return(line));
     if word.is_empty() {
         UserCommand::Nothing
@@ -82,9 +76,7 @@ pub fn command_in(line: &[u8]) -> UserCommand<'_>
 }
 
 /// What a line asks for that has this after `wait`.
-fn wait_by(rest: &[u8]) -> UserCommand<'_>
-    ensures { wanted_of result ≡ wait_by (number_in (word_in rest.now)) (is_blank_line (behind_word_in rest.now)) (only_number (behind_word_in rest.now)) }
-{
+fn wait_by(rest: &[u8]) -> UserCommand<'_> {
     let (first, rest) = split_word(rest);
     match number_in(first) {
         None => UserCommand::OneLine,
@@ -102,9 +94,7 @@ fn wait_by(rest: &[u8]) -> UserCommand<'_>
 }
 
 /// What a line asks for that has this after `reports`.
-fn reports_by(rest: &[u8]) -> UserCommand<'_>
-    ensures { wanted_of result ≡ reports_by (number_in (word_in rest.now)) (only_number (behind_word_in rest.now)) }
-{
+fn reports_by(rest: &[u8]) -> UserCommand<'_> {
     let (first, rest) = split_word(rest);
     match (number_in(first), only_number(rest)) {
         (Some(shoen), Some(from)) => UserCommand::Pages(Page::Reports { shoen }, from),
@@ -113,9 +103,7 @@ fn reports_by(rest: &[u8]) -> UserCommand<'_>
 }
 
 /// What a line asks for that has this after `journal`.
-fn journal_by(rest: &[u8]) -> UserCommand<'_>
-    ensures { wanted_of result ≡ journal_by (number_in (word_in rest.now)) (only_number (behind_word_in rest.now)) }
-{
+fn journal_by(rest: &[u8]) -> UserCommand<'_> {
     let (first, rest) = split_word(rest);
     match (number_in(first), only_number(rest)) {
         (Some(from), Some(count)) => UserCommand::Pages(Page::Journal { count }, from),

@@ -1,12 +1,5 @@
 // What is asked of a shoen until it has ended.
 
-ghost use Rattle.std.specs.Prelude.{◌≡◌, [], codes, OnOk, IfOk};
-ghost use Rattle.kl1_client_talk.specs.Exchanges.{wire, screen, Asks, ShowsOne, Says};
-ghost use Rattle.kl1_client_talk.specs.Conversation.{Watches, TakesTurn, wait_end};
-ghost use Rattle.kl1_client_talk.specs.UserCommand.{wait};
-ghost use Rattle.kl1_client_talk.specs.Request.{status_line};
-ghost use Rattle.kl1_model_server.specs.Command.{written_line};
-
 use crate::caller::Caller;
 use crate::connection::Connection;
 use crate::fault::Fault;
@@ -25,12 +18,7 @@ pub(crate) fn wait<S: Source, T: Sink, O: Sink, C: Caller>(
     caller: &mut C,
     shoen: u64,
     seconds: Option<u64>,
-) -> Result<TurnEnd, Fault>
-    ensures ok { IfOk result (λ end. Says (wire T.contents S.remaining connection.old) (wire T.contents S.remaining connection.new) (screen O.contents shown.old) (screen O.contents shown.new) (TakesTurn C.is_file shown.old.are_pages_joined [] (wait shoen seconds) [] end)) }
-    ensures joined { shown.new.are_pages_joined ≡ shown.old.are_pages_joined }
-    ensures caller { C.remaining caller.new ≡ C.remaining caller.old }
-    ensures told { C.told caller.new ≡ C.told caller.old }
-{
+) -> Result<TurnEnd, Fault> {
     for looks in 1..u64::MAX {
         connection.ask(Request::Status(shoen))?;
         let status = connection.line();
@@ -52,9 +40,7 @@ pub(crate) fn wait<S: Source, T: Sink, O: Sink, C: Caller>(
 }
 
 /// Asks for one step. The reply tells whether one can be done, as `quiet` doesn't, which knows nothing of the journal.
-fn ask_step<S: Source, T: Sink>(connection: &mut Connection<S, T>) -> Result<(), Fault>
-    ensures ok { OnOk result (Asks (wire T.contents S.remaining connection.old) (wire T.contents S.remaining connection.new) (written_line (codes "run 1")) connection.new.line.items) }
-{
+fn ask_step<S: Source, T: Sink>(connection: &mut Connection<S, T>) -> Result<(), Fault> {
     connection.ask(Request::Line(b"run 1"))
 }
 
@@ -63,10 +49,7 @@ fn end_wait<S: Source, T: Sink, O: Sink>(
     connection: &mut Connection<S, T>,
     shown: &mut ReplyWriter<O>,
     shoen: u64,
-) -> Result<TurnEnd, Fault>
-    ensures ok { IfOk result (λ end. (ShowsOne (wire T.contents S.remaining connection.old) (wire T.contents S.remaining connection.new) (screen O.contents shown.old) (screen O.contents shown.new) (status_line shoen) connection.new.line.items) × (end ≡ wait_end connection.new.line.items)) }
-    ensures joined { shown.new.are_pages_joined ≡ shown.old.are_pages_joined }
-{
+) -> Result<TurnEnd, Fault> {
     ask_one(connection, shown, Request::Status(shoen))?;
     let last = connection.line();
     if is_over(last) {
@@ -82,12 +65,7 @@ pub(crate) fn watch<S: Source, T: Sink, O: Sink, C: Caller>(
     shown: &mut ReplyWriter<O>,
     caller: &mut C,
     shoen: u64,
-) -> Result<(), Fault>
-    ensures ok { OnOk result (Says (wire T.contents S.remaining connection.old) (wire T.contents S.remaining connection.new) (screen O.contents shown.old) (screen O.contents shown.new) (Watches shoen)) }
-    ensures joined { shown.new.are_pages_joined ≡ shown.old.are_pages_joined }
-    ensures caller { C.remaining caller.new ≡ C.remaining caller.old }
-    ensures told { C.told caller.new ≡ C.told caller.old }
-{
+) -> Result<(), Fault> {
     let mut next = 1;
     for looks in 1..u64::MAX {
         connection.ask(Request::Status(shoen))?;

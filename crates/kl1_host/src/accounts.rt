@@ -1,6 +1,6 @@
 // The accounts of a folder.
 
-use crate::fault::{Fault, fault_in_folder};
+use crate::fault::{BAD, Fault, fault_in_folder};
 use crate::folder::{ACCOUNTS, path_in};
 use kl1_host_front::{bad_line, read_sums};
 use kl1_session::Key;
@@ -37,7 +37,7 @@ pub fn accounts_in<R: Files + AllocGlobal>(rt: &R, folder: &str) -> Result<Accou
             let words = format!(in alloc;
                 "{path}:{line}: a line has a name, which stands nowhere else, a space, and 64 hexadecimal digits"
             )?;
-            Err(Fault::Bad(words))
+            Err(Fault::Words(BAD, words))
         }
     }
 }

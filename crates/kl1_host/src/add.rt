@@ -1,7 +1,7 @@
 // An account is added.
 
 use crate::accounts::{Accounts, accounts_in};
-use crate::fault::{Fault, at_path, fault_at};
+use crate::fault::{BAD, Fault, REFUSED, at_path, fault_at};
 use crate::folder::{ACCOUNTS, NEW_ACCOUNTS, path_in};
 use crate::lock::lock_folder;
 use crate::new_file::{sync_folder, write_new};
@@ -27,12 +27,12 @@ fn refuse_used(rt: &HostRuntime, accounts: &Accounts, name: &str) -> Result<(), 
     for key in &accounts.keys {
         if key.name.as_slice() == name.as_bytes() {
             let words = format!(in rt.alloc(); "there is an account {name} already")?;
-            return Err(Fault::Refused(words));
+            return Err(Fault::Words(REFUSED, words));
         }
     }
     if accounts.keys.len() >= MOST_ACCOUNTS {
         let words = format!(in rt.alloc(); "there are {MOST_ACCOUNTS} accounts already, the most")?;
-        return Err(Fault::Refused(words));
+        return Err(Fault::Words(REFUSED, words));
     }
     Ok(())
 }
@@ -59,7 +59,7 @@ fn text_with(
                 "'{}' is no name: one has a small letter, and then small letters and digits, at most 16 in all",
                 name.escape_debug()
             )?;
-            Err(Fault::Bad(words))
+            Err(Fault::Words(BAD, words))
         }
     }
 }

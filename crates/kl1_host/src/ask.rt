@@ -1,6 +1,6 @@
 // A host that runs is asked.
 
-use crate::fault::{Fault, fault_at};
+use crate::fault::{Fault, REFUSED, fault_at};
 use crate::sockets::socket_in;
 use std::alloc::Global;
 use std::io::{self, ErrorKind, Read, Write};
@@ -16,7 +16,7 @@ fn fault_of(alloc: Global, folder: &str, path: &str, error: &io::Error) -> Fault
         | ErrorKind::ConnectionRefused
         | ErrorKind::ConnectionReset
         | ErrorKind::BrokenPipe => match format!(in alloc; "{folder}: no host runs there") {
-            Ok(words) => Fault::Refused(words),
+            Ok(words) => Fault::Words(REFUSED, words),
             Err(_) => Fault::Memory,
         },
         _ => fault_at(alloc, path, error),

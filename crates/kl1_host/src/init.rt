@@ -1,6 +1,6 @@
 // A folder is made.
 
-use crate::fault::{Fault, at_path, fault_at};
+use crate::fault::{Fault, REFUSED, at_path, fault_at};
 use crate::folder::{ACCOUNTS, FOLDER_MODE, JOURNALS, LOCK, SETTINGS, path_in};
 use crate::new_file::{sync_folder, write_new};
 use kl1_host_front::FIRST_SETTINGS;
@@ -25,7 +25,7 @@ fn make_folder(rt: &HostRuntime, folder: &str) -> Result<bool, Fault> {
         Err(error) if error.kind() == ErrorKind::AlreadyExists => {
             if !is_empty(rt, folder)? {
                 let words = format!(in rt.alloc(); "{folder}: there is something in it already")?;
-                return Err(Fault::Refused(words));
+                return Err(Fault::Words(REFUSED, words));
             }
             let mode = Permissions::from_mode(FOLDER_MODE);
             at_path(rt.alloc(), folder, fs::set_permissions(rt, folder, mode))?;

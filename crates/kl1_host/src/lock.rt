@@ -1,6 +1,6 @@
 // One host at a time in a folder.
 
-use crate::fault::{Fault, fault_at, fault_in_folder};
+use crate::fault::{Fault, REFUSED, fault_at, fault_in_folder};
 use crate::folder::{LOCK, path_in};
 use std::alloc::Global;
 use std::fs::{File, OpenOptions, TryLockError};
@@ -26,7 +26,7 @@ pub fn lock_folder<R: Files<File = File>>(
         Ok(()) => Ok(file),
         Err(TryLockError::WouldBlock) => {
             let words = format!(in alloc; "{folder}: a host runs there; {advice}")?;
-            Err(Fault::Refused(words))
+            Err(Fault::Words(REFUSED, words))
         }
         Err(TryLockError::Error(error)) => Err(fault_at(alloc, path.as_str(), &error)),
     }

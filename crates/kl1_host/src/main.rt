@@ -32,29 +32,27 @@ use crate::check::check_folder;
 use crate::fault::Fault;
 use crate::init::init_folder;
 use crate::run::run_folder;
-use crate::words::{Task, task_in, tell};
-use std::env;
+use crate::words::{PROGRAM, Task, no_task, task_of, tell};
+use kl1_words::{asked_in, words_of};
 use std::process::ExitCode;
 
 fn main(rt: HostRuntime) -> ExitCode {
-    let done = match words_in(&rt) {
-        Ok(words) => match task_in(rt.alloc(), words.as_slice()) {
-            // A host waits for its threads, which only `main` may.
-            Ok(Task::Run { folder, repairs }) => run_folder(&rt, folder, repairs),
-            Ok(task) => do_task(&rt, task),
-            Err(error) => tell(&rt, &error),
+    let done = match words_of(&rt) {
+        Ok(words) => match asked_in(rt.alloc(), &PROGRAM, words.as_slice()) {
+            Ok(asked) => match task_of(&asked) {
+                // A host waits for its threads, which only `main` may.
+                Some(Task::Run { folder, repairs }) => run_folder(&rt, folder, repairs),
+                Some(task) => do_task(&rt, task),
+                None => Err(no_task(rt.alloc())),
+            },
+            Err(unasked) => tell(&rt, &unasked),
         },
         Err(fault) => Err(fault),
     };
     match done {
         Ok(status) => ExitCode::from(status),
-        Err(fault) => fault.tell(&rt),
+        Err(fault) => ExitCode::from(fault.tell(&mut rt.stderr(), &PROGRAM)),
     }
-}
-
-/// The words of the program, of which the first is its name.
-fn words_in(rt: &HostRuntime) -> Result<Vec<String>, Fault> {
-    Ok(env::args(rt)?.collect(rt.alloc())?)
 }
 
 /// Does a task that waits for no thread, and answers the program's status.

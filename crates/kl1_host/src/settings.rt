@@ -1,6 +1,6 @@
 // The settings of a folder.
 
-use crate::fault::{Fault, fault_in_folder};
+use crate::fault::{BAD, Fault, fault_in_folder};
 use crate::folder::{SETTINGS, path_in};
 use kl1_host_front::{BadSettings, Settings, settings_in};
 use std::alloc::Global;
@@ -27,7 +27,7 @@ fn bad_settings(alloc: Global, path: &str, bad: &BadSettings) -> Result<Fault, F
             why,
         } => format!(in alloc; "{path}: {} {}", name.as_str().escape_debug(), why.words())?,
     };
-    Ok(Fault::Bad(words))
+    Ok(Fault::Words(BAD, words))
 }
 
 /// What the host of a folder is set to.

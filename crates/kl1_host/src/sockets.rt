@@ -1,6 +1,6 @@
 // The sockets of a host.
 
-use crate::fault::{Fault, at_path, fault_at};
+use crate::fault::{BAD, Fault, at_path, fault_at};
 use crate::folder::{FILE_MODE, SOCKET, path_in};
 use std::alloc::Global;
 use std::fs::{self, Permissions};
@@ -31,7 +31,7 @@ pub fn socket_in(alloc: Global, folder: &str) -> Result<String, Fault> {
         let words = format!(in alloc;
             "{path}: the path of a socket may have at most {MOST_SOCKET_BYTES} bytes"
         )?;
-        return Err(Fault::Bad(words));
+        return Err(Fault::Words(BAD, words));
     }
     Ok(path)
 }

@@ -1,6 +1,6 @@
 // What is told of a host that doesn't start.
 
-use crate::fault::Fault;
+use crate::fault::{BAD, Fault, REFUSED};
 use crate::folder::journal_in;
 use kl1_host_journals::{LinkFault, OpenFault};
 use kl1_host_work::StartFault;
@@ -20,10 +20,13 @@ fn path_of(alloc: Global, folder: &str, keys: &[Key], account: usize) -> Result<
 /// The fault of a journal's file that can't be opened.
 pub fn open_fault(alloc: Global, path: &str, fault: &OpenFault) -> Result<Fault, Fault> {
     Ok(match fault {
-        OpenFault::Line(line) => Fault::Refused(format!(in alloc;
-            "{path}:{line}: no entry of a journal; kl1_host run DIR --repair keeps what is before it"
-        )?),
-        OpenFault::Failed(error) => Fault::Bad(format!(in alloc; "{path}: {error}")?),
+        OpenFault::Line(line) => Fault::Words(
+            REFUSED,
+            format!(in alloc;
+                "{path}:{line}: no entry of a journal; kl1_host run DIR --repair keeps what is before it"
+            )?,
+        ),
+        OpenFault::Failed(error) => Fault::Words(BAD, format!(in alloc; "{path}: {error}")?),
     })
 }
 
@@ -35,9 +38,10 @@ pub fn start_fault(
     fault: StartFault,
 ) -> Result<Fault, Fault> {
     Ok(match fault {
-        StartFault::Accounts => Fault::Bad(format!(in alloc;
-            "{folder}: there is no account yet; kl1_host add DIR NAME adds one"
-        )?),
+        StartFault::Accounts => Fault::Words(
+            BAD,
+            format!(in alloc; "{folder}: there is no account yet; kl1_host add DIR NAME adds one")?,
+        ),
         StartFault::Unopened { account, fault } => {
             open_fault(
                 alloc,
@@ -47,9 +51,12 @@ pub fn start_fault(
         }
         StartFault::Unaccepted { account, line } => {
             let path = path_of(alloc, folder, keys, account)?;
-            Fault::Refused(format!(in alloc;
-                "{path}:{line}: an entry that isn't accepted; kl1_host run DIR --repair keeps what is before it"
-            )?)
+            Fault::Words(
+                REFUSED,
+                format!(in alloc;
+                    "{path}:{line}: an entry that isn't accepted; kl1_host run DIR --repair keeps what is before it"
+                )?,
+            )
         }
         StartFault::Unlinked {
             fault: LinkFault::Memory,
@@ -58,13 +65,16 @@ pub fn start_fault(
         | StartFault::Memory => Fault::Memory,
         StartFault::Unlinked { account, fault } => {
             let path = path_of(alloc, folder, keys, account)?;
-            Fault::Bad(match fault {
-                LinkFault::Unread(error) | LinkFault::Unwritten(LogError::Failed(error)) => {
-                    format!(in alloc; "{path}: {error}")?
-                }
-                _ => format!(in alloc; "{path}: it can't be written")?,
-            })
+            Fault::Words(
+                BAD,
+                match fault {
+                    LinkFault::Unread(error) | LinkFault::Unwritten(LogError::Failed(error)) => {
+                        format!(in alloc; "{path}: {error}")?
+                    }
+                    _ => format!(in alloc; "{path}: it can't be written")?,
+                },
+            )
         }
-        StartFault::Threads => Fault::Bad(format!(in alloc; "no thread can be made")?),
+        StartFault::Threads => Fault::Words(BAD, format!(in alloc; "no thread can be made")?),
     })
 }

@@ -14,7 +14,6 @@ use std::sync::{Mutex, Wait};
 
 /// What of an account waits for its file, and how far it is on disk. Its lock is held for short, and no other is taken meanwhile: it may be
 /// taken under the account's lock.
-#[derive(Drop)]
 pub struct Keeper {
     notes: Mutex<Notes>,
     on_disk: OnDisk,
@@ -22,6 +21,19 @@ pub struct Keeper {
     bell: Bell,
     /// Whether the scribe asks whoever commands the account next to note it.
     is_due: AtomicBool,
+}
+
+/// Not derived, so that crates above don't prove the drop of each part again.
+impl Drop for Keeper {
+    fn drop(self) {
+        let Keeper {
+            notes,
+            on_disk,
+            bell,
+            is_due,
+        } = self;
+        let _ = (notes, on_disk, bell, is_due);
+    }
 }
 
 impl Keeper {

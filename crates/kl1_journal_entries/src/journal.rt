@@ -16,13 +16,26 @@ use std::marker::Model;
 
 /// The journal of an account: the rules that it keeps to, how many sessions are open, the names that were used at the last reset, and the
 /// entries since.
-#[derive(Drop)]
 pub struct Journal {
     pub(crate) rules: Rules,
     pub(crate) sessions: u64,
     pub(crate) names: Vec<AtomText>,
     pub(crate) slots: Vec<PackedEntry>,
     pub(crate) wholes: Vec<LongEntry>,
+}
+
+/// Not derived, so that crates above don't prove the drop of each part again.
+impl Drop for Journal {
+    fn drop(self) {
+        let Journal {
+            rules: _,
+            sessions: _,
+            names,
+            slots,
+            wholes,
+        } = self;
+        let _ = (names, slots, wholes);
+    }
 }
 
 impl Model for Journal {

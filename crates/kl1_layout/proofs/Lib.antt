@@ -4,3 +4,4 @@ pub mod TokensWritten
 pub mod ClausesStay
 pub mod LayoutFacts
 pub mod LastBlanks
+pub mod Alike

@@ -1,3 +1,4 @@
 pub mod Written
 pub mod Layouts
 pub mod Pieces
+pub mod Verdicts

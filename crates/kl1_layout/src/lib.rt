@@ -11,6 +11,8 @@ mod placed;
 mod predicate;
 mod same;
 mod spacing;
+mod verdict;
 
 pub use formatting::format;
 pub use layout_fault::LayoutFault;
+pub use verdict::{Verdict, verdict_of};

@@ -1,7 +1,5 @@
 // What is new of a shoen.
 
-ghost use Rattle.std.specs.Prelude.{◌≡◌};
-
 use crate::asked::ask;
 use kl1_command::UnbookedHost;
 use kl1_lines::put_decimal;
@@ -45,11 +43,7 @@ pub fn put_news<H: UnbookedHost>(
     host: &mut H,
     news: &mut News,
     out: &mut Vec<u8>,
-) -> Result<Stand, AllocError>
-    ensures same { (f : H.Reading) → H.fits host.new f → H.kept f host.new ≡ H.kept f host.old }
-    ensures before { (f : H.Reading) → H.fits host.new f → H.fits host.old f }
-    ensures beside { H.beside host.new ≡ H.beside host.old }
-{
+) -> Result<Stand, AllocError> {
     put_reports(host, news, out)?;
     let is_still = host.pick().is_none();
     let reply = ask(host, Query::Status(news.shoen))?;
@@ -68,18 +62,12 @@ fn put_reports<H: UnbookedHost>(
     host: &mut H,
     news: &mut News,
     out: &mut Vec<u8>,
-) -> Result<(), AllocError>
-    ensures same { (f : H.Reading) → H.fits host.new f → H.kept f host.new ≡ H.kept f host.old }
-    ensures before { (f : H.Reading) → H.fits host.new f → H.fits host.old f }
-    ensures beside { H.beside host.new ≡ H.beside host.old }
-{
+) -> Result<(), AllocError> {
     let mut quota = Quota {
         room: MOST_EXCEPTIONS,
         left: 0,
     };
-    let mut pages = MOST_PAGES;
-    while 0 < pages {
-        pages -= 1;
+    for _ in 0..MOST_PAGES {
         let query = Query::Reports {
             shoen: news.shoen,
             from: news.told.saturating_add(1),

@@ -1,14 +1,5 @@
 // What lines of a prompt ask for.
 
-ghost use Rattle.std.specs.Prelude.{◌≡◌, drop, IfOk};
-ghost use Rattle.kl1_model.specs.Line.{only_number, up_to};
-ghost use Rattle.kl1_model.specs.Module.{read_goal};
-ghost use Rattle.kl1_model_server.specs.Command as model;
-ghost use Rattle.kl1_command.specs.Commands.{parsed_view};
-ghost use Rattle.kl1_prompt.specs.declared.parsed.TheConstants.{MOST_TRACED};
-ghost use Rattle.kl1_prompt.specs.Lines as lines;
-ghost use Rattle.kl1_prompt.specs.Lines.{line_of, line_view, alone, by_number_or, by_name, by_command, reports_line, without_colon, order_by, goal_line, begins_with};
-
 use crate::line::{Line, Table};
 use kl1_command::{Command, Parsed, parse};
 use kl1_lines::{is_blank_line, is_same, only_number, split_word, up_to};
@@ -20,9 +11,7 @@ use std::alloc::{AllocError, Global};
 pub const MOST_TRACED: u64 = 10_000;
 
 /// What a line without its end asks for. `most` steps are asked for if it doesn't say how many.
-pub fn parse_line(alloc: Global, text: &[u8], most: u64) -> Result<Line, AllocError>
-    ensures { IfOk result (λ line. line_view line ≡ line_of most text.now) }
-{
+pub fn parse_line(alloc: Global, text: &[u8], most: u64) -> Result<Line, AllocError> {
     let (word, rest) = split_word(text);
     if is_blank_line(text) {
         Ok(Line::Blank)
@@ -36,9 +25,7 @@ pub fn parse_line(alloc: Global, text: &[u8], most: u64) -> Result<Line, AllocEr
 }
 
 /// Whether bytes begin with this one.
-fn begins_with(byte: u8, bytes: &[u8]) -> bool
-    ensures { result ≡ begins_with byte bytes.now }
-{
+fn begins_with(byte: u8, bytes: &[u8]) -> bool {
     match bytes {
         [] => false,
         [first, ..] => *first == byte,
@@ -46,9 +33,7 @@ fn begins_with(byte: u8, bytes: &[u8]) -> bool
 }
 
 /// The goal of a line.
-fn parse_goal(alloc: Global, text: &[u8]) -> Result<Line, AllocError>
-    ensures { IfOk result (λ line. line_view line ≡ goal_line (read_goal text.now)) }
-{
+fn parse_goal(alloc: Global, text: &[u8]) -> Result<Line, AllocError> {
     match read_goal(alloc, text) {
         Ok(goal) => Ok(Line::Goal(goal)),
         Err(ReadFault::Bad { line: _line }) => Ok(Line::NoGoal),
@@ -56,11 +41,8 @@ fn parse_goal(alloc: Global, text: &[u8]) -> Result<Line, AllocError>
     }
 }
 
-#[tactic(auto, unfolding(crate::specs::Lines::order_by))]
 /// What a word with a colon before it and what is after it ask for.
-fn parse_order(alloc: Global, word: &[u8], rest: &[u8], most: u64) -> Result<Line, AllocError>
-    ensures { IfOk result (λ line. line_view line ≡ order_by most word.now rest.now) }
-{
+fn parse_order(alloc: Global, word: &[u8], rest: &[u8], most: u64) -> Result<Line, AllocError> {
     if is_same(word, b":step") {
         Ok(parse_step(rest, most))
     } else if is_same(word, b":trace") {
@@ -90,9 +72,7 @@ fn parse_order(alloc: Global, word: &[u8], rest: &[u8], most: u64) -> Result<Lin
 }
 
 /// A line that has nothing after its word.
-fn alone(line: Line, rest: &[u8]) -> Line
-    ensures { line_view result ≡ alone (line_view line) rest.now }
-{
+fn alone(line: Line, rest: &[u8]) -> Line {
     if is_blank_line(rest) {
         line
     } else {
@@ -101,9 +81,7 @@ fn alone(line: Line, rest: &[u8]) -> Line
 }
 
 /// What stands after `:step`: how many steps, or nothing.
-fn parse_step(rest: &[u8], most: u64) -> Line
-    ensures { line_view result ≡ by_number_or lines.step most (only_number rest.now) rest.now }
-{
+fn parse_step(rest: &[u8], most: u64) -> Line {
     if is_blank_line(rest) {
         return Line::Step(most);
     }
@@ -114,9 +92,7 @@ fn parse_step(rest: &[u8], most: u64) -> Line
 }
 
 /// What stands after `:trace`: how many steps, or nothing.
-fn parse_trace(rest: &[u8]) -> Line
-    ensures { line_view result ≡ by_number_or lines.trace 1 (up_to MOST_TRACED (only_number rest.now)) rest.now }
-{
+fn parse_trace(rest: &[u8]) -> Line {
     if is_blank_line(rest) {
         return Line::Trace(1);
     }
@@ -127,9 +103,7 @@ fn parse_trace(rest: &[u8]) -> Line
 }
 
 /// What stands after `:load`: a file's name.
-fn parse_load(alloc: Global, rest: &[u8]) -> Result<Line, AllocError>
-    ensures { IfOk result (λ line. line_view line ≡ by_name lines.loads rest.now) }
-{
+fn parse_load(alloc: Global, rest: &[u8]) -> Result<Line, AllocError> {
     let (name, behind) = split_word(rest);
     if is_blank_line(rest) || !is_blank_line(behind) {
         return Ok(Line::Unknown);
@@ -138,9 +112,7 @@ fn parse_load(alloc: Global, rest: &[u8]) -> Result<Line, AllocError>
 }
 
 /// What stands after `:reports`: a shoen's number, or that of a report too.
-fn parse_reports(alloc: Global, word: &[u8], rest: &[u8]) -> Result<Line, AllocError>
-    ensures { IfOk result (λ line. line_view line ≡ reports_line (only_number rest.now) (model.parse (without_colon word.now rest.now))) }
-{
+fn parse_reports(alloc: Global, word: &[u8], rest: &[u8]) -> Result<Line, AllocError> {
     match only_number(rest) {
         Some(shoen) => Ok(Line::Command(Command::Does(Event::Read(Query::Reports {
             shoen: ShoenNo(shoen),
@@ -151,9 +123,7 @@ fn parse_reports(alloc: Global, word: &[u8], rest: &[u8]) -> Result<Line, AllocE
 }
 
 /// The command of the account that a word without its colon and what is after it are.
-fn parse_command(alloc: Global, word: &[u8], rest: &[u8]) -> Result<Line, AllocError>
-    ensures { IfOk result (λ line. line_view line ≡ by_command (model.parse (without_colon word.now rest.now))) }
-{
+fn parse_command(alloc: Global, word: &[u8], rest: &[u8]) -> Result<Line, AllocError> {
     let mut text = Vec::from_slice(alloc, without_first(word))?;
     text.extend_from_slice(rest)?;
     let parsed = parse(alloc, text.as_slice())?;
@@ -161,9 +131,7 @@ fn parse_command(alloc: Global, word: &[u8], rest: &[u8]) -> Result<Line, AllocE
 }
 
 /// The line that is this command, if there is one.
-fn command_line(parsed: Parsed) -> Line
-    ensures { line_view result ≡ by_command (parsed_view parsed) }
-{
+fn command_line(parsed: Parsed) -> Line {
     match parsed {
         Parsed::Command(command) => Line::Command(command),
         Parsed::Refused => Line::Unknown,
@@ -171,9 +139,7 @@ fn command_line(parsed: Parsed) -> Line
 }
 
 /// Bytes without the first of them.
-fn without_first(bytes: &[u8]) -> &[u8]
-    ensures { result.now ≡ drop 1 bytes.now }
-{
+fn without_first(bytes: &[u8]) -> &[u8] {
     match bytes {
         [] => bytes,
         [_first, rest @ ..] => rest,

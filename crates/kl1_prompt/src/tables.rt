@@ -1,7 +1,5 @@
 // What is shown of an account.
 
-ghost use Rattle.std.specs.Prelude.{◌≡◌};
-
 use crate::line::Table;
 use kl1_command::Views;
 use kl1_lines::put_decimal;
@@ -29,11 +27,7 @@ pub fn put_table<H: Views>(
     table: Table,
     names: &Names,
     out: &mut Vec<u8>,
-) -> Result<(), AllocError>
-    ensures same { (f : H.Reading) → H.fits host.new f → H.kept f host.new ≡ H.kept f host.old }
-    ensures before { (f : H.Reading) → H.fits host.new f → H.fits host.old f }
-    ensures beside { H.beside host.new ≡ H.beside host.old }
-{
+) -> Result<(), AllocError> {
     let before = out.len();
     match table {
         Table::Goals => put_goals(alloc, host, names, out)?,
@@ -64,11 +58,7 @@ pub fn put_waits<H: Views>(
     most: usize,
     names: &Names,
     out: &mut Vec<u8>,
-) -> Result<(), AllocError>
-    ensures same { (f : H.Reading) → H.fits host.new f → H.kept f host.new ≡ H.kept f host.old }
-    ensures before { (f : H.Reading) → H.fits host.new f → H.fits host.old f }
-    ensures beside { H.beside host.new ≡ H.beside host.old }
-{
+) -> Result<(), AllocError> {
     let standing = standing_of(alloc, host, most)?;
     let notes = Notes {
         variables: Vec::new(alloc),
@@ -89,20 +79,14 @@ fn put_goals<H: Views>(
     host: &mut H,
     names: &Names,
     out: &mut Vec<u8>,
-) -> Result<(), AllocError>
-    ensures same { (f : H.Reading) → H.fits host.new f → H.kept f host.new ≡ H.kept f host.old }
-    ensures before { (f : H.Reading) → H.fits host.new f → H.fits host.old f }
-    ensures beside { H.beside host.new ≡ H.beside host.old }
-{
+) -> Result<(), AllocError> {
     let goals = host.goals_from(GoalNo(0), MOST_LOOKED)?;
     let mut rows = 0;
-    let mut rest = goals.as_slice();
-    while let [goal, others @ ..] = rest {
+    for goal in goals.as_slice() {
         if rows < MOST_ROWS && is_row(goal) {
             put_goal(alloc, host, goal, names, out)?;
             rows += 1;
         }
-        rest = others;
     }
     put_more(host.usage().goals.count, rows as u64, out)
 }
@@ -132,11 +116,7 @@ fn put_goal<H: Views>(
     goal: &GoalView,
     names: &Names,
     out: &mut Vec<u8>,
-) -> Result<(), AllocError>
-    ensures same { (f : H.Reading) → H.fits host.new f → H.kept f host.new ≡ H.kept f host.old }
-    ensures before { (f : H.Reading) → H.fits host.new f → H.fits host.old f }
-    ensures beside { H.beside host.new ≡ H.beside host.old }
-{
+) -> Result<(), AllocError> {
     out.extend_from_slice(b"goal ")?;
     put_decimal(out, goal.number.0)?;
     out.extend_from_slice(b" in shoen ")?;

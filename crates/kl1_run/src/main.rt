@@ -1,44 +1,40 @@
-//! The program that tries modules from files: it loads them, runs a goal, and tells what came of it.
+//! The programs that try modules from files, run their tests, lay them out, and tell the steps of journals: one program, which is each of
+//! them by the name that it is called by, or by its first word.
 #![tactic(auto)]
 
-mod after;
-mod alone;
-mod asked;
-mod copied;
-mod fault;
-mod files;
-mod journal_file;
-mod origins;
-mod pipe;
-mod progress;
-mod prompt;
-mod reasons;
-mod scripts;
-mod shown;
-mod stats;
-mod tasks;
-mod told;
-mod watched;
-mod words;
+mod called;
+mod fmt;
+mod kept_files;
+mod run;
+mod steps;
+mod test;
+mod trace;
+mod world;
 
-use crate::asked::words_in;
-use crate::fault::Fault;
-use crate::tasks::do_task;
-use crate::words::{asked_in, tell};
+use crate::called::{Tool, called};
+use crate::fmt::format_files;
+use crate::run::run_modules;
+use crate::test::test_files;
+use crate::trace::trace_journal;
+use kl1_words::{Fault, words_of};
 use std::process::ExitCode;
 
 fn main(rt: HostRuntime) -> ExitCode {
-    match status_of(&rt) {
-        Ok(status) => ExitCode::from(status),
-        Err(fault) => fault.tell(&rt),
-    }
+    let (tool, before) = called(&rt);
+    ExitCode::from(match status_of(&rt, tool, before) {
+        Ok(status) => status,
+        Err(fault) => fault.tell(&mut rt.stderr(), tool.program()),
+    })
 }
 
-/// Does what the words ask for, and answers the program's status.
-fn status_of(rt: &HostRuntime) -> Result<u8, Fault> {
-    let words = words_in(rt)?;
-    match asked_in(rt.alloc(), words.as_slice()) {
-        Ok(asked) => do_task(rt, &asked),
-        Err(error) => tell(rt, &error),
+/// Does what the words ask for, without the first of them that only say which program is wanted, and answers the status.
+fn status_of(rt: &HostRuntime, tool: Tool, before: usize) -> Result<u8, Fault> {
+    let all = words_of(rt)?;
+    let words = all.as_slice().get(before..).unwrap_or(&[]);
+    match tool {
+        Tool::Run => run_modules(rt, words),
+        Tool::Test => test_files(rt, words),
+        Tool::Fmt => format_files(rt, words),
+        Tool::Trace => trace_journal(rt, words),
     }
 }

@@ -1,11 +1,5 @@
 // What is told of a shoen once its run is over.
 
-ghost use Rattle.std.specs.Prelude.{◌≡◌, ◌∷◌, ◌++◌, IfOk, OnOk};
-ghost use Rattle.kl1_model.specs.Asking.{reply_to};
-ghost use Rattle.kl1_model.specs.Event as model;
-ghost use Rattle.kl1_user_events.specs.Views.{reply_of};
-ghost use Rattle.kl1_run_work.specs.Answers.{told_value, value_line, ending_by, ending_in, ending_of, Tells};
-
 use crate::asked::ask;
 use crate::ending::Ending;
 use crate::exceptions::{is_raised, put_exceptions};
@@ -35,12 +29,7 @@ fn value_text<H: UnbookedHost>(
     host: &mut H,
     shoen: ShoenNo,
     extent: Extent,
-) -> Result<Vec<u8>, AllocError>
-    ensures text { IfOk result (λ text. (f : H.Reading) → H.fits host.new f → text.items ≡ told_value extent (H.kept f host.new).state shoen.0) }
-    ensures same { (f : H.Reading) → H.fits host.new f → H.kept f host.new ≡ H.kept f host.old }
-    ensures before { (f : H.Reading) → H.fits host.new f → H.fits host.old f }
-    ensures beside { H.beside host.new ≡ H.beside host.old }
-{
+) -> Result<Vec<u8>, AllocError> {
     match host.value_text(shoen, extent)? {
         Some(text) => Ok(text),
         None => Ok(Vec::new(alloc)),
@@ -53,21 +42,14 @@ fn value_line<H: UnbookedHost>(
     host: &mut H,
     shoen: ShoenNo,
     extent: Extent,
-) -> Result<Vec<u8>, AllocError>
-    ensures value { IfOk result (λ line. (f : H.Reading) → H.fits host.new f → line.items ≡ value_line extent (H.kept f host.new).state shoen.0) }
-    ensures same { (f : H.Reading) → H.fits host.new f → H.kept f host.new ≡ H.kept f host.old }
-    ensures before { (f : H.Reading) → H.fits host.new f → H.fits host.old f }
-    ensures beside { H.beside host.new ≡ H.beside host.old }
-{
+) -> Result<Vec<u8>, AllocError> {
     let mut line = value_text(alloc, host, shoen, extent)?;
     line.push(b'\n')?;
     Ok(line)
 }
 
 /// How a shoen of this state stands, by whether no goal can step, whether there were exceptions, and the goals alive.
-fn ending_by(condition: Condition, is_quiet: bool, raised: bool, alive: u64) -> Ending
-    ensures { result ≡ ending_by condition is_quiet raised alive }
-{
+fn ending_by(condition: Condition, is_quiet: bool, raised: bool, alive: u64) -> Ending {
     match condition {
         Condition::Terminated => {
             if raised {
@@ -90,27 +72,14 @@ fn ending_by(condition: Condition, is_quiet: bool, raised: bool, alive: u64) -> 
 }
 
 /// How a shoen stands whose state this reply tells.
-fn ending_in(is_quiet: bool, raised: bool, reply: &Reply) -> Ending
-    ensures { result ≡ ending_in is_quiet raised (reply_of reply.now) }
-{
+fn ending_in(is_quiet: bool, raised: bool, reply: &Reply) -> Ending {
     match reply {
         Reply::Status {
             condition,
             alive,
             ..
         } => ending_by(*condition, is_quiet, raised, *alive),
-        Reply::Loaded(_name) => Ending::Unfinished,
-        Reply::Opened(_shoen) => Ending::Unfinished,
-        Reply::Sent => Ending::Unfinished,
-        Reply::Reduced => Ending::Unfinished,
-        Reply::Ran(_steps) => Ending::Unfinished,
-        Reply::Shown(_text) => Ending::Unfinished,
-        Reply::Listed(_texts) => Ending::Unfinished,
-        Reply::Quiet(_is_quiet) => Ending::Unfinished,
-        Reply::Welcome(_name) => Ending::Unfinished,
-        Reply::Bye => Ending::Unfinished,
-        Reply::Reset => Ending::Unfinished,
-        Reply::Refused(_refusal) => Ending::Unfinished,
+        _ => Ending::Unfinished,
     }
 }
 
@@ -119,12 +88,7 @@ fn ending_of<H: UnbookedHost>(
     host: &mut H,
     shoen: ShoenNo,
     raised: bool,
-) -> Result<Ending, AllocError>
-    ensures ending { IfOk result (λ ending. (f : H.Reading) → H.fits host.new f → ending ≡ ending_of (H.kept f host.new).state shoen.0 raised) }
-    ensures same { (f : H.Reading) → H.fits host.new f → H.kept f host.new ≡ H.kept f host.old }
-    ensures before { (f : H.Reading) → H.fits host.new f → H.fits host.old f }
-    ensures beside { H.beside host.new ≡ H.beside host.old }
-{
+) -> Result<Ending, AllocError> {
     let reply = ask(host, Query::Status(shoen))?;
     let is_quiet = host.pick().is_none();
     Ok(ending_in(is_quiet, raised, &reply))
@@ -136,12 +100,7 @@ pub fn answers_of<H: UnbookedHost>(
     host: &mut H,
     shoen: ShoenNo,
     wanted: Wanted,
-) -> Result<Answers, AllocError>
-    ensures tells { IfOk result (λ answers. (f : H.Reading) → H.fits host.new f → Tells wanted (H.kept f host.new).state shoen.0 answers) }
-    ensures same { (f : H.Reading) → H.fits host.new f → H.kept f host.new ≡ H.kept f host.old }
-    ensures before { (f : H.Reading) → H.fits host.new f → H.fits host.old f }
-    ensures beside { H.beside host.new ≡ H.beside host.old }
-{
+) -> Result<Answers, AllocError> {
     let value = value_line(alloc, host, shoen, wanted.value)?;
     let Reported {
         reports,

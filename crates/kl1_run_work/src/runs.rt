@@ -1,11 +1,5 @@
 // A run in slices, which is told as it goes on.
 
-ghost use Rattle.std.specs.Prelude.{◌≡◌, IfOk, OnOk};
-ghost use Rattle.kl1_model_server.specs.Command.{run_from};
-ghost use Rattle.kl1_user_events.specs.Views.{reply_of};
-ghost use Rattle.kl1_run_work.specs.Works.{steps_in, worked};
-ghost use Rattle.kl1_run_work.specs.Watching.{progress_in, Follows};
-
 use crate::asked::ask;
 use crate::watch::Watch;
 use kl1_command::{Command, Performed, UnbookedHost, perform};
@@ -16,33 +10,15 @@ use std::alloc::AllocError;
 const SLICE: u64 = 4_096;
 
 /// How many steps the reply to a run tells.
-fn steps_in(reply: &Reply) -> u64
-    ensures { result ≡ steps_in (reply_of reply.now) }
-{
+fn steps_in(reply: &Reply) -> u64 {
     match reply {
         Reply::Ran(steps) => *steps,
-        Reply::Loaded(_name) => 0,
-        Reply::Opened(_shoen) => 0,
-        Reply::Sent => 0,
-        Reply::Reduced => 0,
-        Reply::Shown(_text) => 0,
-        Reply::Status { .. } => 0,
-        Reply::Listed(_texts) => 0,
-        Reply::Quiet(_is_quiet) => 0,
-        Reply::Welcome(_name) => 0,
-        Reply::Bye => 0,
-        Reply::Reset => 0,
-        Reply::Refused(_refusal) => 0,
+        _ => 0,
     }
 }
 
 /// Does first steps, at most `steps`, and answers how many were done. After an `Err` some of them may be done.
-fn run_slice<H: UnbookedHost>(host: &mut H, steps: u64) -> Result<u64, AllocError>
-    ensures does { OnOk result ((f : H.Reading) → H.fits host.new f → (run_from steps 0 (H.kept f host.old)).kept ≡ H.kept f host.new) }
-    ensures done { IfOk result (λ done. (f : H.Reading) → H.fits host.new f → done ≡ steps_in (run_from steps 0 (H.kept f host.old)).reply) }
-    ensures before { (f : H.Reading) → H.fits host.new f → H.fits host.old f }
-    ensures beside { H.beside host.new ≡ H.beside host.old }
-{
+fn run_slice<H: UnbookedHost>(host: &mut H, steps: u64) -> Result<u64, AllocError> {
     match perform(host, &Command::Run(steps)) {
         Performed::Whole(reply) => Ok(steps_in(&reply)),
         Performed::Short { steps: _steps } => Err(AllocError),
@@ -51,23 +27,10 @@ fn run_slice<H: UnbookedHost>(host: &mut H, steps: u64) -> Result<u64, AllocErro
 }
 
 /// The reductions that a shoen was charged, and how many goals are alive in it and below it, if a reply tells its status.
-fn progress_in(reply: &Reply) -> Option<(u64, u64)>
-    ensures { result ≡ progress_in (reply_of reply.now) }
-{
+fn progress_in(reply: &Reply) -> Option<(u64, u64)> {
     match reply {
         Reply::Status { charged, alive, .. } => Some((*charged, *alive)),
-        Reply::Loaded(_name) => None,
-        Reply::Opened(_shoen) => None,
-        Reply::Sent => None,
-        Reply::Reduced => None,
-        Reply::Ran(_steps) => None,
-        Reply::Shown(_text) => None,
-        Reply::Listed(_texts) => None,
-        Reply::Quiet(_is_quiet) => None,
-        Reply::Welcome(_name) => None,
-        Reply::Bye => None,
-        Reply::Reset => None,
-        Reply::Refused(_refusal) => None,
+        _ => None,
     }
 }
 
@@ -76,23 +39,15 @@ fn tell_progress<H: UnbookedHost, T: Watch>(
     host: &mut H,
     shoen: ShoenNo,
     watch: &mut T,
-) -> Result<(), AllocError>
-    ensures told { (f : H.Reading) → H.fits host.new f → Follows (λ steps. worked shoen.0 (H.kept f host.new)) 0 (T.told watch.old) (T.told watch.new) }
-    ensures same { (f : H.Reading) → H.fits host.new f → H.kept f host.new ≡ H.kept f host.old }
-    ensures before { (f : H.Reading) → H.fits host.new f → H.fits host.old f }
-    ensures beside { H.beside host.new ≡ H.beside host.old }
-{
+) -> Result<(), AllocError> {
     if !watch.is_due() {
         return Ok(());
     }
     let reply = ask(host, Query::Status(shoen))?;
-    match progress_in(&reply) {
-        Some((charged, alive)) => {
-            watch.tell(charged, alive);
-            Ok(())
-        }
-        None => Ok(()),
+    if let Some((charged, alive)) = progress_in(&reply) {
+        watch.tell(charged, alive);
     }
+    Ok(())
 }
 
 /// Does first steps, one after another, at most `steps` and until none can step. After an `Err` some of them may be done.
@@ -101,12 +56,7 @@ pub(crate) fn run_watched<H: UnbookedHost, T: Watch>(
     shoen: ShoenNo,
     steps: u64,
     watch: &mut T,
-) -> Result<(), AllocError>
-    ensures does { OnOk result ((f : H.Reading) → H.fits host.new f → (run_from steps 0 (H.kept f host.old)).kept ≡ H.kept f host.new) }
-    ensures follows { (f : H.Reading) → H.fits host.new f → Follows (λ done. worked shoen.0 (run_from done 0 (H.kept f host.old)).kept) steps (T.told watch.old) (T.told watch.new) }
-    ensures before { (f : H.Reading) → H.fits host.new f → H.fits host.old f }
-    ensures beside { H.beside host.new ≡ H.beside host.old }
-{
+) -> Result<(), AllocError> {
     let mut left = steps;
     while 0 < left {
         let slice = left.min(SLICE);

@@ -1,19 +1,12 @@
 // The script that does the same work.
 
-ghost use Rattle.std.specs.Prelude.{◌≡◌, ◌++◌, [], codes, length, if◌then◌else◌, IfOk, OnOk};
-ghost use Rattle.kl1_model_server.specs.Command.{written_line};
-ghost use Rattle.kl1_run_work.specs.Scripts.{load_line, load_lines, start_command, goal_lines, run_lines, question_lines, script_of};
-ghost use Rattle.kl1_run_work.specs.Works.{texts_of};
-
 use crate::source_file::SourceFile;
 use kl1_lines::put_decimal;
 use kl1_term::{Term, put_whole};
 use std::alloc::{AllocError, Global};
 
 /// The bytes of the line that starts the goal with this allowance, without the account's name.
-pub fn start_length(alloc: Global, goal: &Term, allowance: u64) -> Result<usize, AllocError>
-    ensures { IfOk result (λ n. n ≡ length (start_command goal.now allowance)) }
-{
+pub fn start_length(alloc: Global, goal: &Term, allowance: u64) -> Result<usize, AllocError> {
     let mut line = Vec::new(alloc);
     put_start(alloc, goal, allowance, &mut line)?;
     Ok(line.len())
@@ -26,9 +19,7 @@ fn put_start(
     goal: &Term,
     allowance: u64,
     out: &mut Vec<u8>,
-) -> Result<(), AllocError>
-    ensures { OnOk result (out.new.items ≡ out.old.items ++ start_command goal.now allowance) }
-{
+) -> Result<(), AllocError> {
     out.extend_from_slice(b"start ")?;
     put_decimal(out, allowance)?;
     out.extend_from_slice(b" 0 4095 ")?;
@@ -45,9 +36,7 @@ pub fn put_script(
     steps: u64,
     with_reports: bool,
     out: &mut Vec<u8>,
-) -> Result<(), AllocError>
-    ensures { OnOk result (out.new.items ≡ out.old.items ++ script_of (texts_of files.now) goal.now allowance steps with_reports) }
-{
+) -> Result<(), AllocError> {
     out.extend_from_slice(b"accounts me\n")?;
     put_loads(files, out)?;
     put_goal(alloc, goal, allowance, steps, out)?;
@@ -56,21 +45,15 @@ pub fn put_script(
 }
 
 /// Puts a line and the bytes for each file after the bytes. After an `Err` some of them may be there.
-fn put_loads(files: &[SourceFile], out: &mut Vec<u8>) -> Result<(), AllocError>
-    ensures { OnOk result (out.new.items ≡ out.old.items ++ load_lines (texts_of files.now)) }
-{
-    let mut rest = files;
-    while let [first, others @ ..] = rest {
-        put_load(first.text.as_slice(), out)?;
-        rest = others;
+fn put_loads(files: &[SourceFile], out: &mut Vec<u8>) -> Result<(), AllocError> {
+    for file in files {
+        put_load(file.text.as_slice(), out)?;
     }
     Ok(())
 }
 
 /// Puts the line that loads a text, and the text, after the bytes. After an `Err` some of them may be there.
-fn put_load(text: &[u8], out: &mut Vec<u8>) -> Result<(), AllocError>
-    ensures { OnOk result (out.new.items ≡ out.old.items ++ load_line text.now) }
-{
+fn put_load(text: &[u8], out: &mut Vec<u8>) -> Result<(), AllocError> {
     out.extend_from_slice(b"me load ")?;
     put_decimal(out, text.len() as u64)?;
     out.extend_from_slice(b"\n")?;
@@ -85,36 +68,28 @@ fn put_goal(
     allowance: u64,
     steps: u64,
     out: &mut Vec<u8>,
-) -> Result<(), AllocError>
-    ensures { OnOk result (out.new.items ≡ out.old.items ++ goal_lines goal.now allowance steps) }
-{
+) -> Result<(), AllocError> {
     out.extend_from_slice(b"me ")?;
     put_start(alloc, goal, allowance, out)?;
     put_run(steps, out)
 }
 
 /// Puts the end of a line, and the line that runs `steps` steps, after the bytes. After an `Err` some of them may be there.
-fn put_run(steps: u64, out: &mut Vec<u8>) -> Result<(), AllocError>
-    ensures { OnOk result (out.new.items ≡ out.old.items ++ run_lines steps) }
-{
+fn put_run(steps: u64, out: &mut Vec<u8>) -> Result<(), AllocError> {
     out.extend_from_slice(b"\nme run ")?;
     put_decimal(out, steps)?;
     out.extend_from_slice(b"\n")
 }
 
 /// Puts the lines that ask what came of the goal after the bytes. After an `Err` some of them may be there.
-fn put_questions(with_reports: bool, out: &mut Vec<u8>) -> Result<(), AllocError>
-    ensures { OnOk result (out.new.items ≡ out.old.items ++ question_lines with_reports) }
-{
+fn put_questions(with_reports: bool, out: &mut Vec<u8>) -> Result<(), AllocError> {
     out.extend_from_slice(b"me value 1\n")?;
     put_reports_line(with_reports, out)?;
     Ok(())
 }
 
 /// Puts the line that asks for the first reports, if they are wanted, after the bytes. After an `Err` some of it may be there.
-fn put_reports_line(with_reports: bool, out: &mut Vec<u8>) -> Result<(), AllocError>
-    ensures { OnOk result (out.new.items ≡ out.old.items ++ (if with_reports then written_line (codes "me reports 1 1") else [])) }
-{
+fn put_reports_line(with_reports: bool, out: &mut Vec<u8>) -> Result<(), AllocError> {
     if with_reports {
         out.extend_from_slice(b"me reports 1 1\n")
     } else {

@@ -1,12 +1,5 @@
 // The work: sources, a goal, and its run.
 
-ghost use Rattle.std.specs.Prelude.{◌≡◌};
-ghost use Rattle.kl1_model.specs.declared.limits.TheConstants.{MOST_PRIORITY};
-ghost use Rattle.kl1_model.specs.Event as model;
-ghost use Rattle.kl1_model_server.specs.Journal.{done};
-ghost use Rattle.kl1_run_work.specs.Works.{texts_of, started, worked_of, IsWorked};
-ghost use Rattle.kl1_run_work.specs.Watching.{Follows};
-
 use crate::loads::load_each;
 use crate::runs::run_watched;
 use crate::source_file::SourceFile;
@@ -38,22 +31,15 @@ pub fn do_work<H: UnbookedHost, T: Watch>(
     host: &mut H,
     work: Work,
     watch: &mut T,
-) -> Result<ShoenNo, Stop>
-    ensures does { (f : H.Reading) → H.fits host.new f → IsWorked (worked_of (H.kept f host.old) (texts_of work.files.items) work.goal work.allowance work.steps) result (H.kept f host.new) }
-    ensures follows { (f : H.Reading) → H.fits host.new f → Follows (worked_of (H.kept f host.old) (texts_of work.files.items) work.goal work.allowance) work.steps (T.told watch.old) (T.told watch.new) }
-    ensures before { (f : H.Reading) → H.fits host.new f → H.fits host.old f }
-    ensures beside { H.beside host.new ≡ H.beside host.old }
-{
+) -> Result<ShoenNo, Stop> {
     let Work {
         files,
         goal,
         allowance,
         steps,
     } = work;
-    match load_each(alloc, host, files.as_slice()) {
-        Ok(()) => start_and_run(host, goal, allowance, steps, watch),
-        Err(stop) => Err(stop),
-    }
+    load_each(alloc, host, files.as_slice())?;
+    start_and_run(host, goal, allowance, steps, watch)
 }
 
 /// Starts a goal with an allowance and all priorities, and does first steps until none can step or all are done.
@@ -63,17 +49,10 @@ fn start_and_run<H: UnbookedHost, T: Watch>(
     allowance: u64,
     steps: u64,
     watch: &mut T,
-) -> Result<ShoenNo, Stop>
-    ensures does { (f : H.Reading) → H.fits host.new f → IsWorked (started steps (done (H.kept f host.old) (model.start allowance 0 MOST_PRIORITY goal))) result (H.kept f host.new) }
-    ensures follows { (f : H.Reading) → H.fits host.new f → Follows (λ count. started count (done (H.kept f host.old) (model.start allowance 0 MOST_PRIORITY goal))) steps (T.told watch.old) (T.told watch.new) }
-    ensures before { (f : H.Reading) → H.fits host.new f → H.fits host.old f }
-    ensures beside { H.beside host.new ≡ H.beside host.old }
-{
-    match start(host, goal, allowance) {
-        Ok(shoen) => match run_watched(host, shoen, steps, watch) {
-            Ok(()) => Ok(shoen),
-            Err(_) => Err(Stop::Memory),
-        },
-        Err(stop) => Err(stop),
+) -> Result<ShoenNo, Stop> {
+    let shoen = start(host, goal, allowance)?;
+    match run_watched(host, shoen, steps, watch) {
+        Ok(()) => Ok(shoen),
+        Err(_) => Err(Stop::Memory),
     }
 }

@@ -32,9 +32,10 @@ fn put_event<A: AtomSource + Drop, C: CodeSource + Drop>(
     ensures before { (f : Reading) → Fits replayed.new.names f → Fits replayed.old.names f }
     ensures err { OnErr result (out.new.items ≡ out.old.items) }
 {
-    match replayed.apply(event)? {
+    let reply = replayed.apply(event)?;
+    match &reply {
         Reply::Refused(_refusal) => Ok(false),
-        reply => {
+        _ => {
             put_reply(out, &reply)?;
             Ok(true)
         }

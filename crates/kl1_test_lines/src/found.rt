@@ -1,9 +1,5 @@
 // The tests of a file.
 
-ghost use Rattle.std.specs.Prelude.{◌<◌, ◌∷◌, [], length, map, OnOk};
-ghost use Rattle.kl1_test_lines.specs.TestLines.{stated_of};
-ghost use Rattle.kl1_test_lines.specs.Tests.{placed_in, tests_in, Adds};
-
 use crate::lines::put_place;
 use crate::test_lines::{TestLine, test_lines};
 use crate::tests::{Test, TestFault, test_in};
@@ -20,9 +16,7 @@ pub struct Found {
 }
 
 /// Puts the line of a test that can't be read after the bytes.
-fn put_bad(out: &mut Vec<u8>, file: &[u8], line: u64, fault: TestFault) -> Result<(), AllocError>
-    ensures { OnOk result (0 < length out.new.items) }
-{
+fn put_bad(out: &mut Vec<u8>, file: &[u8], line: u64, fault: TestFault) -> Result<(), AllocError> {
     put_place(out, file, line, b"bad test: ")?;
     out.extend_from_slice(fault.words())?;
     out.push(b'\n')?;
@@ -30,16 +24,13 @@ fn put_bad(out: &mut Vec<u8>, file: &[u8], line: u64, fault: TestFault) -> Resul
 }
 
 /// Puts the test that a line of a file states after the others, or a line that tells why it can't be read.
-#[tactic(auto, using(crate::proofs::Finding::adds_one, crate::proofs::Finding::adds_bad))]
 fn put_test(
     alloc: Global,
     file: &[u8],
     module_name: &AtomText,
     stated: &TestLine,
     found: &mut Found,
-) -> Result<(), AllocError>
-    ensures adds { OnOk result (Adds found.old found.new (placed_in file.now module_name.now (stated_of stated.now) ∷ [])) }
-{
+) -> Result<(), AllocError> {
     match test_in(alloc, file, module_name, stated) {
         Ok(test) => {
             found.tests.push(test)?;
@@ -51,20 +42,15 @@ fn put_test(
 }
 
 /// Puts the tests that lines of a file state after the others.
-#[tactic(auto, using(crate::proofs::Finding::adds_none))]
 fn put_each(
     alloc: Global,
     file: &[u8],
     module_name: &AtomText,
     lines: &[TestLine],
     found: &mut Found,
-) -> Result<(), AllocError>
-    ensures { OnOk result (Adds found.old found.new (map (placed_in file.now module_name.now) (map stated_of lines.now))) }
-{
-    let mut rest = lines;
-    while let [first, others @ ..] = rest {
-        put_test(alloc, file, module_name, first, found)?;
-        rest = others;
+) -> Result<(), AllocError> {
+    for line in lines {
+        put_test(alloc, file, module_name, line, found)?;
     }
     Ok(())
 }
@@ -75,9 +61,7 @@ pub fn put_tests(
     file: &[u8],
     text: &[u8],
     found: &mut Found,
-) -> Result<(), AllocError>
-    ensures { OnOk result (Adds found.old found.new (tests_in file.now text.now)) }
-{
+) -> Result<(), AllocError> {
     let Ok(module) = read_module(alloc, text) else {
         return Err(AllocError);
     };

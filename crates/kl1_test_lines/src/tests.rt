@@ -1,9 +1,5 @@
 // A test, as a line of a module states it.
 
-ghost use Rattle.std.specs.Prelude.{◌≡◌, IfOk};
-ghost use Rattle.kl1_test_lines.specs.TestLines.{stated_of};
-ghost use Rattle.kl1_test_lines.specs.Tests.{placed_in, placed_of, IsRead, IsGoalOf};
-
 use crate::expectation::{Equation, Expectation, expectation_in, split_arrow};
 use crate::row::{printed_row, put_element};
 use crate::test_lines::TestLine;
@@ -80,9 +76,7 @@ impl<T: Drop> From<AllocFailed<T>> for TestFault {
 }
 
 /// The goal that a text is: one that names its module, or is built in, or else one of this module.
-fn goal_in(alloc: Global, module_name: &AtomText, text: &[u8]) -> Result<Term, TestFault>
-    ensures { IfOk result (IsGoalOf module_name.now text.now) }
-{
+fn goal_in(alloc: Global, module_name: &AtomText, text: &[u8]) -> Result<Term, TestFault> {
     match read_goal(alloc, text) {
         Ok(goal) => return Ok(goal),
         Err(ReadFault::Memory) => return Err(TestFault::Memory),
@@ -129,10 +123,7 @@ pub fn test_in(
     file: &[u8],
     module_name: &AtomText,
     stated: &TestLine,
-) -> Result<Test, TestFault>
-    ensures placed { IfOk result (λ test. placed_of test ≡ placed_in file.now module_name.now (stated_of stated.now)) }
-    ensures read { IfOk result IsRead }
-{
+) -> Result<Test, TestFault> {
     let text = without_blanks(stated.text.as_slice());
     let Some((goal_text, wanted_text)) = split_arrow(text) else {
         return Err(TestFault::NoArrow);

@@ -1,10 +1,5 @@
 // Tokens in texts of tests.
 
-ghost use Rattle.std.specs.Prelude.{◌≡◌};
-ghost use Rattle.kl1_model.specs.Text.{behind_leading};
-ghost use Rattle.kl1_model.specs.Token.{is_blank};
-ghost use Rattle.kl1_test_lines.specs.TestLines.{without_blanks, without_last_blanks};
-
 use kl1_read::{Front, Spelled, front_of};
 
 /// The first token of a text, with its bytes and those after it.
@@ -62,16 +57,12 @@ pub(crate) fn is_blank_text(text: &[u8]) -> bool {
 }
 
 /// Whether a byte is a space, a tab, a line feed or a carriage return.
-fn is_blank(byte: u8) -> bool
-    ensures { result ≡ is_blank byte }
-{
+fn is_blank(byte: u8) -> bool {
     byte == b' ' || byte == b'\t' || byte == b'\n' || byte == b'\r'
 }
 
 /// The bytes after the blanks in front of them.
-pub(crate) fn behind_blanks(text: &[u8]) -> &[u8]
-    ensures { result.now ≡ behind_leading is_blank text.now }
-{
+pub(crate) fn behind_blanks(text: &[u8]) -> &[u8] {
     let mut kept = text;
     while let [first, others @ ..] = kept {
         if !is_blank(*first) {
@@ -83,10 +74,7 @@ pub(crate) fn behind_blanks(text: &[u8]) -> &[u8]
 }
 
 /// The bytes without the blanks at their end.
-#[tactic(auto, using(crate::proofs::LastBlanks::last_goes, crate::proofs::LastBlanks::last_stays))]
-fn without_last_blanks(text: &[u8]) -> &[u8]
-    ensures { result.now ≡ without_last_blanks text.now }
-{
+fn without_last_blanks(text: &[u8]) -> &[u8] {
     let mut kept = text;
     while let [others @ .., last] = kept {
         if !is_blank(*last) {
@@ -98,8 +86,6 @@ fn without_last_blanks(text: &[u8]) -> &[u8]
 }
 
 /// The bytes without the blanks at both ends.
-pub(crate) fn without_blanks(text: &[u8]) -> &[u8]
-    ensures { result.now ≡ without_blanks text.now }
-{
+pub(crate) fn without_blanks(text: &[u8]) -> &[u8] {
     without_last_blanks(behind_blanks(text))
 }

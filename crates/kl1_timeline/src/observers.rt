@@ -1,9 +1,5 @@
 // Observers of one run.
 
-ghost use Rattle.std.specs.Prelude.{◌≡◌, ◌∷◌, ◌++◌, [], List, IfSome, OnOk};
-ghost use Rattle.kl1_trace_work.specs.declared.seen.Seen.{Seen};
-ghost use Rattle.kl1_trace_work.specs.Counting.{HasCounted};
-
 use crate::timeline::Timeline;
 use kl1_command::{UnbookedHost, Views};
 use kl1_trace_work::{NewGoal, Next, Observer, Predicates, Profile, Seen, Trace};
@@ -26,9 +22,6 @@ impl<W> Observers<'_, W> {
 }
 
 impl<H: UnbookedHost + Views, W: Write + Drop> Observer<H> for Observers<'_, W> {
-    // The profile has counted them, if there is one.
-    ghost has_seen = { λ o ss. IfSome o.profile (λ p. HasCounted p ss) };
-
     fn wants_text(&self, predicates: &Predicates, step: &Next) -> bool {
         if let Some(trace) = &self.trace {
             if trace.may_tell(predicates, step) {
@@ -60,11 +53,7 @@ fn trace_step<H: Views, W: Write + Drop>(
     host: &mut H,
     predicates: &Predicates,
     seen: &Seen,
-) -> Result<bool, AllocError>
-    ensures same { (f : H.Reading) → H.fits host.new f → H.kept f host.new ≡ H.kept f host.old }
-    ensures before { (f : H.Reading) → H.fits host.new f → H.fits host.old f }
-    ensures beside { H.beside host.new ≡ H.beside host.old }
-{
+) -> Result<bool, AllocError> {
     match trace {
         Some(trace) => trace.take(host, predicates, seen),
         None => Ok(false),
@@ -72,9 +61,7 @@ fn trace_step<H: Views, W: Write + Drop>(
 }
 
 /// Has a step counted, if there is a profile. Answers whether there is.
-fn count_step(profile: &mut Option<Profile>, seen: &Seen) -> Result<bool, AllocError>
-    ensures { OnOk result ((ss : List Seen) → IfSome profile.old (λ p. HasCounted p ss) → IfSome profile.new (λ p. HasCounted p (ss ++ seen.now ∷ []))) }
-{
+fn count_step(profile: &mut Option<Profile>, seen: &Seen) -> Result<bool, AllocError> {
     match profile {
         Some(profile) => {
             profile.take(seen)?;
@@ -91,11 +78,7 @@ pub fn draw_new<H: Views>(
     predicates: &Predicates,
     goals: &[NewGoal],
     step: u64,
-) -> Result<(), AllocError>
-    ensures same { (f : H.Reading) → H.fits host.new f → H.kept f host.new ≡ H.kept f host.old }
-    ensures before { (f : H.Reading) → H.fits host.new f → H.fits host.old f }
-    ensures beside { H.beside host.new ≡ H.beside host.old }
-{
+) -> Result<(), AllocError> {
     match timeline {
         Some(timeline) => timeline.begin(host, predicates, goals, step),
         None => Ok(()),
@@ -108,11 +91,7 @@ fn draw_step<H: Views>(
     host: &mut H,
     predicates: &Predicates,
     seen: &Seen,
-) -> Result<bool, AllocError>
-    ensures same { (f : H.Reading) → H.fits host.new f → H.kept f host.new ≡ H.kept f host.old }
-    ensures before { (f : H.Reading) → H.fits host.new f → H.fits host.old f }
-    ensures beside { H.beside host.new ≡ H.beside host.old }
-{
+) -> Result<bool, AllocError> {
     match timeline {
         Some(timeline) => timeline.take(host, predicates, seen),
         None => Ok(false),

@@ -1,7 +1,5 @@
 // The processes of a run, each in a lane.
 
-ghost use Rattle.std.specs.Prelude.{◌≡◌};
-
 use crate::drawn::{Dot, Mark, Report};
 use crate::labels::label_of;
 use crate::lanes::Lanes;
@@ -98,15 +96,9 @@ impl Timeline {
         predicates: &Predicates,
         goals: &[NewGoal],
         step: u64,
-    ) -> Result<(), AllocError>
-        ensures same { (f : H.Reading) → H.fits host.new f → H.kept f host.new ≡ H.kept f host.old }
-        ensures before { (f : H.Reading) → H.fits host.new f → H.fits host.old f }
-        ensures beside { H.beside host.new ≡ H.beside host.old }
-    {
-        let mut rest = goals;
-        while let [first, others @ ..] = rest {
-            self.take_new(host, predicates, first, None, step)?;
-            rest = others;
+    ) -> Result<(), AllocError> {
+        for goal in goals {
+            self.take_new(host, predicates, goal, None, step)?;
         }
         Ok(())
     }
@@ -120,11 +112,7 @@ impl Timeline {
         goal: &NewGoal,
         parent: Option<usize>,
         step: u64,
-    ) -> Result<(), AllocError>
-        ensures same { (f : H.Reading) → H.fits host.new f → H.kept f host.new ≡ H.kept f host.old }
-        ensures before { (f : H.Reading) → H.fits host.new f → H.fits host.old f }
-        ensures beside { H.beside host.new ≡ H.beside host.old }
-    {
+    ) -> Result<(), AllocError> {
         if let TaskKind::Monitor = goal.view.task {
             return Ok(());
         }
@@ -155,27 +143,21 @@ impl Timeline {
         predicates: &Predicates,
         seen: &Seen,
         place: Option<usize>,
-    ) -> Result<(), AllocError>
-        ensures same { (f : H.Reading) → H.fits host.new f → H.kept f host.new ≡ H.kept f host.old }
-        ensures before { (f : H.Reading) → H.fits host.new f → H.fits host.old f }
-        ensures beside { H.beside host.new ≡ H.beside host.old }
-    {
+    ) -> Result<(), AllocError> {
         let step = seen.step.number;
         let heir = heir_of(predicates, seen);
-        let mut rest = seen.new.as_slice();
-        while let [first, others @ ..] = rest {
-            let number = first.view.number.0;
+        for goal in seen.new.as_slice() {
+            let number = goal.view.number.0;
             match (place, heir) {
                 (Some(lane), Some(GoalNo(next))) if next == number => {
                     self.drawn.join(number, lane)?;
-                    if !first.view.can_step {
+                    if !goal.view.can_step {
                         self.drawn.wait(number, step)?;
                     }
                 }
-                (None, _) if !is_process(predicates.calling(first.predicate)) => {}
-                _ => self.take_new(host, predicates, first, place, step)?,
+                (None, _) if !is_process(predicates.calling(goal.predicate)) => {}
+                _ => self.take_new(host, predicates, goal, place, step)?,
             }
-            rest = others;
         }
         Ok(())
     }
@@ -272,11 +254,7 @@ impl Timeline {
         host: &mut H,
         predicates: &Predicates,
         seen: &Seen,
-    ) -> Result<bool, AllocError>
-        ensures same { (f : H.Reading) → H.fits host.new f → H.kept f host.new ≡ H.kept f host.old }
-        ensures before { (f : H.Reading) → H.fits host.new f → H.fits host.old f }
-        ensures beside { H.beside host.new ≡ H.beside host.old }
-    {
+    ) -> Result<bool, AllocError> {
         let step = seen.step.number;
         if !self.pattern.is_between(step) {
             if self.first == 0 {

@@ -1,22 +1,15 @@
 // What is new or changed after a step.
 
-ghost use Rattle.std.specs.Prelude.{◌≡◌, count_by};
-ghost use Rattle.kl1_trace_work.specs.Seen.{is_substitute, last_among};
-
 use crate::seen::NewGoal;
 use kl1_model::Condition;
 use kl1_user_events::{GoalView, ShoenView, TaskKind};
 use std::alloc::{AllocError, Global};
 
 /// The greatest number of goals, and of one before.
-pub fn last_of(goals: &[GoalView], before: u64) -> u64
-    ensures { result ≡ last_among before goals.now }
-{
+pub fn last_of(goals: &[GoalView], before: u64) -> u64 {
     let mut last = before;
-    let mut rest = goals;
-    while let [goal, others @ ..] = rest {
+    for goal in goals {
         last = last.max(goal.number.0);
-        rest = others;
     }
     last
 }
@@ -49,9 +42,7 @@ pub fn changed_among(
 }
 
 /// Whether a goal waits for an answer to an exception.
-fn is_substitute(goal: &NewGoal) -> bool
-    ensures { result ≡ is_substitute goal.now }
-{
+fn is_substitute(goal: &NewGoal) -> bool {
     match goal.view.task {
         TaskKind::Substitutes => true,
         TaskKind::Monitor => false,
@@ -60,16 +51,12 @@ fn is_substitute(goal: &NewGoal) -> bool
 }
 
 /// How many of new goals wait for an answer to an exception.
-pub fn raised_among(new: &[NewGoal]) -> usize
-    ensures { result ≡ count_by is_substitute new.now }
-{
-    let mut count = 0;
-    let mut rest = new;
-    while let [goal, others @ ..] = rest {
+pub fn raised_among(new: &[NewGoal]) -> usize {
+    let mut count: usize = 0;
+    for goal in new {
         if is_substitute(goal) {
-            count += 1;
+            count = count.saturating_add(1);
         }
-        rest = others;
     }
     count
 }

@@ -1,16 +1,10 @@
 // Texts in columns.
 
-ghost use Rattle.std.specs.Prelude.{◌≡◌, ◌-◌, ◌++◌, length, replicate, decimal, OnOk};
-ghost use Rattle.kl1_trace_work.specs.Telling.{right};
-
 use kl1_lines::put_decimal;
 use std::alloc::{AllocError, Global};
 
 /// Puts blanks after the bytes until there are `end` of them.
-#[tactic(auto, using(crate::proofs::Heads::filled, crate::proofs::Heads::not_filled))]
-pub fn put_blanks(end: usize, out: &mut Vec<u8>) -> Result<(), AllocError>
-    ensures { OnOk result (out.new.items ≡ out.old.items ++ replicate (end - length out.old.items) 32) }
-{
+pub fn put_blanks(end: usize, out: &mut Vec<u8>) -> Result<(), AllocError> {
     if out.len() < end {
         out.resize(end, b' ')?;
     }
@@ -18,10 +12,12 @@ pub fn put_blanks(end: usize, out: &mut Vec<u8>) -> Result<(), AllocError>
 }
 
 /// Puts a number after the bytes, at the right of a column of this width.
-#[tactic(auto, using(crate::proofs::Heads::righted))]
-pub fn put_right(alloc: Global, number: u64, width: u8, out: &mut Vec<u8>) -> Result<(), AllocError>
-    ensures { OnOk result (out.new.items ≡ out.old.items ++ right width (decimal number)) }
-{
+pub fn put_right(
+    alloc: Global,
+    number: u64,
+    width: u8,
+    out: &mut Vec<u8>,
+) -> Result<(), AllocError> {
     let mut digits = Vec::new(alloc);
     put_decimal(&mut digits, number)?;
     let blanks = usize::from(width).saturating_sub(digits.len());

@@ -1,8 +1,5 @@
 // Which predicates the goals of an account call.
 
-ghost use Rattle.std.specs.Prelude.{◌≡◌, ◌∷◌, ◌++◌, [], IfOk, OnOk};
-ghost use Rattle.kl1_trace_work.specs.Seen.{views_of};
-
 use crate::seen::{NewGoal, Next};
 use kl1_command::Views;
 use kl1_shown::parse_print;
@@ -157,11 +154,7 @@ impl Predicates {
     }
 
     /// The place of what a goal calls, by its text.
-    fn look<H: Views>(&mut self, host: &mut H, goal: &GoalView) -> Result<usize, AllocError>
-        ensures same { (f : H.Reading) → H.fits host.new f → H.kept f host.new ≡ H.kept f host.old }
-        ensures before { (f : H.Reading) → H.fits host.new f → H.fits host.old f }
-        ensures beside { H.beside host.new ≡ H.beside host.old }
-    {
+    fn look<H: Views>(&mut self, host: &mut H, goal: &GoalView) -> Result<usize, AllocError> {
         match goal.task {
             TaskKind::Monitor => return Ok(MONITOR),
             TaskKind::Substitutes => return Ok(SUBSTITUTE),
@@ -178,18 +171,11 @@ impl Predicates {
         &mut self,
         host: &mut H,
         goals: &[GoalView],
-    ) -> Result<Vec<NewGoal>, AllocError>
-        ensures views { IfOk result (λ new. views_of new.items ≡ goals.now) }
-        ensures same { (f : H.Reading) → H.fits host.new f → H.kept f host.new ≡ H.kept f host.old }
-        ensures before { (f : H.Reading) → H.fits host.new f → H.fits host.old f }
-        ensures beside { H.beside host.new ≡ H.beside host.old }
-    {
+    ) -> Result<Vec<NewGoal>, AllocError> {
         let mut taken = Vec::new(self.alloc);
-        let mut rest = goals;
-        while let [first, others @ ..] = rest {
-            let place = self.look(host, first)?;
-            self.put(first, place, &mut taken)?;
-            rest = others;
+        for goal in goals {
+            let place = self.look(host, goal)?;
+            self.put(goal, place, &mut taken)?;
         }
         Ok(taken)
     }
@@ -200,9 +186,7 @@ impl Predicates {
         goal: &GoalView,
         predicate: usize,
         taken: &mut Vec<NewGoal>,
-    ) -> Result<(), AllocError>
-        ensures { OnOk result (taken.new.items ≡ taken.old.items ++ record { view = goal.now; predicate = predicate } ∷ []) }
-    {
+    ) -> Result<(), AllocError> {
         let _before = self.goals.insert(goal.number.0, predicate)?;
         taken.push(NewGoal {
             view: *goal,
@@ -229,12 +213,7 @@ impl Predicates {
         place: usize,
         clause: u64,
         goals: &[GoalView],
-    ) -> Result<Vec<NewGoal>, AllocError>
-        ensures views { IfOk result (λ new. views_of new.items ≡ goals.now) }
-        ensures same { (f : H.Reading) → H.fits host.new f → H.kept f host.new ≡ H.kept f host.old }
-        ensures before { (f : H.Reading) → H.fits host.new f → H.fits host.old f }
-        ensures beside { H.beside host.new ≡ H.beside host.old }
-    {
+    ) -> Result<Vec<NewGoal>, AllocError> {
         if goals.is_empty() {
             return Ok(Vec::new(self.alloc));
         }
@@ -258,12 +237,7 @@ impl Predicates {
         host: &mut H,
         step: &Next,
         goals: &[GoalView],
-    ) -> Result<Vec<NewGoal>, AllocError>
-        ensures views { IfOk result (λ new. views_of new.items ≡ goals.now) }
-        ensures same { (f : H.Reading) → H.fits host.new f → H.kept f host.new ≡ H.kept f host.old }
-        ensures before { (f : H.Reading) → H.fits host.new f → H.fits host.old f }
-        ensures beside { H.beside host.new ≡ H.beside host.old }
-    {
+    ) -> Result<Vec<NewGoal>, AllocError> {
         // A monitor goes on under its number.
         if !is_monitor(&step.goal) {
             self.forget(step.goal.number);
@@ -284,20 +258,16 @@ impl Predicates {
         &mut self,
         known: &[usize],
         goals: &[GoalView],
-    ) -> Result<Vec<NewGoal>, AllocError>
-        ensures { IfOk result (λ new. views_of new.items ≡ goals.now) }
-    {
+    ) -> Result<Vec<NewGoal>, AllocError> {
         let mut taken = Vec::new(self.alloc);
-        let mut rest = goals;
         let mut predicates = known;
-        while let [goal, others @ ..] = rest {
+        for goal in goals {
             let mut predicate = UNKNOWN;
             if let [first, later @ ..] = predicates {
                 predicate = *first;
                 predicates = later;
             }
             self.put(goal, predicate, &mut taken)?;
-            rest = others;
         }
         Ok(taken)
     }
@@ -338,11 +308,7 @@ fn called_of<H: Views>(
     alloc: Global,
     host: &mut H,
     goal: GoalNo,
-) -> Result<Option<Called>, AllocError>
-    ensures same { (f : H.Reading) → H.fits host.new f → H.kept f host.new ≡ H.kept f host.old }
-    ensures before { (f : H.Reading) → H.fits host.new f → H.fits host.old f }
-    ensures beside { H.beside host.new ≡ H.beside host.old }
-{
+) -> Result<Option<Called>, AllocError> {
     let Some(text) = host.goal_text(goal, Extent::AtMost(MOST_READ))? else {
         return Ok(None);
     };

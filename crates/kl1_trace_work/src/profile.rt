@@ -1,8 +1,6 @@
 // What each predicate did in a run.
 
-ghost use Rattle.std.specs.Prelude.{◌≡◌, ◌==◌, ◌<◌, ◌++◌, ◌∷◌, ℕ, [], List, if◌then◌else◌, count_by, length, OnOk};
-ghost use Rattle.kl1_trace_work.specs.declared.seen.Seen.{Seen};
-ghost use Rattle.kl1_trace_work.specs.Counting.{is_reduced, is_waiting, plus, waited_more, counts_at, waits_at, HasCounted};
+ghost use Rattle.std.specs.Prelude.{◌<◌, length, OnOk};
 
 use crate::seen::{NewGoal, Seen};
 use kl1_user_events::TaskKind;
@@ -44,9 +42,7 @@ const NOTHING: Counts = Counts {
 };
 
 /// Whether a goal is to be reduced.
-fn is_reduced(goal: &NewGoal) -> bool
-    ensures { result ≡ is_reduced goal.now }
-{
+fn is_reduced(goal: &NewGoal) -> bool {
     match goal.view.task {
         TaskKind::Reduces => true,
         TaskKind::Monitor => false,
@@ -55,31 +51,23 @@ fn is_reduced(goal: &NewGoal) -> bool
 }
 
 /// Whether a goal is to be reduced and can't step.
-fn is_waiting(goal: &NewGoal) -> bool
-    ensures { result ≡ is_waiting goal.now }
-{
+fn is_waiting(goal: &NewGoal) -> bool {
     is_reduced(goal) && !goal.view.can_step
 }
 
 /// How many of new goals are to be reduced.
-fn reduced_among(new: &[NewGoal]) -> usize
-    ensures { result ≡ count_by is_reduced new.now }
-{
-    let mut count = 0;
-    let mut rest = new;
-    while let [goal, others @ ..] = rest {
+fn reduced_among(new: &[NewGoal]) -> usize {
+    let mut count: usize = 0;
+    for goal in new {
         if is_reduced(goal) {
-            count += 1;
+            count = count.saturating_add(1);
         }
-        rest = others;
     }
     count
 }
 
 /// Counts and more counts.
-fn plus(counts: Counts, more: Counts) -> Counts
-    ensures { result ≡ plus counts more }
-{
+fn plus(counts: Counts, more: Counts) -> Counts {
     Counts {
         reductions: counts.reductions.saturating_add(more.reductions),
         new: counts.new.saturating_add(more.new),
@@ -89,10 +77,8 @@ fn plus(counts: Counts, more: Counts) -> Counts
 }
 
 /// Makes a row reach a place.
-#[tactic(auto, using(crate::proofs::Rows::pushed_nothing))]
 fn reach(row: &mut Vec<Counts>, place: usize) -> Result<(), AllocError>
-    ensures same { OnOk result ((p : ℕ) → counts_at row.new.items p ≡ counts_at row.old.items p) }
-    ensures long { OnOk result (place < length row.new.items) }
+    ensures { OnOk result (place < length row.new.items) }
 {
     while row.len() <= place {
         row.push(NOTHING)?;
@@ -101,20 +87,14 @@ fn reach(row: &mut Vec<Counts>, place: usize) -> Result<(), AllocError>
 }
 
 /// Puts more to the counts of a place.
-#[tactic(auto, using(crate::proofs::Rows::added_at))]
-fn add_at(row: &mut Vec<Counts>, place: usize, more: Counts) -> Result<(), AllocError>
-    ensures { OnOk result ((p : ℕ) → counts_at row.new.items p ≡ if place == p then plus (counts_at row.old.items p) more else counts_at row.old.items p) }
-{
+fn add_at(row: &mut Vec<Counts>, place: usize, more: Counts) -> Result<(), AllocError> {
     reach(row, place)?;
     row[place] = plus(row[place], more);
     Ok(())
 }
 
 /// Counts a goal that waits at a place.
-#[tactic(auto, using(crate::proofs::Rows::waited_at))]
-fn wait_at(row: &mut Vec<Counts>, place: usize) -> Result<(), AllocError>
-    ensures { OnOk result ((p : ℕ) → counts_at row.new.items p ≡ if place == p then waited_more (counts_at row.old.items p) else counts_at row.old.items p) }
-{
+fn wait_at(row: &mut Vec<Counts>, place: usize) -> Result<(), AllocError> {
     reach(row, place)?;
     let counts = row[place];
     row[place] = Counts {
@@ -125,24 +105,18 @@ fn wait_at(row: &mut Vec<Counts>, place: usize) -> Result<(), AllocError>
 }
 
 /// Counts the new goals that wait, each at the place of its predicate.
-fn add_waiting(row: &mut Vec<Counts>, new: &[NewGoal]) -> Result<(), AllocError>
-    ensures { OnOk result ((p : ℕ) → counts_at row.new.items p ≡ waits_at p new.now (counts_at row.old.items p)) }
-{
-    let mut rest = new;
-    while let [goal, others @ ..] = rest {
+fn add_waiting(row: &mut Vec<Counts>, new: &[NewGoal]) -> Result<(), AllocError> {
+    for goal in new {
         if is_waiting(goal) {
             wait_at(row, goal.predicate)?;
         }
-        rest = others;
     }
     Ok(())
 }
 
 impl Profile {
     /// A profile of no step.
-    pub fn new(alloc: Global) -> Self
-        ensures { HasCounted result [] }
-    {
+    pub fn new(alloc: Global) -> Self {
         Profile {
             counts: Vec::new(alloc),
             alive: 0,
@@ -151,9 +125,7 @@ impl Profile {
     }
 
     /// Counts a step and the goals that it made.
-    pub fn take(&mut self, seen: &Seen) -> Result<(), AllocError>
-        ensures { OnOk result ((ss : List Seen) → HasCounted self.old ss → HasCounted self.new (ss ++ seen.now ∷ [])) }
-    {
+    pub fn take(&mut self, seen: &Seen) -> Result<(), AllocError> {
         let new = seen.new.as_slice();
         let own = Counts {
             reductions: 1,
@@ -171,9 +143,8 @@ impl Profile {
     /// The predicates and what they did, those with the most reductions first.
     pub fn rows(&self, alloc: Global) -> Result<Vec<Row>, AllocError> {
         let mut rows = Vec::new(alloc);
-        let mut rest = self.counts.as_slice();
         let mut predicate: usize = 0;
-        while let [counts, others @ ..] = rest {
+        for counts in self.counts.as_slice() {
             if 0 < counts.reductions || 0 < counts.waited {
                 rows.push(Row {
                     predicate,
@@ -181,7 +152,6 @@ impl Profile {
                 })?;
             }
             predicate = predicate.saturating_add(1);
-            rest = others;
         }
         rows.sort_by_key(|row: &Row| u64::MAX - row.counts.reductions)?;
         Ok(rows)

@@ -1,7 +1,5 @@
 // What is seen of a step.
 
-ghost use Rattle.std.specs.Prelude.{◌≡◌, ◌∷◌, ◌++◌, List, [], OnOk};
-
 use crate::predicates::Predicates;
 use kl1_command::{UnbookedHost, Views};
 use kl1_user_events::{ClauseNo, GoalNo, GoalView, ShoenView};
@@ -46,11 +44,6 @@ pub struct Seen {
 
 /// What sees each step. It may look at the account, and changes nothing.
 pub trait Observer<H: UnbookedHost + Views> {
-    ghost use Rattle.kl1_trace_work.specs.declared.seen.Seen.{Seen};
-
-    // Whether it has seen just these steps, as far as that is known.
-    ghost has_seen: { Self → List Seen → Type 0 };
-
     /// Whether it wants to know the text of the goal of a step.
     fn wants_text(&self, predicates: &Predicates, step: &Next) -> bool;
 
@@ -60,9 +53,5 @@ pub trait Observer<H: UnbookedHost + Views> {
         host: &mut H,
         predicates: &Predicates,
         seen: &Seen,
-    ) -> Result<bool, AllocError>
-        ensures seen { OnOk result ((ss : List Seen) → has_seen self.old ss → has_seen self.new (ss ++ seen.now ∷ [])) }
-        ensures same { (f : H.Reading) → H.fits host.new f → H.kept f host.new ≡ H.kept f host.old }
-        ensures before { (f : H.Reading) → H.fits host.new f → H.fits host.old f }
-        ensures beside { H.beside host.new ≡ H.beside host.old };
+    ) -> Result<bool, AllocError>;
 }

@@ -1,7 +1,5 @@
 // The texts of goals, variables, places and reports.
 
-ghost use Rattle.std.specs.Prelude.{◌≡◌};
-
 use crate::predicates::{Calling, Predicates};
 use crate::prints::{Computing, computing_in, may_have_operators, sides_of};
 use crate::seen::Seen;

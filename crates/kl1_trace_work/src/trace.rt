@@ -1,8 +1,5 @@
 // The lines of a trace.
 
-ghost use Rattle.std.specs.Prelude.{◌≡◌, ◌++◌, IfOk, OnOk};
-ghost use Rattle.kl1_trace_work.specs.Telling.{head_text, AreLines};
-
 use crate::columns::{put_blanks, put_front, put_right};
 use crate::computed::{value_in, value_of};
 use crate::equated::{equated, split_term};
@@ -46,10 +43,7 @@ pub struct Trace<'a, W> {
 }
 
 /// Puts how the lines of a step begin after the bytes: its number, its goal and the goal's shoen.
-#[tactic(auto, using(crate::proofs::Heads::begun))]
-fn put_begin(alloc: Global, step: &Next, out: &mut Vec<u8>) -> Result<(), AllocError>
-    ensures { OnOk result (out.new.items ≡ out.old.items ++ head_text step.now) }
-{
+fn put_begin(alloc: Global, step: &Next, out: &mut Vec<u8>) -> Result<(), AllocError> {
     put_right(alloc, step.number, 5, out)?;
     put_right(alloc, step.goal.number.0, 6, out)?;
     out.push(b'/')?;
@@ -242,11 +236,7 @@ impl<'a, W: Write + Drop> Trace<'a, W> {
         predicates: &Predicates,
         goal: &NewGoal,
         out: &mut Vec<u8>,
-    ) -> Result<(), AllocError>
-        ensures same { (f : H.Reading) → H.fits host.new f → H.kept f host.new ≡ H.kept f host.old }
-        ensures before { (f : H.Reading) → H.fits host.new f → H.fits host.old f }
-        ensures beside { H.beside host.new ≡ H.beside host.old }
-    {
+    ) -> Result<(), AllocError> {
         match goal.view.task {
             TaskKind::Reduces => {}
             _ => return Ok(()),
@@ -291,32 +281,20 @@ impl<'a, W: Write + Drop> Trace<'a, W> {
         predicates: &Predicates,
         new: &[NewGoal],
         out: &mut Vec<u8>,
-    ) -> Result<(), AllocError>
-        ensures same { (f : H.Reading) → H.fits host.new f → H.kept f host.new ≡ H.kept f host.old }
-        ensures before { (f : H.Reading) → H.fits host.new f → H.fits host.old f }
-        ensures beside { H.beside host.new ≡ H.beside host.old }
-    {
-        let mut rest = new;
-        while let [first, others @ ..] = rest {
-            self.put_new(host, predicates, first, out)?;
-            rest = others;
+    ) -> Result<(), AllocError> {
+        for goal in new {
+            self.put_new(host, predicates, goal, out)?;
         }
         Ok(())
     }
 
     /// The lines of a step.
-    #[tactic(auto, using(crate::proofs::Heads::lines_are))]
     fn lines_of<H: Views>(
         &self,
         host: &mut H,
         predicates: &Predicates,
         seen: &Seen,
-    ) -> Result<Vec<u8>, AllocError>
-        ensures lines { IfOk result (λ lines. AreLines seen.now.step lines.items) }
-        ensures same { (f : H.Reading) → H.fits host.new f → H.kept f host.new ≡ H.kept f host.old }
-        ensures before { (f : H.Reading) → H.fits host.new f → H.fits host.old f }
-        ensures beside { H.beside host.new ≡ H.beside host.old }
-    {
+    ) -> Result<Vec<u8>, AllocError> {
         let alloc = self.texts.alloc;
         let mut out = Vec::new(alloc);
         put_begin(alloc, &seen.step, &mut out)?;
@@ -344,11 +322,7 @@ impl<W: Write + Drop> Trace<'_, W> {
         host: &mut H,
         predicates: &Predicates,
         seen: &Seen,
-    ) -> Result<bool, AllocError>
-        ensures same { (f : H.Reading) → H.fits host.new f → H.kept f host.new ≡ H.kept f host.old }
-        ensures before { (f : H.Reading) → H.fits host.new f → H.fits host.old f }
-        ensures beside { H.beside host.new ≡ H.beside host.old }
-    {
+    ) -> Result<bool, AllocError> {
         let called = predicates.called(seen.step.predicate);
         if self.pattern.has(seen, called) {
             let lines = self.lines_of(host, predicates, seen)?;

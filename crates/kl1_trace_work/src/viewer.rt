@@ -1,11 +1,5 @@
 // What looks at an account before and after each step.
 
-ghost use Rattle.std.specs.Prelude.{◌≡◌, Some, IfOk, IfSome, OnOk, option_map};
-ghost use Rattle.kl1_model.specs.State.{goal_at};
-ghost use Rattle.kl1_user_events.specs.Viewing.{goal_view};
-ghost use Rattle.kl1_trace_work.specs.Seen.{number_after, last_among, views_of, IsNext, IsSeen, AreTold};
-ghost use Rattle.kl1_trace_work.specs.Tried.{IsTried, number_if, HasDone};
-
 use crate::changes::{Shoens, changed_among, last_of, raised_among};
 use crate::predicates::{Predicates, is_monitor};
 use crate::prints::{is_cut, variables_of};
@@ -70,11 +64,7 @@ impl<O: Drop> Viewer<O> {
         host: &mut H,
         observer: O,
         is_waking: bool,
-    ) -> Result<Self, AllocError>
-        ensures same { (f : H.Reading) → H.fits host.new f → H.kept f host.new ≡ H.kept f host.old }
-        ensures before { (f : H.Reading) → H.fits host.new f → H.fits host.old f }
-        ensures beside { H.beside host.new ≡ H.beside host.old }
-    {
+    ) -> Result<Self, AllocError> {
         let mut viewer = Viewer {
             alloc,
             observer,
@@ -95,11 +85,7 @@ impl<O: Drop> Viewer<O> {
     }
 
     /// Looks at an account in which something else than a step was done. Answers the goals that are new.
-    pub fn look_anew<H: Views>(&mut self, host: &mut H) -> Result<Vec<NewGoal>, AllocError>
-        ensures same { (f : H.Reading) → H.fits host.new f → H.kept f host.new ≡ H.kept f host.old }
-        ensures before { (f : H.Reading) → H.fits host.new f → H.fits host.old f }
-        ensures beside { H.beside host.new ≡ H.beside host.old }
-    {
+    pub fn look_anew<H: Views>(&mut self, host: &mut H) -> Result<Vec<NewGoal>, AllocError> {
         let new = host.goals_from(GoalNo(self.last_goal.saturating_add(1)), ALL)?;
         self.reports = host.usage().reports.count;
         self.shoens = host.shoens_from(ShoenNo(0), ALL)?;
@@ -113,10 +99,7 @@ impl<O: Drop> Viewer<O> {
     }
 
     /// What became of the shoens in a step, of which reports were made if something did.
-    fn look_at_shoens<H: Views>(&mut self, host: &H) -> Result<Shoens, AllocError>
-        ensures observer { self.new.observer ≡ self.old.observer }
-        ensures last { self.new.last_goal ≡ self.old.last_goal }
-    {
+    fn look_at_shoens<H: Views>(&mut self, host: &H) -> Result<Shoens, AllocError> {
         let shoens = host.shoens_from(ShoenNo(0), ALL)?;
         let opened = shoens.as_slice().get(self.shoens.len()..).unwrap_or(&[]);
         let seen = Shoens {
@@ -133,10 +116,7 @@ impl<O: Drop> Viewer<O> {
         host: &H,
         before: &Before,
         all: bool,
-    ) -> Result<Vec<GoalNo>, AllocError>
-        ensures observer { self.new.observer ≡ self.old.observer }
-        ensures last { self.new.last_goal ≡ self.old.last_goal }
-    {
+    ) -> Result<Vec<GoalNo>, AllocError> {
         let mut woken = Vec::new(self.alloc);
         let Some(waits) = &mut self.waits else {
             return Ok(woken);
@@ -160,10 +140,7 @@ impl<O: Drop> Viewer<O> {
 }
 
 /// The goal of a number, as it is now, if there is one.
-#[tactic(auto, using(crate::proofs::Pages::found_first))]
-fn view_of<H: Views>(host: &H, goal: GoalNo) -> Result<Option<GoalView>, AllocError>
-    ensures { IfOk result (λ found. IfSome found (λ view. (f : H.Reading) → H.fits host.now f → Some view ≡ option_map (goal_view (H.kept f host.now).state) (goal_at goal.0 (H.kept f host.now).state.goals))) }
-{
+fn view_of<H: Views>(host: &H, goal: GoalNo) -> Result<Option<GoalView>, AllocError> {
     match host.goals_from(goal, 1)?.as_slice() {
         [view, ..] if view.number.0 == goal.0 => Ok(Some(*view)),
         _ => Ok(None),
@@ -175,11 +152,7 @@ fn text_if<H: Views>(
     host: &mut H,
     goal: GoalNo,
     wanted: Option<Extent>,
-) -> Result<Option<Vec<u8>>, AllocError>
-    ensures same { (f : H.Reading) → H.fits host.new f → H.kept f host.new ≡ H.kept f host.old }
-    ensures before { (f : H.Reading) → H.fits host.new f → H.fits host.old f }
-    ensures beside { H.beside host.new ≡ H.beside host.old }
-{
+) -> Result<Option<Vec<u8>>, AllocError> {
     match wanted {
         Some(extent) => host.goal_text(goal, extent),
         None => Ok(None),
@@ -202,13 +175,7 @@ fn look_before<H: UnbookedHost + Views, O: Observer<H> + Drop>(
     host: &mut H,
     goal: GoalNo,
     clause: ClauseNo,
-) -> Result<Option<Before>, AllocError>
-    ensures number { IfOk result (λ found. IfSome found (λ before. before.step.number ≡ number_after viewer.now.number)) }
-    ensures next { IfOk result (λ found. IfSome found (λ before. (f : H.Reading) → H.fits host.new f → IsNext viewer.now.number (H.kept f host.new) (record { goal = goal.0; clause = clause.0 }) before.step)) }
-    ensures same { (f : H.Reading) → H.fits host.new f → H.kept f host.new ≡ H.kept f host.old }
-    ensures before { (f : H.Reading) → H.fits host.new f → H.fits host.old f }
-    ensures beside { H.beside host.new ≡ H.beside host.old }
-{
+) -> Result<Option<Before>, AllocError> {
     let Some(view) = view_of(host, goal)? else {
         return Ok(None);
     };
@@ -242,10 +209,7 @@ impl<O: Drop> Viewer<O> {
         before: &Before,
         goals: &[GoalView],
         usage: &Usage,
-    ) -> Result<Others, AllocError>
-        ensures observer { self.new.observer ≡ self.old.observer }
-        ensures last { self.new.last_goal ≡ self.old.last_goal }
-    {
+    ) -> Result<Others, AllocError> {
         let is_told = is_monitor(&before.step.goal)
             || usage.reports.count != self.reports
             || usage.shoens.count != self.shoens.len() as u64;
@@ -266,17 +230,7 @@ impl<O: Drop> Viewer<O> {
     }
 
     /// What is seen of a step that was done.
-    #[tactic(auto, using(crate::proofs::Chains::seen_after, crate::proofs::Chains::last_after))]
-    fn look_after<H: Views>(&mut self, host: &mut H, before: Before) -> Result<Seen, AllocError>
-        ensures step { IfOk result (λ seen. seen.step ≡ before.step) }
-        ensures seen { IfOk result (λ seen. (f : H.Reading) → H.fits host.new f → IsSeen self.old.last_goal (H.kept f host.new) seen) }
-        ensures last { IfOk result (λ seen. self.new.last_goal ≡ last_among self.old.last_goal (views_of seen.new.items)) }
-        ensures number { OnOk result (self.new.number ≡ before.step.number) }
-        ensures observer { self.new.observer ≡ self.old.observer }
-        ensures same { (f : H.Reading) → H.fits host.new f → H.kept f host.new ≡ H.kept f host.old }
-        ensures before { (f : H.Reading) → H.fits host.new f → H.fits host.old f }
-        ensures beside { H.beside host.new ≡ H.beside host.old }
-    {
+    fn look_after<H: Views>(&mut self, host: &mut H, before: Before) -> Result<Seen, AllocError> {
         let goals = host.goals_from(GoalNo(self.last_goal.saturating_add(1)), ALL)?;
         let usage = host.usage();
         let others = self.look_at_others(host, &before, goals.as_slice(), &usage)?;
@@ -303,12 +257,7 @@ pub fn watch_step<H: UnbookedHost + Views, O: Observer<H> + Drop>(
     goal: GoalNo,
     clause: ClauseNo,
     viewer: &mut Viewer<O>,
-) -> Result<Watched, AllocError>
-    ensures told { IfOk result (λ watched. (f : H.Reading) → H.fits host.new f → IsTried O.has_seen viewer.old.number viewer.old.last_goal (H.kept f host.old) (record { goal = goal.0; clause = clause.0 }) viewer.old.observer watched viewer.new.number viewer.new.last_goal (H.kept f host.new) viewer.new.observer) }
-    ensures number { IfOk result (λ watched. viewer.new.number ≡ number_if watched viewer.old.number) }
-    ensures before { (f : H.Reading) → H.fits host.new f → H.fits host.old f }
-    ensures beside { H.beside host.new ≡ H.beside host.old }
-{
+) -> Result<Watched, AllocError> {
     let Some(before) = look_before(viewer, host, goal, clause)? else {
         return Ok(Watched::Refused);
     };
@@ -328,21 +277,14 @@ pub fn watch_step<H: UnbookedHost + Views, O: Observer<H> + Drop>(
 }
 
 /// Does the first step, and has it seen.
-#[tactic(auto, using(crate::proofs::Chains::told_none))]
 pub fn watch_once<H: UnbookedHost + Views, O: Observer<H> + Drop>(
     host: &mut H,
     viewer: &mut Viewer<O>,
-) -> Result<Watched, AllocError>
-    ensures told { OnOk result ((f : H.Reading) → H.fits host.new f → AreTold O.has_seen viewer.old.number viewer.old.last_goal (H.kept f host.old) viewer.old.observer viewer.new.number viewer.new.last_goal (H.kept f host.new) viewer.new.observer) }
-    ensures number { IfOk result (λ watched. viewer.new.number ≡ number_if watched viewer.old.number) }
-    ensures before { (f : H.Reading) → H.fits host.new f → H.fits host.old f }
-    ensures beside { H.beside host.new ≡ H.beside host.old }
-{
+) -> Result<Watched, AllocError> {
     let Some((goal, clause)) = host.pick() else {
         return Ok(Watched::Refused);
     };
-    let watched = watch_step(host, goal, clause, viewer)?;
-    Ok(watched)
+    watch_step(host, goal, clause, viewer)
 }
 
 /// Does first steps, at most `most`, and has each seen; ends if none can be done, or no more are wanted. Answers what came of the last.
@@ -350,15 +292,8 @@ pub fn watch_first<H: UnbookedHost + Views, O: Observer<H> + Drop>(
     host: &mut H,
     most: u64,
     viewer: &mut Viewer<O>,
-) -> Result<Watched, AllocError>
-    ensures told { OnOk result ((f : H.Reading) → H.fits host.new f → AreTold O.has_seen viewer.old.number viewer.old.last_goal (H.kept f host.old) viewer.old.observer viewer.new.number viewer.new.last_goal (H.kept f host.new) viewer.new.observer) }
-    ensures done { IfOk result (λ watched. HasDone watched most viewer.old.number viewer.new.number) }
-    ensures before { (f : H.Reading) → H.fits host.new f → H.fits host.old f }
-    ensures beside { H.beside host.new ≡ H.beside host.old }
-{
-    let mut left = most;
-    while 0 < left {
-        left -= 1;
+) -> Result<Watched, AllocError> {
+    for _ in 0..most {
         let watched = watch_once(host, viewer)?;
         match watched {
             Watched::More => {}

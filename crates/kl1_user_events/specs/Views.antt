@@ -1,5 +1,5 @@
 -- What events, queries, replies, refusals and choices are in the definitions.
-use Rattle.std.specs.Prelude.{Bool, true, false, Option, Some, None}
+use Rattle.std.specs.Prelude.{ℕ, Bool, true, false, List, [], Option, Some, None}
 use Rattle.kl1_model.specs.Event as model
 use Rattle.kl1_model.specs.Choice as model_choice
 use Rattle.kl1_user_events.specs.declared.numbers.GoalNo.{GoalNo}
@@ -74,6 +74,22 @@ reply_of (reply.Welcome name) = model.welcome name
 reply_of reply.Bye = model.bye
 reply_of reply.Reset = model.was_reset
 reply_of (reply.Refused r) = model.refused (refusal_of r)
+
+-- the texts that a reply lists
+abbrev pub listed_in : model.Reply → List (List ℕ)
+listed_in (model.listed texts) = texts
+listed_in (model.loaded name) = []
+listed_in (model.opened n) = []
+listed_in model.sent = []
+listed_in model.reduced = []
+listed_in (model.ran n) = []
+listed_in (model.shown text) = []
+listed_in (model.status_is c charged allowance alive) = []
+listed_in (model.quiet_is b) = []
+listed_in (model.welcome name) = []
+listed_in model.bye = []
+listed_in model.was_reset = []
+listed_in (model.refused r) = []
 
 -- the reply to a reduction that is refused for this reason, or done if there is none
 abbrev pub reduced_or : Option Refusal → model.Reply

@@ -21,7 +21,6 @@ pub enum Query {
 
 /// What may be done to an account. Any numbers, goals and lengths may stand here: those that the language does not allow
 /// are refused.
-#[derive(Drop)]
 pub enum Event {
     /// A module is loaded from its source.
     Load {
@@ -61,4 +60,31 @@ pub enum Event {
         report: u64,
         goal: Term,
     },
+}
+
+/// Not derived, so that crates above don't prove the drop of each part again.
+impl Drop for Event {
+    fn drop(self) {
+        match self {
+            Event::Load { source: _ } => {}
+            Event::Start {
+                allowance: _,
+                low: _,
+                high: _,
+                goal: _,
+            } => {}
+            Event::Control {
+                shoen: _,
+                message: _,
+            } => {}
+            Event::Reduce { goal: _, clause: _ } => {}
+            Event::Read(_) => {}
+            Event::Login | Event::Logout | Event::Reset => {}
+            Event::Answer {
+                shoen: _,
+                report: _,
+                goal: _,
+            } => {}
+        }
+    }
 }

@@ -1,8 +1,5 @@
 // Which goals have a variable.
 
-ghost use Rattle.std.specs.Prelude.{◌≡◌, ◌↔◌, ◌+◌, ◌<◌, ◌≤◌, [], unwrap_or, option_map, IsTrue, IfOk, OnOk};
-ghost use Rattle.kl1_watch.specs.Standing.{parts_looked, IsNoted, IsCounted, AreHolders};
-
 use kl1_command::Views;
 use kl1_user_events::{GoalNo, GoalView, Presence};
 use std::alloc::{AllocError, Global};
@@ -23,35 +20,28 @@ pub struct Holders {
 
 impl Holders {
     /// Whether it is known that no other goal has the variable.
-    pub fn is_none(&self) -> bool
-        ensures { IsTrue result ↔ ((self.now.count ≡ 0) × (self.now.unknown ≡ 0)) }
-    {
+    pub fn is_none(&self) -> bool {
         self.count == 0 && self.unknown == 0
     }
 
     /// Counts a goal by what is known of the variable's presence in it.
-    fn note(&mut self, goal: GoalNo, presence: Presence) -> Result<(), AllocError>
-        requires { self.old.count + self.old.unknown < 9223372036854775808 }
-        ensures { OnOk result (IsNoted goal presence self.old self.new) }
-    {
+    fn note(&mut self, goal: GoalNo, presence: Presence) -> Result<(), AllocError> {
         match presence {
             Presence::Present => {
                 if self.count < MOST_NAMED {
                     self.first.push(goal)?;
                 }
-                self.count += 1;
+                self.count = self.count.saturating_add(1);
             }
             Presence::Absent => {}
-            Presence::Unknown => self.unknown += 1,
+            Presence::Unknown => self.unknown = self.unknown.saturating_add(1),
         }
         Ok(())
     }
 }
 
 /// The variables that a goal waits for, or none if there is no such goal.
-pub(crate) fn variables_of(awaited: &Option<Vec<u32>>) -> &[u32]
-    ensures { result.now ≡ unwrap_or (option_map (λ numbers. numbers.items) awaited.now) [] }
-{
+pub(crate) fn variables_of(awaited: &Option<Vec<u32>>) -> &[u32] {
     match awaited {
         Some(variables) => variables.as_slice(),
         None => &[],
@@ -60,9 +50,7 @@ pub(crate) fn variables_of(awaited: &Option<Vec<u32>>) -> &[u32]
 
 /// How many parts of each goal's term are looked at for a variable, by how many goals there are: of many goals at most a hundred million
 /// in all, and of fewer about a million.
-fn parts_looked(goals: usize) -> u64
-    ensures { result ≡ parts_looked goals }
-{
+fn parts_looked(goals: usize) -> u64 {
     if goals <= 10 {
         100_000
     } else if goals <= 100 {
@@ -75,7 +63,6 @@ fn parts_looked(goals: usize) -> u64
 }
 
 /// Counts a goal that is another than this one by whether it has a variable, of its term at most `most` parts are looked at.
-#[tactic(auto, using(crate::proofs::Counts::pass_over, crate::proofs::Counts::count_on, crate::proofs::Counts::noted_few))]
 fn note_in<H: Views>(
     host: &H,
     most: u64,
@@ -83,11 +70,7 @@ fn note_in<H: Views>(
     goal: GoalNo,
     variable: u32,
     holders: &mut Holders,
-) -> Result<(), AllocError>
-    requires { holders.old.count + holders.old.unknown < 9223372036854775808 }
-    ensures counted { OnOk result ((f : H.Reading) → IsCounted (H.kept f host.now).state most goal.0 variable view.now holders.old holders.new) }
-    ensures few { OnOk result (holders.new.count + holders.new.unknown ≤ holders.old.count + holders.old.unknown + 1) }
-{
+) -> Result<(), AllocError> {
     if view.number.0 == goal.0 {
         return Ok(());
     }
@@ -96,26 +79,21 @@ fn note_in<H: Views>(
 }
 
 /// Which of the goals but this one have a variable.
-#[tactic(auto, using(crate::proofs::Counts::none_counted))]
 pub(crate) fn holders_of<H: Views>(
     alloc: Global,
     host: &H,
     goals: &[GoalView],
     goal: GoalNo,
     variable: u32,
-) -> Result<Holders, AllocError>
-    ensures { IfOk result (λ holders. (f : H.Reading) → AreHolders (H.kept f host.now).state goals.now goal.0 variable holders) }
-{
+) -> Result<Holders, AllocError> {
     let mut holders = Holders {
         first: Vec::new(alloc),
         count: 0,
         unknown: 0,
     };
     let most = parts_looked(goals.len());
-    let mut rest = goals;
-    while let [first, others @ ..] = rest {
-        note_in(host, most, first, goal, variable, &mut holders)?;
-        rest = others;
+    for view in goals {
+        note_in(host, most, view, goal, variable, &mut holders)?;
     }
     Ok(holders)
 }

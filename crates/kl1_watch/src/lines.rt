@@ -1,7 +1,5 @@
 // The lines that tell of an account that stands still.
 
-ghost use Rattle.std.specs.Prelude.{◌≡◌};
-
 use crate::circle::put_circle;
 use crate::holders::Holders;
 use crate::limit::put_limit;
@@ -41,11 +39,7 @@ pub fn put_standing<H: Views>(
     standing: &Standing,
     told: &Told<'_>,
     out: &mut Vec<u8>,
-) -> Result<(), AllocError>
-    ensures same { (f : H.Reading) → H.fits host.new f → H.kept f host.new ≡ H.kept f host.old }
-    ensures before { (f : H.Reading) → H.fits host.new f → H.fits host.old f }
-    ensures beside { H.beside host.new ≡ H.beside host.old }
-{
+) -> Result<(), AllocError> {
     put_count(standing, told.program, out)?;
     put_waiting(alloc, host, standing.waiting.as_slice(), told, out)?;
     put_more(standing, out)?;
@@ -121,15 +115,9 @@ fn put_waiting<H: Views>(
     waiting: &[WaitingGoal],
     told: &Told<'_>,
     out: &mut Vec<u8>,
-) -> Result<(), AllocError>
-    ensures same { (f : H.Reading) → H.fits host.new f → H.kept f host.new ≡ H.kept f host.old }
-    ensures before { (f : H.Reading) → H.fits host.new f → H.fits host.old f }
-    ensures beside { H.beside host.new ≡ H.beside host.old }
-{
-    let mut rest = waiting;
-    while let [first, others @ ..] = rest {
-        put_goal(alloc, host, first, told, out)?;
-        rest = others;
+) -> Result<(), AllocError> {
+    for goal in waiting {
+        put_goal(alloc, host, goal, told, out)?;
     }
     Ok(())
 }
@@ -141,11 +129,7 @@ fn put_goal<H: Views>(
     waiting: &WaitingGoal,
     told: &Told<'_>,
     out: &mut Vec<u8>,
-) -> Result<(), AllocError>
-    ensures same { (f : H.Reading) → H.fits host.new f → H.kept f host.new ≡ H.kept f host.old }
-    ensures before { (f : H.Reading) → H.fits host.new f → H.fits host.old f }
-    ensures beside { H.beside host.new ≡ H.beside host.old }
-{
+) -> Result<(), AllocError> {
     out.extend_from_slice(b"  goal ")?;
     put_decimal(out, waiting.goal.number.0)?;
     out.extend_from_slice(b" in shoen ")?;
@@ -153,10 +137,8 @@ fn put_goal<H: Views>(
     out.extend_from_slice(b": ")?;
     put_text(alloc, host, waiting.goal.number, told, MOST_GOAL, out)?;
     out.push(b'\n')?;
-    let mut rest = waiting.awaits.as_slice();
-    while let [first, others @ ..] = rest {
-        put_awaited(alloc, host, first, told, out)?;
-        rest = others;
+    for awaited in waiting.awaits.as_slice() {
+        put_awaited(alloc, host, awaited, told, out)?;
     }
     Ok(())
 }
@@ -168,11 +150,7 @@ fn put_awaited<H: Views>(
     awaited: &Awaited,
     told: &Told<'_>,
     out: &mut Vec<u8>,
-) -> Result<(), AllocError>
-    ensures same { (f : H.Reading) → H.fits host.new f → H.kept f host.new ≡ H.kept f host.old }
-    ensures before { (f : H.Reading) → H.fits host.new f → H.fits host.old f }
-    ensures beside { H.beside host.new ≡ H.beside host.old }
-{
+) -> Result<(), AllocError> {
     out.extend_from_slice(b"    waits for ")?;
     put_variable(u64::from(awaited.variable), told, out)?;
     let holders = &awaited.holders;
@@ -205,20 +183,14 @@ fn put_holders<H: Views>(
     first: &[GoalNo],
     told: &Told<'_>,
     out: &mut Vec<u8>,
-) -> Result<(), AllocError>
-    ensures same { (f : H.Reading) → H.fits host.new f → H.kept f host.new ≡ H.kept f host.old }
-    ensures before { (f : H.Reading) → H.fits host.new f → H.fits host.old f }
-    ensures beside { H.beside host.new ≡ H.beside host.old }
-{
+) -> Result<(), AllocError> {
     let mut words: &[u8] = b"also in ";
-    let mut rest = first;
-    while let [goal, others @ ..] = rest {
+    for goal in first {
         out.extend_from_slice(words)?;
         put_decimal(out, goal.0)?;
         out.push(b' ')?;
         put_text(alloc, host, *goal, told, MOST_HOLDER, out)?;
         words = b", ";
-        rest = others;
     }
     Ok(())
 }
@@ -250,11 +222,7 @@ fn put_text<H: Views>(
     told: &Told<'_>,
     most: usize,
     out: &mut Vec<u8>,
-) -> Result<(), AllocError>
-    ensures same { (f : H.Reading) → H.fits host.new f → H.kept f host.new ≡ H.kept f host.old }
-    ensures before { (f : H.Reading) → H.fits host.new f → H.fits host.old f }
-    ensures beside { H.beside host.new ≡ H.beside host.old }
-{
+) -> Result<(), AllocError> {
     let text = match host.goal_text(goal, Extent::Cut)? {
         Some(text) => text,
         None => return Ok(()),

@@ -1,8 +1,5 @@
 // All shoens and goals of an account, as they are shown.
 
-ghost use Rattle.std.specs.Prelude.{◌≡◌, nat_lt, length, map, IfOk};
-ghost use Rattle.kl1_user_events.specs.Viewing.{shoen_view, goal_view};
-
 use kl1_command::Views;
 use kl1_user_events::{GoalNo, GoalView, ShoenNo, ShoenView};
 use std::alloc::AllocError;
@@ -11,16 +8,12 @@ use std::alloc::AllocError;
 const ALL: usize = 4_294_967_296;
 
 /// Whether these are fewer than may be asked for, and so all.
-fn are_all<T>(items: &[T]) -> bool
-    ensures { result ≡ nat_lt (length items.now) 4294967296 }
-{
+fn are_all<T>(items: &[T]) -> bool {
     items.len() < ALL
 }
 
 /// All shoens of an account.
-pub(crate) fn shoens_in<H: Views>(host: &H) -> Result<Vec<ShoenView>, AllocError>
-    ensures { IfOk result (λ shoens. (f : H.Reading) → shoens.items ≡ map (shoen_view (H.kept f host.now).state) (H.kept f host.now).state.shoens) }
-{
+pub(crate) fn shoens_in<H: Views>(host: &H) -> Result<Vec<ShoenView>, AllocError> {
     let shoens = host.shoens_from(ShoenNo(0), ALL)?;
     if are_all(shoens.as_slice()) {
         Ok(shoens)
@@ -30,9 +23,7 @@ pub(crate) fn shoens_in<H: Views>(host: &H) -> Result<Vec<ShoenView>, AllocError
 }
 
 /// All goals of an account.
-pub(crate) fn goals_in<H: Views>(host: &H) -> Result<Vec<GoalView>, AllocError>
-    ensures { IfOk result (λ goals. (f : H.Reading) → H.fits host.now f → goals.items ≡ map (goal_view (H.kept f host.now).state) (H.kept f host.now).state.goals) }
-{
+pub(crate) fn goals_in<H: Views>(host: &H) -> Result<Vec<GoalView>, AllocError> {
     let goals = host.goals_from(GoalNo(0), ALL)?;
     if are_all(goals.as_slice()) {
         Ok(goals)

@@ -1,9 +1,5 @@
 // What is told of an account that stands still.
 
-ghost use Rattle.std.specs.Prelude.{◌≡◌, All, map, take, IfOk};
-ghost use Rattle.kl1_user_events.specs.Viewing.{shoen_view, goal_view};
-ghost use Rattle.kl1_watch.specs.Standing.{IsAwaited, IsWaitingGoal, IsStanding};
-
 use crate::holders::{Holders, holders_of, variables_of};
 use crate::ordered::ordered;
 use crate::snapshot::{goals_in, shoens_in};
@@ -48,17 +44,14 @@ fn awaits_of<H: Views>(
     goals: &[GoalView],
     goal: GoalNo,
     variables: &[u32],
-) -> Result<Vec<Awaited>, AllocError>
-    ensures variables { IfOk result (λ awaits. map (λ a. a.variable) awaits.items ≡ variables.now) }
-    ensures holders { IfOk result (λ awaits. (f : H.Reading) → All (IsAwaited (H.kept f host.now).state goals.now goal.0) awaits.items) }
-{
+) -> Result<Vec<Awaited>, AllocError> {
     let mut awaits = Vec::new(alloc);
-    let mut rest = variables;
-    while let [first, others @ ..] = rest {
-        let variable = *first;
-        let holders = holders_of(alloc, host, goals, goal, variable)?;
-        awaits.push(Awaited { variable, holders })?;
-        rest = others;
+    for variable in variables {
+        let holders = holders_of(alloc, host, goals, goal, *variable)?;
+        awaits.push(Awaited {
+            variable: *variable,
+            holders,
+        })?;
     }
     Ok(awaits)
 }
@@ -69,10 +62,7 @@ fn waiting_goal<H: Views>(
     host: &H,
     goals: &[GoalView],
     goal: GoalView,
-) -> Result<WaitingGoal, AllocError>
-    ensures goal { IfOk result (λ waiting. waiting.goal ≡ goal) }
-    ensures waits { IfOk result (λ waiting. (f : H.Reading) → H.fits host.now f → IsWaitingGoal (H.kept f host.now).state goals.now waiting) }
-{
+) -> Result<WaitingGoal, AllocError> {
     let awaited = host.awaited(goal.number)?;
     let variables = variables_of(&awaited);
     let awaits = awaits_of(alloc, host, goals, goal.number, variables)?;
@@ -86,15 +76,10 @@ fn front_of<H: Views>(
     goals: &[GoalView],
     order: &[GoalView],
     most: usize,
-) -> Result<Vec<WaitingGoal>, AllocError>
-    ensures front { IfOk result (λ front. map (λ w. w.goal) front.items ≡ take most order.now) }
-    ensures waits { IfOk result (λ front. (f : H.Reading) → H.fits host.now f → All (IsWaitingGoal (H.kept f host.now).state goals.now) front.items) }
-{
+) -> Result<Vec<WaitingGoal>, AllocError> {
     let mut front = Vec::new(alloc);
-    let mut rest = order.get(..most).unwrap_or(order);
-    while let [goal, others @ ..] = rest {
+    for goal in order.get(..most).unwrap_or(order) {
         front.push(waiting_goal(alloc, host, goals, *goal)?)?;
-        rest = others;
     }
     Ok(front)
 }
@@ -106,9 +91,7 @@ fn standing_over<H: Views>(
     shoens: &[ShoenView],
     goals: &[GoalView],
     most: usize,
-) -> Result<Standing, AllocError>
-    ensures { IfOk result (λ standing. (f : H.Reading) → H.fits host.now f → shoens.now ≡ map (shoen_view (H.kept f host.now).state) (H.kept f host.now).state.shoens → goals.now ≡ map (goal_view (H.kept f host.now).state) (H.kept f host.now).state.goals → IsStanding (H.kept f host.now).state most standing) }
-{
+) -> Result<Standing, AllocError> {
     let all = waiting_among(alloc, shoens, goals)?;
     let order = ordered(alloc, host, goals, all.as_slice())?;
     let waiting = front_of(alloc, host, goals, order.as_slice(), most)?;
@@ -125,13 +108,8 @@ fn standing_over<H: Views>(
 }
 
 /// What is told of an account that stands still, of at most `most` goals that wait.
-pub fn standing_of<H: Views>(alloc: Global, host: &H, most: usize) -> Result<Standing, AllocError>
-    ensures { IfOk result (λ standing. (f : H.Reading) → H.fits host.now f → IsStanding (H.kept f host.now).state most standing) }
-{
+pub fn standing_of<H: Views>(alloc: Global, host: &H, most: usize) -> Result<Standing, AllocError> {
     let shoens = shoens_in(host)?;
     let goals = goals_in(host)?;
-    let shoen_views = shoens.as_slice();
-    let goal_views = goals.as_slice();
-    let standing = standing_over(alloc, host, shoen_views, goal_views, most)?;
-    Ok(standing)
+    standing_over(alloc, host, shoens.as_slice(), goals.as_slice(), most)
 }

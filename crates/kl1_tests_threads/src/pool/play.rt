@@ -39,11 +39,12 @@ fn answered_after<'t, R: Wait, K: PoolIds>(
         return Performed::Short { steps };
     };
     let rest = Command::Run(most.saturating_sub(steps));
-    match answered(rt, pool, account, &rest, share) {
+    let performed = answered(rt, pool, account, &rest, share);
+    match &performed {
         Performed::Whole(Reply::Ran(more)) => {
-            Performed::Whole(Reply::Ran(steps.saturating_add(more)))
+            Performed::Whole(Reply::Ran(steps.saturating_add(*more)))
         }
-        performed => performed,
+        _ => performed,
     }
 }
 
@@ -94,7 +95,7 @@ pub fn is_quiet<'t, R: Wait, K: PoolIds>(
 ) -> bool {
     let command = Command::Does(Event::Read(Query::Quiet));
     matches!(
-        answered(rt, pool, account, &command, share),
+        &answered(rt, pool, account, &command, share),
         Performed::Whole(Reply::Quiet(true))
     )
 }

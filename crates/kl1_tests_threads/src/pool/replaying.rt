@@ -33,9 +33,9 @@ fn put_journal<'t, R: Wait, K: PoolIds>(
             from: page * PAGE + 1,
             count: PAGE,
         };
-        match answered(rt, pool, account, &command, share) {
+        match &answered(rt, pool, account, &command, share) {
             Performed::Whole(Reply::Listed(lines)) => {
-                if put_page(text, &lines) < PAGE {
+                if put_page(text, lines) < PAGE {
                     return;
                 }
             }

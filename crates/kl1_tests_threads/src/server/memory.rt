@@ -29,7 +29,8 @@ fn is_closed<'t, K: PoolIds, R: Wait>(rt: &R, pool: &Pool<'t, R, K>, share: &mut
     requires { 1 ≤ K.accounts }
 {
     matches!(
-        pool.act(rt, 0, &Command::Does(Event::Logout), share)
+        &pool
+            .act(rt, 0, &Command::Does(Event::Logout), share)
             .into_performed(),
         Performed::Whole(Reply::Refused(Refusal::Sessions))
     )

@@ -1,4 +1,0 @@
-pub mod After
-pub mod Alone
-pub mod Used
-pub mod Scripted

@@ -1,6 +1,0 @@
-pub mod Faults
-pub mod Scripts
-pub mod Works
-pub mod Streams
-pub mod Watching
-pub mod Answers

@@ -1,3 +1,0 @@
-pub mod LastBlanks
-pub mod LineSteps
-pub mod Finding

@@ -1,3 +1,0 @@
-pub mod TestLines
-pub mod Tests
-pub mod Lines

@@ -1,5 +1,0 @@
-mod Chains
-mod Heads
-mod Pages
-mod Rows
-mod Sums

@@ -1,4 +1,0 @@
-pub mod Counting
-pub mod Seen
-pub mod Telling
-pub mod Tried

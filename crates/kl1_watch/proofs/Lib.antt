@@ -1,5 +1,0 @@
-mod Seen
-mod Paths
-mod Orders
-mod Counts
-mod Numbers
