@@ -1,9 +1,0 @@
-// Checks of the queue of places and the table of goals.
-
-mod back;
-mod checks;
-mod goals;
-mod queue;
-mod turns;
-
-pub use checks::put_ready_checks;
