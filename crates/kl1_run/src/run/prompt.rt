@@ -340,6 +340,14 @@ impl Session<'_, '_> {
     }
 }
 
+/// Whether a reply is that to a reset.
+fn is_reset(reply: &Reply) -> bool {
+    match reply {
+        Reply::Reset => true,
+        _ => false,
+    }
+}
+
 /// Puts which source of these was refused, if one was. Answers whether none was.
 fn put_loaded(
     files: &[SourceFile],
@@ -348,7 +356,7 @@ fn put_loaded(
 ) -> Result<bool, Fault> {
     // Before the loads stands the reply to a reset, if there was one.
     let loads = match replies {
-        [Reply::Reset, rest @ ..] => rest,
+        [first, rest @ ..] if is_reset(first) => rest,
         _ => replies,
     };
     let Some(Reply::Refused(refusal)) = loads.last() else {
