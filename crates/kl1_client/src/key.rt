@@ -24,7 +24,7 @@ pub fn is_word(bytes: &[u8], most: usize) -> bool {
 }
 
 /// The key, from its file if one is named, else from the environment.
-pub fn key_of<'a>(rt: &HostRuntime, wanted: &Wanted<'a>) -> Result<Vec<u8>, Trouble<'a>> {
+pub fn key_of<'a>(rt: &HostRuntime, wanted: &Wanted<'_, 'a>) -> Result<Vec<u8>, Trouble<'a>> {
     let key = match wanted.key_file {
         Some(name) => match first_line(rt, name) {
             Ok(line) => line,

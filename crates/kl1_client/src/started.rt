@@ -21,7 +21,7 @@ const MOST_NAME_BYTES: usize = 64;
 const MOST_TRIES: u64 = 60;
 
 /// Does what the words ask for, and answers the program's status.
-pub fn status_by<'a>(rt: &HostRuntime, wanted: &Wanted<'a>) -> Result<u8, Trouble<'a>> {
+pub fn status_by<'a>(rt: &HostRuntime, wanted: &Wanted<'_, 'a>) -> Result<u8, Trouble<'a>> {
     if !is_word(wanted.name.as_bytes(), MOST_NAME_BYTES) {
         return Err(Trouble::BadName);
     }
@@ -47,7 +47,7 @@ pub fn status_by<'a>(rt: &HostRuntime, wanted: &Wanted<'a>) -> Result<u8, Troubl
 /// program's status.
 fn status_with<'a, S: Source>(
     rt: &HostRuntime,
-    wanted: &Wanted<'a>,
+    wanted: &Wanted<'_, 'a>,
     key: &[u8],
     terminal: &mut Terminal<'_, S>,
 ) -> Result<u8, Trouble<'a>> {
@@ -100,7 +100,7 @@ fn connected(rt: &HostRuntime, address: &str, timeout: Option<Duration>) -> io::
 /// Talks with a server over one connection.
 fn talk_once<'a, S: Source>(
     rt: &HostRuntime,
-    wanted: &Wanted<'a>,
+    wanted: &Wanted<'_, 'a>,
     key: &[u8],
     terminal: &mut Terminal<'_, S>,
 ) -> Result<TalkSummary, Trouble<'a>> {

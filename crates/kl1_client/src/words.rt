@@ -78,7 +78,7 @@ const OPTIONS: [OptionSpec; 7] = [
 
 /// What the words ask for.
 #[derive(Clone, Copy)]
-pub struct Wanted<'a> {
+pub struct Wanted<'w, 'a> {
     /// Where the server listens: a host and a port.
     pub address: &'a str,
     /// The account's name.
@@ -92,12 +92,12 @@ pub struct Wanted<'a> {
     /// Whether another connection is made when one ends.
     pub reconnects: bool,
     /// The commands; if there are none, they are read from standard input.
-    pub commands: &'a [&'a str],
+    pub commands: &'w [&'a str],
 }
 
-impl<'a> Wanted<'a> {
+impl<'w, 'a> Wanted<'w, 'a> {
     /// What the words ask for.
-    pub fn of(asked: &'a Asked<'a>) -> Self {
+    pub fn of(asked: &'w Asked<'a>) -> Self {
         Wanted {
             address: asked.text("ADDRESS").unwrap_or(""),
             name: asked.text("NAME").unwrap_or(""),

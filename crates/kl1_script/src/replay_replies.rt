@@ -33,11 +33,13 @@ fn put_event<A: AtomSource + Drop, C: CodeSource + Drop>(
     ensures err { OnErr result (out.new.items ≡ out.old.items) }
 {
     let reply = replayed.apply(event)?;
-    if let Reply::Refused(_refusal) = &reply {
-        return Ok(false);
+    match &reply {
+        Reply::Refused(_refusal) => Ok(false),
+        _ => {
+            put_reply(out, &reply)?;
+            Ok(true)
+        }
     }
-    put_reply(out, &reply)?;
-    Ok(true)
 }
 
 /// Does a run, and puts its reply after the bytes, unless it is refused. Answers whether it was accepted. After an `Err` the bytes are as

@@ -26,28 +26,28 @@ where
 {
     report.put(
         b"accounts_go_on_after_a_restart",
-        accounts_go_on_after_a_restart(rt, alloc),
+        Ok(accounts_go_on_after_a_restart(rt, alloc)),
     );
     report.put(
         b"cut_file_is_restored_to_its_whole_lines",
-        cut_file_is_restored_to_its_whole_lines(rt, alloc),
+        Ok(cut_file_is_restored_to_its_whole_lines(rt, alloc)),
     );
     report.put(
         b"refused_entry_ends_the_start",
-        refused_entry_ends_the_start(rt, alloc),
+        Ok(refused_entry_ends_the_start(rt, alloc)),
     );
     report.put(
         b"failing_file_acknowledges_nothing_that_is_lost",
-        failing_file_acknowledges_nothing_that_is_lost(rt, alloc),
+        Ok(failing_file_acknowledges_nothing_that_is_lost(rt, alloc)),
     );
     report.put(
         b"stop_ends_open_connections",
-        stop_ends_open_connections(rt, alloc),
+        Ok(stop_ends_open_connections(rt, alloc)),
     );
-    report.put(b"address_has_a_limit", address_has_a_limit(rt, alloc));
+    report.put(b"address_has_a_limit", Ok(address_has_a_limit(rt, alloc)));
     report.put(
         b"stop_writes_what_is_left",
-        stop_writes_what_is_left(rt, alloc),
+        Ok(stop_writes_what_is_left(rt, alloc)),
     );
-    report.put(b"loads_have_a_limit", loads_have_a_limit(rt, alloc));
+    report.put(b"loads_have_a_limit", Ok(loads_have_a_limit(rt, alloc)));
 }

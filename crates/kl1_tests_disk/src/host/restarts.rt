@@ -2,7 +2,7 @@
 
 use crate::host::hosted::{Outcome, hosted};
 use kl1_host_work::StartFault;
-use std::alloc::{AllocError, Global};
+use std::alloc::Global;
 use std::net::{Net, TcpListener, TcpStream};
 use std::sync::Wait;
 use std::thread::Threads;
@@ -39,41 +39,46 @@ const RESET: &[u8] = b"journal 4 0 3\nname f\nname g\nname ok\n";
 /// The text of an account in which nothing has happened.
 const FRESH: &[u8] = b"journal 4 0 0\n";
 
-/// Whether a host replied with these bytes, and left these files of its two accounts.
-fn is_so(outcome: &Outcome, replies: &[u8], first: &[u8], second: &[u8]) -> bool {
+/// Whether a host that was sent lines replied with these bytes, and left these files of its two accounts.
+fn is_so(outcome: &Outcome, replies: &[u8], files: [&[u8]; 2]) -> bool {
     match outcome.files.as_slice() {
         [one, two] => {
             outcome.replies.as_slice() == replies
-                && one.as_slice() == first
-                && two.as_slice() == second
+                && one.as_slice() == files[0]
+                && two.as_slice() == files[1]
         }
         _ => false,
     }
 }
 
-/// What an account has done is there after a restart, and the file is the text of its journal again; after a reset it has the names.
-pub(crate) fn accounts_go_on_after_a_restart<R>(rt: &R, alloc: Global) -> Result<bool, AllocError>
+/// Whether a host that finds files with these bytes and is sent lines replies so, and leaves these files.
+fn leaves<R>(
+    rt: &R,
+    alloc: Global,
+    found: [&[u8]; 2],
+    lines: &[u8],
+    replies: &[u8],
+    left: [&[u8]; 2],
+) -> bool
 where
     R: Net<Listener = TcpListener, Stream = TcpStream> + Threads + Wait + Clock + Sync,
 {
-    let Ok(first) = hosted(rt, alloc, &[b"", b""], ENOUGH, LINES) else {
-        return Ok(false);
-    };
-    let Ok(second) = hosted(rt, alloc, &[FILE, FRESH], ENOUGH, b"login bob k2\nlogout\n") else {
-        return Ok(false);
-    };
-    let Ok(third) = hosted(rt, alloc, &[TEXT, FRESH], ENOUGH, AGAIN) else {
-        return Ok(false);
-    };
-    let Ok(fourth) = hosted(rt, alloc, &[RESET, FRESH], ENOUGH, b"") else {
-        return Ok(false);
-    };
-    Ok(
-        is_so(&first, REPLIES, FILE, FRESH)
-            && is_so(&second, b"+ welcome bob\n+ bye\n", TEXT, FRESH)
-            && is_so(&third, SEEN, RESET, FRESH)
-            && is_so(&fourth, b"", RESET, FRESH),
-    )
+    match hosted(rt, alloc, &found, ENOUGH, lines) {
+        Ok(outcome) => is_so(&outcome, replies, left),
+        Err(_) => false,
+    }
+}
+
+/// What an account has done is there after a restart, and the file is the text of its journal again; after a reset it has the names.
+pub(crate) fn accounts_go_on_after_a_restart<R>(rt: &R, alloc: Global) -> bool
+where
+    R: Net<Listener = TcpListener, Stream = TcpStream> + Threads + Wait + Clock + Sync,
+{
+    let (bob, welcome) = (b"login bob k2\nlogout\n", b"+ welcome bob\n+ bye\n");
+    leaves(rt, alloc, [b"", b""], LINES, REPLIES, [FILE, FRESH])
+        && leaves(rt, alloc, [FILE, FRESH], bob, welcome, [TEXT, FRESH])
+        && leaves(rt, alloc, [TEXT, FRESH], AGAIN, SEEN, [RESET, FRESH])
+        && leaves(rt, alloc, [RESET, FRESH], b"", b"", [RESET, FRESH])
 }
 
 /// The text up to its last line feed.
@@ -85,39 +90,39 @@ fn whole_lines(text: &[u8]) -> &[u8] {
 }
 
 /// A file that is cut at any byte after its heading, and before the line that was written twice, is restored to its whole lines.
-pub(crate) fn cut_file_is_restored_to_its_whole_lines<R>(
-    rt: &R,
-    alloc: Global,
-) -> Result<bool, AllocError>
+pub(crate) fn cut_file_is_restored_to_its_whole_lines<R>(rt: &R, alloc: Global) -> bool
 where
     R: Net<Listener = TcpListener, Stream = TcpStream> + Threads + Wait + Clock + Sync,
 {
     for count in FRESH.len()..TEXT.len() + 1 {
         let text = TEXT.get(..count).unwrap_or(TEXT);
-        let Ok(outcome) = hosted(rt, alloc, &[text, FRESH], ENOUGH, b"") else {
-            return Ok(false);
-        };
-        if !is_so(&outcome, b"", whole_lines(text), FRESH) {
-            return Ok(false);
+        if !leaves(
+            rt,
+            alloc,
+            [text, FRESH],
+            b"",
+            b"",
+            [whole_lines(text), FRESH],
+        ) {
+            return false;
         }
     }
-    Ok(true)
+    true
 }
 
 /// An entry that isn't accepted ends the start, and its line is told.
-pub(crate) fn refused_entry_ends_the_start<R>(rt: &R, alloc: Global) -> Result<bool, AllocError>
+pub(crate) fn refused_entry_ends_the_start<R>(rt: &R, alloc: Global) -> bool
 where
     R: Net<Listener = TcpListener, Stream = TcpStream> + Threads + Wait + Clock + Sync,
 {
     let text = b"journal 4 0 1\nname f\nstart 10 0 10 true\nreduce 7 1\nrun 1\n";
-    let outcome = hosted(rt, alloc, &[FRESH, text], ENOUGH, b"");
-    Ok(matches!(
-        outcome,
+    matches!(
+        hosted(rt, alloc, &[FRESH, text], ENOUGH, b""),
         Err(StartFault::Unaccepted {
             account: 1,
             line: 4
         })
-    ))
+    )
 }
 
 /// Which lines of a conversation make entries, with what then stands in the file.
@@ -140,31 +145,35 @@ fn has(bytes: &[u8], wanted: &[u8]) -> bool {
     false
 }
 
+/// Whether whatever a host replied is in the file of its first account.
+fn is_kept(outcome: &Outcome) -> bool {
+    let [file, _] = outcome.files.as_slice() else {
+        return false;
+    };
+    for (reply, entry) in ACKNOWLEDGED {
+        if has(outcome.replies.as_slice(), reply) && !has(file.as_slice(), entry) {
+            return false;
+        }
+    }
+    true
+}
+
 /// Of files that fail after some number of calls and bytes, whatever was replied is on disk.
-pub(crate) fn failing_file_acknowledges_nothing_that_is_lost<R>(
-    rt: &R,
-    alloc: Global,
-) -> Result<bool, AllocError>
+pub(crate) fn failing_file_acknowledges_nothing_that_is_lost<R>(rt: &R, alloc: Global) -> bool
 where
     R: Net<Listener = TcpListener, Stream = TcpStream> + Threads + Wait + Clock + Sync,
 {
     let mut whole = 0usize;
     for left in (0..200usize).step_by(7) {
-        let Ok(outcome) = hosted(rt, alloc, &[FRESH, FRESH], left, LINES) else {
-            // A file that fails at once ends the start.
-            continue;
-        };
-        let [file, _] = outcome.files.as_slice() else {
-            return Ok(false);
-        };
-        for (reply, entry) in ACKNOWLEDGED {
-            if has(outcome.replies.as_slice(), reply) && !has(file.as_slice(), entry) {
-                return Ok(false);
+        // A file that fails at once ends the start.
+        if let Ok(outcome) = hosted(rt, alloc, &[FRESH, FRESH], left, LINES) {
+            if !is_kept(&outcome) {
+                return false;
+            }
+            if outcome.replies.as_slice() == REPLIES {
+                whole = whole.saturating_add(1);
             }
         }
-        if outcome.replies.as_slice() == REPLIES {
-            whole = whole.saturating_add(1);
-        }
     }
-    Ok(whole > 0)
+    whole > 0
 }

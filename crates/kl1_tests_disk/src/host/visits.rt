@@ -3,7 +3,7 @@
 use crate::host::guest::Visit;
 use crate::host::hosted::{Outcome, setup, visited};
 use kl1_host_work::{Limits, Setup, Syncing};
-use std::alloc::{AllocError, Global};
+use std::alloc::Global;
 use std::net::{Net, TcpListener, TcpStream};
 use std::sync::Wait;
 use std::thread::Threads;
@@ -28,20 +28,36 @@ fn is_so(outcome: &Outcome, replies: &[u8], file: &[u8]) -> bool {
     }
 }
 
+/// Whether a host that is set up and visited so replies with these bytes, and leaves this file of its first account.
+fn leaves<R>(
+    rt: &R,
+    alloc: Global,
+    lines: &[u8],
+    visit: Visit,
+    setup: Setup,
+    replies: &[u8],
+    file: &[u8],
+) -> bool
+where
+    R: Net<Listener = TcpListener, Stream = TcpStream> + Threads + Wait + Clock + Sync,
+{
+    match visited(rt, alloc, &[FRESH, FRESH], ENOUGH, lines, visit, setup) {
+        Ok(outcome) => is_so(&outcome, replies, file),
+        Err(_) => false,
+    }
+}
+
 /// A host that is stopped ends a connection that is silent.
-pub(crate) fn stop_ends_open_connections<R>(rt: &R, alloc: Global) -> Result<bool, AllocError>
+pub(crate) fn stop_ends_open_connections<R>(rt: &R, alloc: Global) -> bool
 where
     R: Net<Listener = TcpListener, Stream = TcpStream> + Threads + Wait + Clock + Sync,
 {
     let visit = Visit::Open(WELCOME.len());
-    match visited(rt, alloc, &[FRESH, FRESH], ENOUGH, LOGIN, visit, setup()) {
-        Ok(outcome) => Ok(is_so(&outcome, WELCOME, FRESH)),
-        Err(_) => Ok(false),
-    }
+    leaves(rt, alloc, LOGIN, visit, setup(), WELCOME, FRESH)
 }
 
 /// Of an address that has as many connections as it may another one is closed, and isn't answered.
-pub(crate) fn address_has_a_limit<R>(rt: &R, alloc: Global) -> Result<bool, AllocError>
+pub(crate) fn address_has_a_limit<R>(rt: &R, alloc: Global) -> bool
 where
     R: Net<Listener = TcpListener, Stream = TcpStream> + Threads + Wait + Clock + Sync,
 {
@@ -53,14 +69,11 @@ where
         ..setup()
     };
     let visit = Visit::Second(WELCOME.len());
-    match visited(rt, alloc, &[FRESH, FRESH], ENOUGH, LOGIN, visit, setup) {
-        Ok(outcome) => Ok(is_so(&outcome, WELCOME, FRESH)),
-        Err(_) => Ok(false),
-    }
+    leaves(rt, alloc, LOGIN, visit, setup, WELCOME, FRESH)
 }
 
 /// What no reply waits for is on disk when a host has ended.
-pub(crate) fn stop_writes_what_is_left<R>(rt: &R, alloc: Global) -> Result<bool, AllocError>
+pub(crate) fn stop_writes_what_is_left<R>(rt: &R, alloc: Global) -> bool
 where
     R: Net<Listener = TcpListener, Stream = TcpStream> + Threads + Wait + Clock + Sync,
 {
@@ -74,22 +87,11 @@ where
     let lines = b"login alice k1\nstart 10 0 9 true\nrun 5\nlogout\n";
     let replies = b"+ welcome alice\n+ shoen 1\n+ 1\n+ bye\n";
     let file = b"journal 4 0 0\nstart 10 0 9 true\nrun 1\n";
-    match visited(
-        rt,
-        alloc,
-        &[FRESH, FRESH],
-        ENOUGH,
-        lines,
-        Visit::Whole,
-        setup,
-    ) {
-        Ok(outcome) => Ok(is_so(&outcome, replies, file)),
-        Err(_) => Ok(false),
-    }
+    leaves(rt, alloc, lines, Visit::Whole, setup, replies, file)
 }
 
 /// An account that has loaded what it may is refused a load as if memory was refused, and nothing else.
-pub(crate) fn loads_have_a_limit<R>(rt: &R, alloc: Global) -> Result<bool, AllocError>
+pub(crate) fn loads_have_a_limit<R>(rt: &R, alloc: Global) -> bool
 where
     R: Net<Listener = TcpListener, Stream = TcpStream> + Threads + Wait + Clock + Sync,
 {
@@ -100,16 +102,5 @@ where
     let lines = b"login alice k1\nload 12\n:- module f.\nload 12\n:- module g.\nmodules\nlogout\n";
     let replies = b"+ welcome alice\n+ loaded f\n- 10 memory\n+ 1\nf 12 0\n+ bye\n";
     let file = b"journal 4 0 0\nload 3a2d206d6f64756c6520662e\n";
-    match visited(
-        rt,
-        alloc,
-        &[FRESH, FRESH],
-        ENOUGH,
-        lines,
-        Visit::Whole,
-        setup,
-    ) {
-        Ok(outcome) => Ok(is_so(&outcome, replies, file)),
-        Err(_) => Ok(false),
-    }
+    leaves(rt, alloc, lines, Visit::Whole, setup, replies, file)
 }
