@@ -134,8 +134,12 @@ def speaks_of(line, function, texts):
         return False
     if place["file"] != function.file:
         return function.has_proof_in(place["file"])
-    lines = texts[function.file].split("\n")[: int(place["line"])]
-    return function_at(function.file, texts[function.file], sum(len(it) + 1 for it in lines)) == function
+    text = texts[function.file]
+    lines = text.split("\n")[: int(place["line"])]
+    end = sum(len(it) + 1 for it in lines)
+    # the place of a function is that of its first attribute
+    head = HEAD.search(text, end) if lines[-1].lstrip().startswith("#[") else None
+    return function_at(function.file, text, head.end() if head else end) == function
 
 
 def goal_of(told):

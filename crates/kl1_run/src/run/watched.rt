@@ -3,12 +3,13 @@
 use crate::run::asked::Asked;
 use crate::run::origins::Again;
 use crate::steps::{finish, observers_for};
+use crate::world::OwnWorld;
 use kl1_steps::ClausePlace;
-use kl1_timeline::draw_new;
+use kl1_timeline::{Observers, draw_new};
 use kl1_trace_work::{Texts, Viewer, watch_first};
 use kl1_watch::Names;
 use kl1_words::{Fault, FileId};
-use std::alloc::Global;
+use std::alloc::{AllocError, Global};
 
 /// What the lines of a trace are made with.
 fn texts_of<'a>(
@@ -23,6 +24,21 @@ fn texts_of<'a>(
         clauses,
         files,
     }
+}
+
+/// Begins the picture with the goals that are there, if there is one.
+fn begin_picture<W>(
+    world: &mut OwnWorld,
+    viewer: &mut Viewer<Observers<'_, W>>,
+) -> Result<(), AllocError> {
+    let begun = viewer.begun.as_slice();
+    draw_new(
+        &mut viewer.observer.timeline,
+        world,
+        &viewer.predicates,
+        begun,
+        0,
+    )
 }
 
 /// Does the work in an account of its own, and tells its steps as far as that is asked for.
@@ -48,14 +64,7 @@ pub fn tell_steps(
     let observers = observers_for(&asked.told, texts, rt.stderr())?;
     let is_waking = observers.is_waking();
     let mut viewer = Viewer::new(alloc, &mut world, observers, is_waking)?;
-    let begun = viewer.begun.as_slice();
-    draw_new(
-        &mut viewer.observer.timeline,
-        &mut world,
-        &viewer.predicates,
-        begun,
-        0,
-    )?;
+    begin_picture(&mut world, &mut viewer)?;
     let _last = watch_first(&mut world, asked.steps, &mut viewer)?;
     finish(
         rt,

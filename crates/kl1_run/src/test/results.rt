@@ -206,14 +206,12 @@ fn put_each(
     differences: &mut Vec<u8>,
 ) -> Result<bool, Fault> {
     let mut passed = true;
-    let mut number: u64 = 1;
-    let mut rest = tests;
-    while let [first, others @ ..] = rest {
-        let is_passed = put_result(alloc, files, first, differences)?;
-        put_line(lines, number, first, is_passed)?;
+    let mut number: u64 = 0;
+    for test in tests {
+        let is_passed = put_result(alloc, files, test, differences)?;
+        number = number.saturating_add(1);
+        put_line(lines, number, test, is_passed)?;
         passed &= is_passed;
-        number += 1;
-        rest = others;
     }
     Ok(passed)
 }
