@@ -16,5 +16,5 @@ pub use kl1_command::{
     Command, Parsed, Performed, command_in, parse, perform, put_lines, put_reply,
 };
 pub use kl1_lines::{DeviceFailed, FailureCounter, Request, ScriptFault, Sink, Source};
-pub use replays::{replay_over, run_replay, run_replay_over};
+pub use replays::{replay_file, replay_over, run_replay, run_replay_over};
 pub use scripts::{answer_over, run_script, run_script_over};
