@@ -26,6 +26,9 @@ use kl1_user::Rules;
 use std::alloc::Global;
 use std::sync::Wait;
 
+/// More bytes than any memory has, and few enough for lines and entries to be counted in 64 bits.
+const MOST_FILE_BYTES: usize = 1_099_511_627_776;
+
 /// Replays a journal: reads all of its text, or of a host's file, in which each line has a sum, and writes the replies to its entries. It
 /// may wait only when a code is put into the table of codes that it makes: `run_replay_over` does all the rest.
 pub fn run_replay<H: Wait, R: Source, W: Sink>(
@@ -67,11 +70,15 @@ pub fn replay_file<C: CodeSource + Drop, W: Sink>(
     text: &[u8],
     sink: &mut W,
 ) -> Result<(), ScriptFault>
-    requires { length text.now < 2 ^ 63 }
     ensures { Ends (W.contents sink.old) (W.contents sink.new) (W.failures sink.old) (W.failures sink.new) (file_output text.now) (file_replies text.now) result }
 {
     match plain_text(alloc, text) {
-        Ok(plain) => answer(alloc, codes, plain.as_slice(), sink),
+        Ok(plain) => {
+            if plain.len() > MOST_FILE_BYTES {
+                return Err(ScriptFault::Memory);
+            }
+            answer(alloc, codes, plain.as_slice(), sink)
+        }
         Err(_) => Err(ScriptFault::Memory),
     }
 }
