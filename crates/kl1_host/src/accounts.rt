@@ -17,7 +17,10 @@ pub struct Accounts {
 }
 
 /// The accounts of a folder, in the order of the lines of their file.
-pub fn accounts_in<R: Files<File = File> + AllocGlobal>(rt: &R, folder: &str) -> Result<Accounts, Fault> {
+pub fn accounts_in<R: Files<File = File> + AllocGlobal>(
+    rt: &R,
+    folder: &str,
+) -> Result<Accounts, Fault> {
     let alloc = rt.alloc();
     let path = path_in(alloc, folder, ACCOUNTS)?;
     let text = match read_file(rt, alloc, path.as_str()) {

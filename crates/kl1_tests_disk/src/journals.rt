@@ -10,8 +10,7 @@ use crate::journals::failing::{
 };
 use crate::journals::opened::{
     fault_is_told_or_repaired, file_without_bytes_begins_an_account,
-    file_without_sums_is_written_again,
-    same_text_is_not_written_again, torn_line_is_cut,
+    file_without_sums_is_written_again, same_text_is_not_written_again, torn_line_is_cut,
 };
 use crate::journals::waiting::{
     reply_waits_for_its_lines, reset_begins_the_file_anew, writer_waits_for_the_scribe,

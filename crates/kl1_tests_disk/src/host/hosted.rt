@@ -5,8 +5,8 @@ ghost use Rattle.kl1_session.specs.Views.{entries_view};
 ghost use Rattle.kl1_host_work.specs.AccountFiles.{names_of};
 ghost use Rattle.kl1_host_work.specs.Fronts.{names_in};
 
-use crate::sums::text_in;
 use crate::host::guest::{Guest, Visit, keys};
+use crate::sums::text_in;
 use kl1_host_journals::{OpenFault, open_file};
 use kl1_host_work::{AccountFile, Limits, Listeners, Setup, StartFault, Syncing, run_host};
 use kl1_log::{LogFile, Memory};

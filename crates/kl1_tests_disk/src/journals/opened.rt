@@ -79,7 +79,11 @@ pub(crate) fn file_without_sums_is_written_again(alloc: Global) -> Result<bool, 
     match linked(alloc, 3, text, ENOUGH)? {
         Some(linked) => {
             let bytes = on_disk(alloc, &linked.file)?;
-            let has_sums = linked.file.disk().left_by_crash(0, false)?.is_some_and(|file| file.len() > text.len());
+            let has_sums = linked
+                .file
+                .disk()
+                .left_by_crash(0, false)?
+                .is_some_and(|file| file.len() > text.len());
             Ok(!fewer && has_sums && bytes.as_slice() == text.as_slice())
         }
         None => Ok(false),

@@ -64,14 +64,22 @@ pub(crate) fn moved_line_is_told(alloc: Global) -> Result<bool, AllocError> {
         for second in first + 1..lines.len() {
             let mut moved = lines_in(alloc, file.as_slice())?;
             moved.as_mut_slice().swap(first, second);
-            if !is_told(alloc, joined(alloc, moved.as_slice())?.as_slice(), first + 1)? {
+            if !is_told(
+                alloc,
+                joined(alloc, moved.as_slice())?.as_slice(),
+                first + 1,
+            )? {
                 return Ok(false);
             }
         }
         let mut fewer = lines_in(alloc, file.as_slice())?;
         let _left_out = fewer.remove(first);
         if first + 1 < lines.len()
-            && !is_told(alloc, joined(alloc, fewer.as_slice())?.as_slice(), first + 1)?
+            && !is_told(
+                alloc,
+                joined(alloc, fewer.as_slice())?.as_slice(),
+                first + 1,
+            )?
         {
             return Ok(false);
         }
