@@ -5,11 +5,13 @@ use kl1_journal_entries::next_line;
 use kl1_sums::plain_text;
 use std::alloc::{AllocError, Global};
 
-/// What a line at fault is.
+/// What is wrong with a line.
 #[derive(Clone, Copy)]
 pub enum LineFault {
     /// It isn't what was written there, or doesn't follow the line before it.
     OtherSum,
+    /// It has its sum, and another byte in the place of its line feed.
+    NoFeed,
     /// It is none of a journal.
     NoEntry,
 }
@@ -19,25 +21,24 @@ impl LineFault {
     pub fn words(self) -> &'static str {
         match self {
             LineFault::OtherSum => "another sum",
+            LineFault::NoFeed => "no line feed",
             LineFault::NoEntry => "no entry of a journal",
         }
     }
 }
 
-/// Whether a text has a line of this number, the first being 1, and that has bytes.
-fn has_bytes(text: &[u8], line: u64) -> bool {
-    match next_line(&text[bytes_before(text, line)..]) {
-        Some((found, _)) => !found.is_empty(),
-        None => false,
-    }
+/// How many bytes the line of this number has, the first being 1; `None` if there is no such line that ends with a line feed.
+fn length_of(text: &[u8], line: u64) -> Option<usize> {
+    let (found, _) = next_line(&text[bytes_before(text, line)..])?;
+    Some(found.len())
 }
 
-/// Why a line of the file of a journal, the first being 1, is at fault: without its sum a line with another one has no bytes.
+/// Why a line of the file of a journal, the first being 1, is at fault: in the plain text one that hasn't its sum has no bytes.
 pub fn fault_in(alloc: Global, text: &[u8], line: u64) -> Result<LineFault, AllocError> {
     let plain = plain_text(alloc, text)?;
-    if has_bytes(text, line) && !has_bytes(plain.as_slice(), line) {
-        Ok(LineFault::OtherSum)
-    } else {
-        Ok(LineFault::NoEntry)
-    }
+    Ok(match (length_of(text, line), length_of(plain.as_slice(), line)) {
+        (None, _) => LineFault::NoFeed,
+        (Some(length), Some(0)) if length > 0 => LineFault::OtherSum,
+        _ => LineFault::NoEntry,
+    })
 }

@@ -67,7 +67,7 @@ pub fn start_fault(
             )
         }
         StartFault::Unlinked {
-            fault: LinkFault::Memory,
+            fault: LinkFault::Memory | LinkFault::Unwritten(LogError::Memory),
             ..
         }
         | StartFault::Memory => Fault::Memory,

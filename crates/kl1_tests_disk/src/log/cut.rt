@@ -32,8 +32,8 @@ fn is_found(alloc: Global, bytes: &[u8]) -> Result<bool, AllocError> {
             let lines = journal.text_lines(alloc)?;
             Ok(feeds >= OPENING && lines.len() == feeds && bytes == upto)
         }
+        Found::Fault { .. } => Ok(false),
         Found::Unopened => Ok(feeds < OPENING),
-        _ => Ok(false),
     }
 }
 

@@ -10,7 +10,6 @@ fn is_told(alloc: Global, bytes: &[u8], wanted: usize) -> Result<bool, AllocErro
     let (line, before) = match recover(alloc, bytes)? {
         Found::Whole { .. } => return Ok(false),
         Found::Fault { line, before } => (line, before),
-        Found::Spoilt { line, journal } => (line, journal),
         Found::Unopened => return Ok(wanted <= OPENING),
     };
     let lines = before.text_lines(alloc)?;

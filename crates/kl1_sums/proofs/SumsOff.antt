@@ -1,0 +1,1 @@
+-- Sums come off again.
