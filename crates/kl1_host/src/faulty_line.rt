@@ -36,9 +36,11 @@ fn length_of(text: &[u8], line: u64) -> Option<usize> {
 /// Why a line of the file of a journal, the first being 1, is at fault: in the plain text one that hasn't its sum has no bytes.
 pub fn fault_in(alloc: Global, text: &[u8], line: u64) -> Result<LineFault, AllocError> {
     let plain = plain_text(alloc, text)?;
-    Ok(match (length_of(text, line), length_of(plain.as_slice(), line)) {
-        (None, _) => LineFault::NoFeed,
-        (Some(length), Some(0)) if length > 0 => LineFault::OtherSum,
-        _ => LineFault::NoEntry,
-    })
+    Ok(
+        match (length_of(text, line), length_of(plain.as_slice(), line)) {
+            (None, _) => LineFault::NoFeed,
+            (Some(length), Some(0)) if length > 0 => LineFault::OtherSum,
+            _ => LineFault::NoEntry,
+        },
+    )
 }
