@@ -97,7 +97,8 @@ fn tell_line(rt: &HostRuntime, name: &str, text: &[u8], line: u64) -> Result<(),
     Ok(())
 }
 
-/// Looks at the sums of the journal of an account and replays it, and tells what it has, or where it is at fault; answers whether it is sound.
+/// Compares the sums of the journal of an account and replays it; tells what it has, or where it is at fault, and answers whether it is
+/// sound.
 fn check_journal(rt: &HostRuntime, folder: &str, name: &str) -> Result<bool, Fault> {
     let alloc = rt.alloc();
     let file = journal_in(alloc, folder, name.as_bytes())?;

@@ -50,7 +50,7 @@ pub fn refuse_pipe<R: Files>(rt: &R, path: &str) -> io::Result<()> {
 }
 
 /// What a file holds.
-pub fn read_file<R: Files<File = File>>(rt: &R, alloc: Global, path: &str) -> io::Result<Vec<u8>> {
+pub fn read_file<R: Files>(rt: &R, alloc: Global, path: &str) -> io::Result<Vec<u8>> {
     refuse_pipe(rt, path)?;
     let mut bytes = Vec::new(alloc);
     File::open(rt, path)?.read_to_end(&mut bytes)?;

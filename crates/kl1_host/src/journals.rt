@@ -38,7 +38,7 @@ struct Opening<'k, D: Disk> {
 }
 
 /// Why the file on this path isn't opened, if that is a line of it.
-fn why_of<R: Files<File = File>>(
+fn why_of<R: Files>(
     rt: &R,
     alloc: Global,
     path: &str,
