@@ -14,6 +14,7 @@ use std::alloc::{AllocError, Global};
 const BEFORE: usize = 17;
 
 /// The line that stands in a file as `line`, after one with the sum `prev`, with its sum, if that is right.
+#[tactic(auto, using(crate::proofs::Rightness::short_line, crate::proofs::Rightness::other_space))]
 fn right_line<'a>(prev: &Sum, line: &'a [u8]) -> Option<(Sum, &'a [u8])>
     ensures right { is_some result ≡ is_some (plain_line (digits_of prev.now) line.now) }
     ensures line { IfSome result (λ p. p.1.now ≡ drop 17 line.now) }
@@ -23,11 +24,14 @@ fn right_line<'a>(prev: &Sum, line: &'a [u8]) -> Option<(Sum, &'a [u8])>
         return None;
     }
     let plain = &line[BEFORE..];
-    let sum = prev.then(plain);
-    if sum.as_slice() != &line[..BEFORE - 1] || line[BEFORE - 1] != b' ' {
+    if line[BEFORE - 1] != b' ' {
         return None;
     }
-    Some((sum, plain))
+    let sum = prev.then(plain);
+    if sum.as_slice() == &line[..BEFORE - 1] {
+        return Some((sum, plain));
+    }
+    None
 }
 
 /// Whether a text is one of lines with sums: the first has its sum.
@@ -79,6 +83,7 @@ fn put_plain(out: &mut Vec<u8>, text: &[u8]) -> Result<(), AllocError>
 
 /// A text with sums or without as one without, with the same number of lines. From the first line on whose sum isn't right each is an empty
 /// one, which is no line of a journal; what is after the last line feed stays.
+#[tactic(auto, using(crate::proofs::SumTexts::text_stays))]
 pub fn plain_text(alloc: Global, text: &[u8]) -> Result<Vec<u8>, AllocError>
     ensures { IfOk result (λ plain. plain.items ≡ plain_text text.now) }
 {

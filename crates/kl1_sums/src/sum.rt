@@ -1,6 +1,8 @@
 // The sum of a line and of all before it.
 
-ghost use Rattle.std.specs.Prelude.{◌≡◌, []};
+ghost use Rattle.std.specs.Prelude.{◌≡◌, ◌++◌, [], take};
+ghost use Rattle.sha2.specs.Sha256.{sha256};
+ghost use Rattle.hex.specs.Hex.{encode_lower};
 ghost use Rattle.kl1_sums.specs.Sums.{sum_of, digits_before};
 ghost use Rattle.kl1_sums.specs.SumValues.{digits_of};
 
@@ -48,16 +50,32 @@ impl Sum {
     }
 
     /// The sum of these bytes after all that this one is the sum of.
+    #[tactic(auto, using(crate::proofs::Digits::sum_is))]
     pub fn then(&self, bytes: &[u8]) -> Self
         ensures { digits_of result ≡ sum_of (digits_of self.now) bytes.now }
     {
-        let mut hasher = Sha256::new();
-        hasher.update(self.as_slice());
-        hasher.update(bytes);
-        let mut digits = [0u8; DIGITS];
-        let _ = hex::encode_to_slice(&hasher.finalize()[..DIGITS / 2], &mut digits);
+        let digest = digest_of(self.as_slice(), bytes);
         Sum {
-            digits: Some(digits),
+            digits: Some(first_digits(&digest)),
         }
     }
+}
+
+/// The digest of two pieces, one after the other.
+fn digest_of(first: &[u8], second: &[u8]) -> [u8; 32]
+    ensures { result ≡ sha256 (first.now ++ second.now) }
+{
+    let mut hasher = Sha256::new();
+    hasher.update(first);
+    hasher.update(second);
+    hasher.finalize()
+}
+
+/// The first digits of a digest.
+fn first_digits(digest: &[u8; 32]) -> [u8; DIGITS]
+    ensures { result ≡ encode_lower (take 8 digest.now) }
+{
+    let mut digits = [0u8; DIGITS];
+    let _ = hex::encode_to_slice(&digest[..DIGITS / 2], &mut digits);
+    digits
 }

@@ -1,9 +1,9 @@
 // A text with sums.
 
-ghost use Rattle.std.specs.Prelude.{◌≡◌, ◌++◌, OnOk, IfOk};
+ghost use Rattle.std.specs.Prelude.{◌≡◌, ◌∷◌, ◌++◌, OnOk, IfOk};
 ghost use Rattle.kl1_model_server.specs.Command.{written_line};
 ghost use Rattle.kl1_model_server.specs.JournalText.{lines_of};
-ghost use Rattle.kl1_sums.specs.Sums.{sum_after, summed_line, summed_text};
+ghost use Rattle.kl1_sums.specs.Sums.{sum_after, summed_text};
 ghost use Rattle.kl1_sums.specs.SumValues.{digits_of};
 
 use crate::sum::Sum;
