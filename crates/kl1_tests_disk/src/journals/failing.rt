@@ -95,7 +95,7 @@ pub(crate) fn failed_file_stops_its_account_alone<R: Wait>(
     rt: &R,
     alloc: Global,
 ) -> Result<bool, AllocError> {
-    let Some(Shelf { mut files, keepers }) = Shelf::new(alloc, &[ENOUGH, 6])? else {
+    let Some(Shelf { mut files, keepers }) = Shelf::new(alloc, &[ENOUGH, 7])? else {
         return Ok(false);
     };
     let faults = Faults::new();

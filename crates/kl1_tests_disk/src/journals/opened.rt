@@ -7,8 +7,8 @@ use kl1_log::Memory;
 use kl1_model::Rules;
 use std::alloc::{AllocError, Global};
 
-/// What a file costs that is opened and linked, and whose text is that of its journal: a read, a cut, a read, an append of no bytes, a sync.
-const OPENED_AND_LINKED: usize = 5;
+/// What a file costs that is opened and linked, and is that of its journal: a read, a cut, two reads, an append of no bytes, a sync.
+const OPENED_AND_LINKED: usize = 6;
 
 /// A journal's text with a run in two pieces, which no account writes so.
 const IN_PIECES: &[u8] = b"journal 4 0 0\nrun 2\nrun 3\n";
