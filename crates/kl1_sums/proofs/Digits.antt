@@ -1,5 +1,5 @@
 -- The digits of a sum.
-use Rattle.std.proofs.Common.{◌≡◌, ℕ, zero, suc, ◌+◌, ◌/◌, ◌%◌, ◌==◌, not, Bool, true, List, [], ◌∷◌, ◌++◌, length, take, refl, sym, ap, ◌∙◌, arith}
+use Rattle.std.proofs.Common.{◌≡◌, ℕ, zero, suc, ◌/◌, ◌%◌, ◌==◌, not, Bool, true, List, [], ◌∷◌, ◌++◌, length, take, refl, ap, ◌∙◌, arith}
 use Rattle.std.specs.Prelude.{slice_index}
 use Rattle.std.specs.List.{list_all}
 use Rattle.std.proofs.lemmas.Bool.{and_parts, and_from}
@@ -55,7 +55,7 @@ pub sum_unbroken : (prev bytes : List ℕ) → avoids 10 (sum_of prev bytes) ≡
 sum_unbroken prev bytes = sum_avoids 10 prev bytes refl refl
 
 -- each byte has two digits
-twice : ℕ → ℕ
+abbrev twice : ℕ → ℕ
 twice zero = zero
 twice (suc n) = suc (suc (twice n))
 

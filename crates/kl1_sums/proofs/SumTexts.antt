@@ -1,13 +1,11 @@
 -- Texts with sums.
-use Rattle.std.proofs.Common.{◌≡◌, ℕ, zero, suc, ◌==◌, not, Bool, true, false, if◌then◌else◌, List, [], ◌∷◌, ◌++◌, length, take, drop, refl, sym, ap, ◌∙◌, arith, append_assoc}
+use Rattle.std.proofs.Common.{◌≡◌, ℕ, ◌==◌, not, Bool, true, false, if◌then◌else◌, List, [], ◌∷◌, ◌++◌, length, drop, refl, sym, ap, ◌∙◌, arith}
 use Rattle.std.specs.Prelude.{Option, Some, None, is_some, bytes_eq}
-use Rattle.std.specs.List.{list_all}
-use Rattle.std.proofs.lemmas.Bool.{and_parts, false≢true, eqb-true}
+use Rattle.std.proofs.lemmas.Bool.{and_parts, false≢true, eq-eqb}
 use Rattle.std.proofs.lemmas.List.{append-nil}
 use Rattle.std.proofs.lemmas.Slice.Eq.{bytes_eq-Decides}
-use Rattle.kl1_model_server.specs.Command.{written_line, written_lines}
+use Rattle.kl1_model_server.specs.Command.{written_lines}
 use Rattle.kl1_model_server.specs.JournalText.{Lines, lines_of, Heading, heading_in, heading_line}
-use Rattle.kl1_model_server.specs.laws.TextLaws.{is_unbroken}
 use Rattle.kl1_model_server.proofs.TextLines.{lines_of_lines, texts_are_lines}
 use Rattle.kl1_model_server.proofs.TextNames.{strict_lines_are_headings}
 use Rattle.kl1_sums.specs.Sums.{sum_of, summed_line, summed_lines, summed_text, sum_after, plain_line, plain_from, have_sums, plain_lines, plain_text, last_digits, last_sum}
@@ -67,7 +65,7 @@ no_first c [] xs ys size h is = absurd (omega (arith, size))
 no_first c (b ∷ bs) xs ys size h is =
     let other = (and_parts (not (b == c)) (avoids c bs) h).0 in
     let same : b ≡ c = ap (λ (l : List ℕ). elim l [ [] ↦ c | x ∷ rest ↦ x ]) (sym is) in
-    absurd (omega (arith, same, other))
+    false≢true (sym (ap not (eq-eqb b c same)) ∙ other)
 
 pub none_by : (b : Bool) (line other plain : List ℕ) → bytes_eq line other ≡ b → (line ≡ other → ⊥) → is_some (if◌then◌else◌ {A = Option (List ℕ)} b (Some plain) None) ≡ false
 none_by true line other plain is differ = absurd (differ ((bytes_eq-Decides line other).0 is))

@@ -1,16 +1,15 @@
 -- Sums come off again.
-use Rattle.std.proofs.Common.{◌≡◌, ℕ, zero, suc, ◌+◌, ◌≤◌, ◌==◌, not, ◌⊎◌, Bool, true, false, if◌then◌else◌, List, [], ◌∷◌, ◌++◌, length, take, drop, refl, sym, ap, ◌∙◌, arith, inl, inr, append_assoc}
+use Rattle.std.proofs.Common.{◌≡◌, ℕ, zero, suc, ◌==◌, not, Bool, true, false, if◌then◌else◌, List, [], ◌∷◌, ◌++◌, length, take, drop, refl, sym, ap, ◌∙◌, arith, append_assoc}
 use Rattle.std.specs.Prelude.{Option, Some, None, is_some, bytes_eq, nat_le}
 use Rattle.std.specs.List.{list_all}
 use Rattle.std.proofs.Math.Seq.{take-append_seam, drop-append_seam}
-use Rattle.std.proofs.lemmas.Bool.{and_parts, and_from, false≢true, eqb-true}
-use Rattle.std.proofs.lemmas.List.{length-append, take-append-le}
-use Rattle.std.proofs.lemmas.Option.{none-some, same_Some}
+use Rattle.std.proofs.lemmas.Bool.{and_parts, and_from}
+use Rattle.std.proofs.lemmas.List.{length-append}
 use Rattle.std.proofs.lemmas.Slice.Eq.{bytes_eq-Decides}
 use Rattle.kl1_model_server.specs.laws.TextLaws.{is_unbroken}
 use Rattle.kl1_sums.specs.Sums.{sum_of, summed_line, summed_lines, sum_after, plain_line, emptied, plain_from, have_sums, plain_lines, digits_before, last_digits}
 use Rattle.kl1_sums.specs.laws.SumLaws.{SumsComeOff, FrontsAreFronts, LinesStay}
-use Rattle.kl1_sums.proofs.Digits.{avoids, length_sum, sum_unbroken}
+use Rattle.kl1_sums.proofs.Digits.{length_sum, sum_unbroken}
 
 -- ---- one line
 

@@ -5,7 +5,7 @@ use Rattle.std.proofs.lemmas.Bool.{and_from}
 use Rattle.std.proofs.lemmas.List.{append-nil}
 use Rattle.std.proofs.lemmas.List.Folds.{list_all-append}
 use Rattle.kl1_model_server.specs.Command.{written_line, written_lines}
-use Rattle.kl1_model_server.specs.JournalText.{Lines, lines_of}
+use Rattle.kl1_model_server.specs.JournalText.{lines_of}
 use Rattle.kl1_model_server.specs.laws.TextLaws.{is_unbroken}
 use Rattle.kl1_model_server.proofs.TextLines.{lines_of_lines, texts_are_lines}
 

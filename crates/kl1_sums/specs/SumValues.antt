@@ -1,5 +1,5 @@
 -- What a sum is.
-use Rattle.std.specs.Prelude.{ℕ, List, [], Option, Some, None}
+use Rattle.std.specs.Prelude.{ℕ, List, [], Some, None}
 use Rattle.kl1_sums.specs.declared.sum.Sum.{Sum}
 
 -- its digits, of which there are 16 or none

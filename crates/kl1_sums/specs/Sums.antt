@@ -1,5 +1,5 @@
 -- Lines with sums: each line of a text after the sum of it and of all before it.
-use Rattle.std.specs.Prelude.{ℕ, ◌-◌, nat_le, Bool, true, false, if◌then◌else◌, List, [], ◌∷◌, ◌++◌, length, take, drop, bytes_eq, Option, Some, None, is_some}
+use Rattle.std.specs.Prelude.{ℕ, ◌-◌, nat_le, Bool, false, if◌then◌else◌, List, [], ◌∷◌, ◌++◌, length, take, drop, bytes_eq, Option, Some, None, is_some}
 use Rattle.sha2.specs.Sha256.{sha256}
 use Rattle.hex.specs.Hex.{encode_lower}
 use Rattle.kl1_model_server.specs.Command.{written_lines}

@@ -1,6 +1,6 @@
 // A text without its sums.
 
-ghost use Rattle.std.specs.Prelude.{◌≡◌, ◌++◌, [], is_some, drop, OnOk, IfOk, IfSome};
+ghost use Rattle.std.specs.Prelude.{◌≡◌, ◌≤◌, ◌++◌, [], is_some, length, drop, OnOk, IfOk, IfSome};
 ghost use Rattle.kl1_model_server.specs.Command.{written_line, written_lines};
 ghost use Rattle.kl1_model_server.specs.JournalText.{lines_of};
 ghost use Rattle.kl1_sums.specs.Sums.{sum_of, plain_line, plain_from, emptied, have_sums, plain_text, last_sum, is_spoilt};
@@ -13,6 +13,14 @@ use std::alloc::{AllocError, Global};
 /// How many bytes stand before a line: its sum, and a space.
 const BEFORE: usize = 17;
 
+/// What is after the sum of a line and its space.
+fn behind_sum(line: &[u8]) -> &[u8]
+    requires { 17 ≤ length line.now }
+    ensures { result.now ≡ drop 17 line.now }
+{
+    &line[BEFORE..]
+}
+
 /// The line that stands in a file as `line`, after one with the sum `prev`, with its sum, if that is right.
 #[tactic(auto, using(crate::proofs::Rightness::short_line, crate::proofs::Rightness::other_space))]
 fn right_line<'a>(prev: &Sum, line: &'a [u8]) -> Option<(Sum, &'a [u8])>
@@ -23,7 +31,7 @@ fn right_line<'a>(prev: &Sum, line: &'a [u8]) -> Option<(Sum, &'a [u8])>
     if line.len() < BEFORE {
         return None;
     }
-    let plain = &line[BEFORE..];
+    let plain = behind_sum(line);
     if line[BEFORE - 1] != b' ' {
         return None;
     }
