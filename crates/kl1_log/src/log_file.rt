@@ -3,7 +3,7 @@
 ghost use Rattle.std.specs.Prelude.{IsTrue};
 ghost use Rattle.kl1_log.specs.Batches.{text_of};
 ghost use Rattle.kl1_log.specs.Files.{is_at_rest};
-ghost use Rattle.kl1_log.specs.LogFiles.{IsLastSum};
+ghost use Rattle.kl1_log.specs.LastSums.{IsLastSum};
 
 use crate::disk::Disk;
 use kl1_sums::Sum;

@@ -5,7 +5,7 @@ ghost use Rattle.kl1_sums.specs.Sums.{summed_text, last_sum};
 ghost use Rattle.kl1_sums.specs.SumValues.{digits_of};
 ghost use Rattle.kl1_log.specs.Files.{AtAnyMoment, is_at_rest};
 ghost use Rattle.kl1_log.specs.Batches.{text_after, text_of, IsLeftOfKnown, IsAppendedInPart, IsSummedInPart, IsOldOrNew};
-ghost use Rattle.kl1_log.specs.LogFiles.{IsLastOf, IsLastSum, IsUnmade};
+ghost use Rattle.kl1_log.specs.LastSums.{IsLastOf, IsLastSum, IsUnmade};
 
 use crate::change::Change;
 use crate::disk::Disk;
@@ -88,6 +88,7 @@ fn last_of<D: Disk>(disk: &mut D, last: &Option<Sum>, alloc: Global) -> io::Resu
 
 /// Puts lines, each with its sum, after those of a file that is at rest, and has them on disk. The last sum is known then if the file was of
 /// whole lines.
+#[tactic(auto, using(crate::proofs::LastSums::append_text, crate::proofs::LastSums::append_so, crate::proofs::LastSums::append_last, crate::proofs::Restoring::stayed))]
 fn append_lines<D: Disk>(
     disk: &mut D,
     last: &Option<Sum>,
@@ -117,6 +118,7 @@ fn append_lines<D: Disk>(
 }
 
 /// Puts other lines, each with its sum, in place of those of a file that is at rest, and has them on disk.
+#[tactic(auto, using(crate::proofs::LastSums::begin_text, crate::proofs::LastSums::begin_so, crate::proofs::LastSums::begin_last, crate::proofs::Restoring::stayed))]
 fn begin_lines<D: Disk>(disk: &mut D, lines: &Vec<u8>) -> Result<Option<Sum>, LogError>
     requires usable { IsTrue (D.is_usable disk.old) }
     requires at_rest { IsTrue (is_at_rest (D.known disk.old)) }

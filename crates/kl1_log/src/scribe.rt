@@ -37,6 +37,7 @@ impl<D: Disk> LogFile<D> {
     }
 
     /// Writes a batch, each line with its sum, and has it on disk. On an error nothing that isn't on disk is told, and after one of a call the file gets nothing more.
+    #[tactic(auto, using(crate::proofs::LastSums::unmade_rests, crate::proofs::LastSums::unmade_last, crate::proofs::LastSums::unmade_cause, crate::proofs::LastSums::unmade_failed))]
     pub fn write(&mut self, batch: Batch) -> Result<Receipt, LogError>
         ensures receipt { IfOk result (λ r. (receipts.account_of r ≡ batch.account) × (receipts.changes_of r ≡ batch.noted)) }
         ensures next { OnOk result ((batch.account ≡ account_of self.old) × (batch.taken ≡ changes_of self.old)) }
