@@ -16,7 +16,7 @@ use Rattle.kl1_log.specs.Cuts.{whole_text}
 use Rattle.kl1_log.specs.Files.{content, Known, IfKnown, AtAnyMoment, is_nil, is_at_rest}
 use Rattle.kl1_log.specs.Batches.{text_of, IsAppendedInPart, IsSummedInPart, IsOldOrNew}
 use Rattle.kl1_log.specs.LastSums.{IsLastOf, is_last_sum, IsUnmade}
-use Rattle.kl1_log.specs.LogFiles.{IsCause, IsFailed}
+use Rattle.kl1_log.specs.LogFiles.{IsCause, IsKept, IsFailed}
 use Rattle.kl1_log.specs.declared.log_error.LogError.{LogError}
 use Rattle.kl1_log.specs.declared.log_error.LogError.TheVariants.{Stopped, NotNext, Memory, Failed}
 
@@ -116,13 +116,13 @@ begin_last t u digits bytes lines new none so is ends =
 pub unmade_rests : (e : LogError) (k l : Known) (usable : Bool) → IsUnmade e usable (l ≡ k) → is_at_rest k ≡ true → usable ≡ true → is_at_rest l ≡ true
 unmade_rests Stopped k l usable h rest is = absurd h
 unmade_rests NotNext k l usable h rest is = absurd h
-unmade_rests Memory k l usable h rest is = ap is_at_rest h ∙ rest
+unmade_rests Memory k l usable h rest is = ap is_at_rest h.0 ∙ rest
 unmade_rests (Failed error) k l usable h rest is = absurd (false≢true (sym h ∙ is))
 
 pub unmade_last : (e : LogError) (k l : Known) (usable : Bool) (s : Option Sum) → IsUnmade e usable (l ≡ k) → is_last_sum s (text_of k) ≡ true → usable ≡ true → is_last_sum s (text_of l) ≡ true
 unmade_last Stopped k l usable s h last is = absurd h
 unmade_last NotNext k l usable s h last is = absurd h
-unmade_last Memory k l usable s h last is = ap (λ (x : Known). is_last_sum s (text_of x)) h ∙ last
+unmade_last Memory k l usable s h last is = ap (λ (x : Known). is_last_sum s (text_of x)) h.0 ∙ last
 unmade_last (Failed error) k l usable s h last is = absurd (false≢true (sym h ∙ is))
 
 pub unmade_cause : (e : LogError) (u usable : Bool) (next same : Type 0) → IsUnmade e usable same → IsCause u next e
@@ -130,6 +130,12 @@ unmade_cause Stopped u usable next same h = absurd h
 unmade_cause NotNext u usable next same h = absurd h
 unmade_cause Memory u usable next same h = tt
 unmade_cause (Failed error) u usable next same h = tt
+
+pub unmade_kept : (e : LogError) (usable : Bool) (same : Type 0) → IsUnmade e usable same → IsKept e (same × (usable ≡ true))
+unmade_kept Stopped usable same h = tt
+unmade_kept NotNext usable same h = tt
+unmade_kept Memory usable same h = h
+unmade_kept (Failed error) usable same h = tt
 
 pub unmade_failed : (T : Type 0) (e : LogError) (usable : Bool) (same : Type 0) → IsUnmade e usable same → IsFailed {T = T} (Err e) → usable ≡ false
 unmade_failed T Stopped usable same h failed = absurd h

@@ -19,9 +19,10 @@ is_last_sum None text = true
 is_last_sum (Some sum) None = true
 is_last_sum (Some sum) (Some text) = bytes_eq (digits_of sum) (last_sum text) && is_nil (lines_of text).rest
 
--- a change wasn't made: since memory was refused, and all is as it was; or since a call failed, after which no other is to be made
+-- a change wasn't made: since memory was refused, all is as it was, and it can be made again; or since a call failed, after which no other is
+-- to be made
 abbrev pub IsUnmade : LogError → Bool → Type 0 → Type 0
 IsUnmade Stopped usable same = ⊥
 IsUnmade NotNext usable same = ⊥
-IsUnmade Memory usable same = same
+IsUnmade Memory usable same = same × (usable ≡ true)
 IsUnmade (Failed error) usable same = usable ≡ false
