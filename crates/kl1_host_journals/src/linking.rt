@@ -69,7 +69,7 @@ pub fn link<D: Disk + Drop>(
     };
     let mut waiting = Waiting::over(alloc, account, bytes.as_slice(), journal)?;
     let mut file = LogFile::new(disk, account);
-    match file.write(waiting.take()) {
+    match file.write(&waiting.take()) {
         Ok(receipt) => Ok(Linked {
             file,
             notes: Notes::new(waiting, generation),

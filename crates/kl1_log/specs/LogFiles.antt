@@ -26,6 +26,13 @@ IsCause usable next NotNext = next → ⊥
 IsCause usable next Memory = ⊤
 IsCause usable next (Failed error) = ⊤
 
+-- if memory was refused, this holds
+abbrev pub IsKept : LogError → Type 0 → Type 0
+IsKept Stopped P = ⊤
+IsKept NotNext P = ⊤
+IsKept Memory P = P
+IsKept (Failed error) P = ⊤
+
 -- a call of the file failed
 abbrev pub IsFailed : {T : Type 0} → Result T LogError → Type 0
 IsFailed (Ok t) = ⊥

@@ -42,7 +42,6 @@ fn noted_after(noted: u64, bytes: &[u8]) -> Result<u64, AllocError>
 impl Waiting {
     /// What waits for a file of this account that has the bytes `text`: nothing, if they are the text of the journal with no session open, each
     /// line with its sum, and otherwise that the file is begun anew.
-    #[tactic(auto, using(crate::proofs::Waits::own_file, crate::proofs::Waits::taken_file, crate::proofs::Waits::taken_fits, crate::proofs::Waits::anew_file, crate::proofs::Waits::anew_fits))]
     pub fn over(
         alloc: Global,
         account: u32,
@@ -90,7 +89,6 @@ impl Waiting {
     }
 
     /// Notes that the journal has begun anew.
-    #[tactic(auto, using(crate::proofs::Waits::anew_file, crate::proofs::Waits::anew_fits))]
     pub fn note_reset(&mut self, journal: &Journal) -> Result<(), AllocError>
         ensures ok { OnOk result ((text : List ℕ) → IsUpTo self.new text journal.now.journal) }
         ensures count { OnOk result (CountsOn self.old self.new) }
