@@ -74,7 +74,9 @@ pub(crate) fn moved_line_is_told(alloc: Global) -> Result<bool, AllocError> {
             }
         }
         let mut fewer = lines_in(alloc, file.as_slice())?;
-        let _left_out = fewer.remove(first);
+        if first < fewer.len() {
+            let _left_out = fewer.remove(first);
+        }
         if first + 1 < lines.len()
             && !is_told(
                 alloc,
