@@ -2,3 +2,5 @@ pub mod Resting
 pub mod Opens
 pub mod LinkedFiles
 pub mod Noting
+pub mod Chains
+pub mod Adding

@@ -1,4 +1,13 @@
 pub mod Notes
+pub mod Editions
+pub mod Histories
+pub mod Places
+pub mod Drafts
+pub mod StoredPlaces
+pub mod HeldLeaves
+pub mod Parcels
+pub mod KeptFiles
+pub mod Notebooks
 pub mod Outgoings
 pub mod Openings
 pub mod Links

@@ -1,7 +1,9 @@
 // Who writes to the file of an account.
 
+use crate::history::Naming;
 use crate::keeper::Keeper;
-use kl1_log::{Disk, LogError, LogFile};
+use crate::kept_file::KeptFile;
+use kl1_log::{Disk, LogError};
 use std::sync::Wait;
 use std::time::{Clock, Duration};
 
@@ -12,15 +14,15 @@ pub trait FaultTeller {
 
 /// Writes what waits for the file of an account. Each account has its own, so that one doesn't wait for the disk of another.
 #[derive(Drop)]
-pub struct Scribe<'k, D: Disk> {
+pub struct Scribe<'k, D: Disk, J: Naming> {
     account: usize,
-    keeper: &'k Keeper,
-    file: LogFile<D>,
+    keeper: &'k Keeper<J>,
+    file: KeptFile<D, J>,
 }
 
-impl<'k, D: Disk + Drop> Scribe<'k, D> {
+impl<'k, D: Disk + Drop, J: Naming> Scribe<'k, D, J> {
     /// The scribe of the account of this number, with its keeper and its file.
-    pub fn new(account: usize, keeper: &'k Keeper, file: LogFile<D>) -> Self {
+    pub fn new(account: usize, keeper: &'k Keeper<J>, file: KeptFile<D, J>) -> Self {
         Scribe {
             account,
             keeper,
@@ -29,12 +31,12 @@ impl<'k, D: Disk + Drop> Scribe<'k, D> {
     }
 
     /// The file.
-    pub fn file(&self) -> &LogFile<D> {
+    pub fn file(&self) -> &KeptFile<D, J> {
         &self.file
     }
 
     /// The file, given back.
-    pub fn into_file(self) -> LogFile<D> {
+    pub fn into_file(self) -> KeptFile<D, J> {
         self.file
     }
 
@@ -43,12 +45,11 @@ impl<'k, D: Disk + Drop> Scribe<'k, D> {
         if self.keeper.on_disk().is_stopped() {
             return;
         }
-        let batch = self.keeper.take(rt);
-        if batch.taken == batch.noted {
+        let Some(parcel) = self.keeper.take(rt) else {
             return;
-        }
-        match self.file.write(batch) {
-            Ok(receipt) => self.keeper.on_disk().publish(rt, receipt),
+        };
+        match self.file.write(parcel) {
+            Ok(stored) => self.keeper.on_disk().publish(rt, stored),
             Err(error) => {
                 self.keeper.on_disk().stop(rt);
                 faults.tell(self.account, error);

@@ -31,3 +31,10 @@ IsFailed (Ok t) = ⊥
 IsFailed (Err (Failed error)) = ⊤
 IsFailed (Err Stopped) = ⊥
 IsFailed (Err NotNext) = ⊥
+
+-- no call of the file was made
+abbrev pub IsUntouched : {T : Type 0} → Result T LogError → Type 0
+IsUntouched (Ok t) = ⊥
+IsUntouched (Err (Failed error)) = ⊥
+IsUntouched (Err Stopped) = ⊤
+IsUntouched (Err NotNext) = ⊤

@@ -5,6 +5,8 @@ use Rattle.kl1_log.specs.Deeds.{IsFile}
 use Rattle.kl1_log.specs.Later.{IsMark}
 use Rattle.kl1_log.specs.Batches.{text_after}
 use Rattle.kl1_log.specs.declared.batch.Batch.{Batch}
+use Rattle.kl1_log.specs.declared.change.Change.{Change}
+use Rattle.kl1_log.specs.declared.mark.Mark.{Mark}
 use Rattle.kl1_log.specs.declared.waiting.Waiting.{Waiting}
 
 -- the account that it is for
@@ -18,6 +20,14 @@ noted_of w = w.noted
 -- how many of them were taken
 abbrev pub taken_of : Waiting → ℕ
 taken_of w = w.taken
+
+-- up to where the journal was put into its file
+abbrev pub mark_of : Waiting → Mark
+mark_of w = w.mark
+
+-- what the file is to get
+abbrev pub change_of : Waiting → Change
+change_of w = w.change
 
 -- a file of this text is one of this journal once it has got what waits, and the mark is at the journal's end
 pub record IsUpTo (w : Waiting) (text : List ℕ) (j : Journal) : Type 0 where

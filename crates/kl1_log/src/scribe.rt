@@ -3,7 +3,7 @@
 ghost use Rattle.std.specs.Prelude.{◌≡◌, IfOk, IfErr, OnOk, IsErr, IsTrue, false, option_map, MatchResult};
 ghost use Rattle.kl1_log.specs.Files.{AtAnyMoment, is_at_rest};
 ghost use Rattle.kl1_log.specs.Batches.{text_after, text_of, IsLeftOfKnown};
-ghost use Rattle.kl1_log.specs.LogFiles.{account_of, changes_of, disk_of, IsCause, IsFailed};
+ghost use Rattle.kl1_log.specs.LogFiles.{account_of, changes_of, disk_of, IsCause, IsFailed, IsUntouched};
 ghost use Rattle.kl1_log.specs.Receipts as receipts;
 
 use crate::batch::Batch;
@@ -43,6 +43,7 @@ impl<D: Disk> LogFile<D> {
         ensures any_moment { AtAnyMoment (D.known (disk_of self.old)) (D.known (disk_of self.new)) (IsLeftOfKnown (D.known (disk_of self.old)) batch.change) }
         ensures stopped { D.is_usable (disk_of self.old) ≡ false → IsErr result × (D.known (disk_of self.new) ≡ D.known (disk_of self.old)) × (D.is_usable (disk_of self.new) ≡ false) }
         ensures cause { IfErr result (IsCause (D.is_usable (disk_of self.old)) ((batch.account ≡ account_of self.old) × (batch.taken ≡ changes_of self.old))) }
+        ensures untouched { IsUntouched result → disk_of self.new ≡ disk_of self.old }
         ensures failed { IsFailed result → D.is_usable (disk_of self.new) ≡ false }
         ensures count { (account_of self.new ≡ account_of self.old) × MatchResult result (λ r. changes_of self.new ≡ receipts.changes_of r) (λ _. changes_of self.new ≡ changes_of self.old) }
     {

@@ -1,4 +1,4 @@
-use Rattle.std.proofs.Common.{ℕ, List, ◌++◌, ap, ◌∙◌}
+use Rattle.std.proofs.Common.{ℕ, List, ◌++◌, ap, sym, ◌∙◌}
 use Rattle.kl1_log.specs.Batches.{text_after}
 use Rattle.kl1_log.proofs.Waits.{same_file}
 use Rattle.kl1_log.proofs.waiting.Waiting.note.Goals as goal
@@ -13,3 +13,6 @@ returns-clause-ok c = λ text old up later.
           (c.in_ok-bytes.ensures.file old front up.mark later up.file);
       mark = c.in_ok-bytes.ensures.mark old up.mark later;
     }
+
+pub returns-clause-longer : goal.returns-clause-longer
+returns-clause-longer c = λ text. (c.deref.result.now, sym (c.extend.ensures.ok text))

@@ -1,0 +1,58 @@
+// The file of an account, with what it holds.
+
+ghost use Rattle.std.specs.Prelude.{◌≡◌, IfOk, OnOk, IsTrue, false, option_map};
+ghost use Rattle.std.proofs.Props.{props};
+ghost use Rattle.kl1_log.specs.Files.{AtAnyMoment, is_at_rest};
+ghost use Rattle.kl1_log.specs.Batches.{text_of, IsLeftOfKnown};
+ghost use Rattle.kl1_log.specs.LogFiles.{disk_of, account_of as account_of_file, changes_of, IsFailed};
+ghost use Rattle.kl1_host_journals.specs.Places.{account_of, edition_of};
+ghost use Rattle.kl1_host_journals.specs.Parcels.{batch_of, end_of};
+ghost use Rattle.kl1_host_journals.specs.StoredPlaces.{place_of as stored_place_of};
+ghost use Rattle.kl1_host_journals.specs.KeptFiles.{file_of, place_of, IsTextOf};
+
+use crate::history::Naming;
+use crate::parcel::Parcel;
+use crate::place::Place;
+use crate::stored::Stored;
+use kl1_log::{Disk, LogError, LogFile};
+
+/// The file of an account with what it holds, as long as no call of it has failed.
+pub struct KeptFile<D: Disk, J: Naming> {
+    pub(crate) file: LogFile<D>,
+    pub(crate) place: Place<J>,
+    ghost account: { account_of place ≡ account_of_file file },
+    ghost number: { (edition_of place).number ≡ changes_of file },
+    ghost text: { IsTrue (D.is_usable (disk_of file)) → text_of (D.known (disk_of file)) ≡ option_map (λ _. (edition_of place).text) (D.known (disk_of file)) } by { Prim.hlevel props },
+}
+
+/// Not derived, so that crates above don't prove the drop of each part again.
+impl<D: Disk + Drop, J: Naming> Drop for KeptFile<D, J> {
+    fn drop(self) {
+        let KeptFile { file, place } = self;
+        let _ = (file, place);
+    }
+}
+
+impl<D: Disk, J: Naming> KeptFile<D, J> {
+    /// The file.
+    pub fn file(&self) -> &LogFile<D>
+        ensures { result.now ≡ file_of self.now }
+    {
+        &self.file
+    }
+
+    /// Writes what was taken, and has it on disk. On an error nothing that isn't on disk is told.
+    pub fn write(&mut self, parcel: Parcel<J>) -> Result<Stored<J>, LogError>
+        ensures stored { IfOk result (λ s. stored_place_of s ≡ end_of parcel) }
+        ensures place { OnOk result (place_of self.new ≡ end_of parcel) }
+        ensures on_disk { OnOk result (IsTrue (is_at_rest (D.known (disk_of (file_of self.new)))) × IsTextOf (D.known (disk_of (file_of self.new))) (edition_of (end_of parcel)).text) }
+        ensures any_moment { AtAnyMoment (D.known (disk_of (file_of self.old))) (D.known (disk_of (file_of self.new))) (IsLeftOfKnown (D.known (disk_of (file_of self.old))) (batch_of parcel).change) }
+        ensures failed { IsFailed result → D.is_usable (disk_of (file_of self.new)) ≡ false }
+    {
+        let Parcel { batch, from, to } = parcel;
+        let receipt = self.file.write(batch)?;
+        self.place.shows_same(&from);
+        self.place = to.again();
+        Ok(Stored { receipt, place: to })
+    }
+}
