@@ -4,3 +4,5 @@ pub mod LinkedFiles
 pub mod Noting
 pub mod Chains
 pub mod Adding
+pub mod KeptFiles
+pub mod Reading

@@ -6,6 +6,7 @@ pub mod Drafts
 pub mod StoredPlaces
 pub mod HeldLeaves
 pub mod Parcels
+pub mod Texts
 pub mod KeptFiles
 pub mod Notebooks
 pub mod Outgoings
@@ -14,3 +15,4 @@ pub mod Links
 pub mod OpenFaults
 pub mod Gates
 pub mod SyncedWriters
+pub mod Keeping

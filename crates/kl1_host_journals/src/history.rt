@@ -62,6 +62,7 @@ impl Naming for Brand {
 }
 
 /// A history without editions, which belongs to no account yet.
+#[derive(Drop)]
 pub struct FreshHistory {
     head: Word<Edition, u64, Law>,
     seen: Seen<Edition, u64, Law>,

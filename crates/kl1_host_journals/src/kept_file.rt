@@ -8,7 +8,7 @@ ghost use Rattle.kl1_log.specs.LogFiles.{disk_of, account_of as account_of_file,
 ghost use Rattle.kl1_host_journals.specs.Places.{account_of, edition_of};
 ghost use Rattle.kl1_host_journals.specs.Parcels.{batch_of, end_of};
 ghost use Rattle.kl1_host_journals.specs.StoredPlaces.{place_of as stored_place_of};
-ghost use Rattle.kl1_host_journals.specs.KeptFiles.{file_of, place_of, IsTextOf};
+ghost use Rattle.kl1_host_journals.specs.Texts.{IsTextOf};
 
 use crate::history::Naming;
 use crate::parcel::Parcel;
@@ -36,7 +36,7 @@ impl<D: Disk + Drop, J: Naming> Drop for KeptFile<D, J> {
 impl<D: Disk, J: Naming> KeptFile<D, J> {
     /// The file.
     pub fn file(&self) -> &LogFile<D>
-        ensures { result.now ≡ file_of self.now }
+        ensures { result.now ≡ self.now.file }
     {
         &self.file
     }
@@ -44,10 +44,10 @@ impl<D: Disk, J: Naming> KeptFile<D, J> {
     /// Writes what was taken, and has it on disk. On an error nothing that isn't on disk is told.
     pub fn write(&mut self, parcel: Parcel<J>) -> Result<Stored<J>, LogError>
         ensures stored { IfOk result (λ s. stored_place_of s ≡ end_of parcel) }
-        ensures place { OnOk result (place_of self.new ≡ end_of parcel) }
-        ensures on_disk { OnOk result (IsTrue (is_at_rest (D.known (disk_of (file_of self.new)))) × IsTextOf (D.known (disk_of (file_of self.new))) (edition_of (end_of parcel)).text) }
-        ensures any_moment { AtAnyMoment (D.known (disk_of (file_of self.old))) (D.known (disk_of (file_of self.new))) (IsLeftOfKnown (D.known (disk_of (file_of self.old))) (batch_of parcel).change) }
-        ensures failed { IsFailed result → D.is_usable (disk_of (file_of self.new)) ≡ false }
+        ensures place { OnOk result (self.new.place ≡ end_of parcel) }
+        ensures on_disk { OnOk result (IsTrue (is_at_rest (D.known (disk_of self.new.file))) × IsTextOf (D.known (disk_of self.new.file)) (edition_of (end_of parcel)).text) }
+        ensures any_moment { AtAnyMoment (D.known (disk_of self.old.file)) (D.known (disk_of self.new.file)) (IsLeftOfKnown (D.known (disk_of self.old.file)) (batch_of parcel).change) }
+        ensures failed { IsFailed result → D.is_usable (disk_of self.new.file) ≡ false }
     {
         let Parcel { batch, from, to } = parcel;
         let receipt = self.file.write(batch)?;

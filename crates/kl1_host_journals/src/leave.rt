@@ -20,6 +20,7 @@ impl Connecting for Brand {
 }
 
 /// A connection that is new, with the one leave that it will ever have.
+#[derive(Drop)]
 pub struct FreshConnection {
     pen: Pen,
     pub ghost right: { pen.nib ≡ nib may_make_home 0 0 },

@@ -7,7 +7,6 @@ ghost use Rattle.kl1_host_journals.specs.Notes.{waiting_of, generation_of, numbe
 ghost use Rattle.kl1_host_journals.specs.Editions.{HaveGrown, last_of, lines_of, run_of, IsNoteOf};
 ghost use Rattle.kl1_host_journals.specs.Places.{account_of, log_of, edition_of, account_of_history, log_of_history};
 ghost use Rattle.kl1_host_journals.specs.Parcels.{begin_of, end_of};
-ghost use Rattle.kl1_host_journals.specs.Notebooks.{notes_of, history_of, taken_of as taken_place_of};
 ghost use Rattle.kl1_host_journals.specs.Outgoings.{IsHeld, IsNotedFor};
 
 use crate::drafts::{Draft, GoOn};
@@ -45,8 +44,8 @@ impl<J: Naming> Notebook<J> {
     /// What is noted once this journal was taken in. On an error memory was refused, or the generation is a past one; then all is left as it
     /// was. `None` with it if the history has other editions, which never is so.
     fn taken_in(self, journal: &Journal, generation: u64) -> Result<Self, Option<Self>>
-        ensures ok { IfOk result (λ n. IsNoteOf (last_of (log_of_history (history_of n))) journal.now.journal generation) }
-        ensures err { IfErr result (λ left. IfSome left (λ n. KeepsAll (notes_of self) (notes_of n) × (log_of_history (history_of n) ≡ log_of_history (history_of self)))) }
+        ensures ok { IfOk result (λ n. IsNoteOf (last_of (log_of_history n.history)) journal.now.journal generation) }
+        ensures err { IfErr result (λ left. IfSome left (λ n. KeepsAll self.notes n.notes × (log_of_history n.history ≡ log_of_history self.history))) }
     {
         let Notebook {
             notes,
@@ -81,9 +80,9 @@ impl<J: Naming> Notebook<J> {
 
     /// What is noted once all that waits was taken, which is nothing new, and what was taken.
     pub(crate) fn taken(self) -> (Self, Parcel<J>)
-        ensures log { log_of_history (history_of result.0) ≡ log_of_history (history_of self) }
-        ensures begin { begin_of result.1 ≡ taken_place_of self }
-        ensures end { log_of (end_of result.1) ≡ log_of_history (history_of self) }
+        ensures log { log_of_history result.0.history ≡ log_of_history self.history }
+        ensures begin { begin_of result.1 ≡ self.taken }
+        ensures end { log_of (end_of result.1) ≡ log_of_history self.history }
     {
         let Notebook {
             notes,
@@ -110,7 +109,7 @@ impl<J: Naming> Notebook<J> {
 
     /// Lets the leave to write wait until all is on disk that was noted. It is lost if it waits for another account.
     fn hold<C: Connecting>(&self, outgoing: Outgoing<J, C>) -> Outgoing<J, C>
-        ensures { IsHeld (log_of_history (history_of self.now)) result }
+        ensures { IsHeld (log_of_history self.now.history) result }
     {
         match outgoing {
             Outgoing::Free(permit) => Outgoing::Waits(Held {

@@ -1,8 +1,7 @@
 // All that was noted for the file of an account up to a moment.
 
 ghost use Rattle.std.specs.Prelude.{◌≡◌, ◌≤◌, length};
-ghost use Rattle.kl1_host_journals.specs.Editions.{StandsIn, IsUpToDate};
-ghost use Rattle.kl1_host_journals.specs.Places.{account_of, log_of, edition_of};
+ghost use Rattle.kl1_host_journals.specs.Editions.{last_of, StandsIn, IsUpToDate};
 
 use crate::edition::Edition;
 use crate::history::{Law, Naming};
@@ -33,16 +32,16 @@ impl<J: Naming> Place<J> {
 
     /// The account's number.
     pub fn account(&self) -> u32
-        ensures { result ≡ account_of self.now }
+        ensures { result ≡ self.now.account }
     {
         self.account
     }
 
     /// That the text of the last edition stands in that of another place of this account at which as many changes were noted, or more.
     pub fn shows_stands(&self, later: &Place<J>)
-        requires account { account_of self.now ≡ account_of later.now }
-        requires number { (edition_of self.now).number ≤ (edition_of later.now).number }
-        ensures { StandsIn (edition_of self.now) (edition_of later.now) }
+        requires account { self.now.account ≡ later.now.account }
+        requires number { (last_of self.now.seen.log).number ≤ (last_of later.now.seen.log).number }
+        ensures { StandsIn (last_of self.now.seen.log) (last_of later.now.seen.log) }
     {
         let mut both = self.seen.again();
         both.learn(&later.seen);
@@ -50,9 +49,9 @@ impl<J: Naming> Place<J> {
 
     /// That the file was to hold the same at another place of this account at which as many changes were noted.
     pub fn shows_same(&self, other: &Place<J>)
-        requires account { account_of self.now ≡ account_of other.now }
-        requires number { (edition_of self.now).number ≡ (edition_of other.now).number }
-        ensures { (edition_of self.now).text ≡ (edition_of other.now).text }
+        requires account { self.now.account ≡ other.now.account }
+        requires number { (last_of self.now.seen.log).number ≡ (last_of other.now.seen.log).number }
+        ensures { (last_of self.now.seen.log).text ≡ (last_of other.now.seen.log).text }
     {
         let mut both = self.seen.again();
         both.learn(&other.seen);
@@ -60,7 +59,7 @@ impl<J: Naming> Place<J> {
 
     /// That the last text is a file of the journal that was noted last, if the journals have only grown.
     pub fn shows_dated(&self)
-        ensures { IsUpToDate (log_of self.now) }
+        ensures { IsUpToDate self.now.seen.log }
     {
         let mut both = self.seen.again();
         both.learn(&self.seen);

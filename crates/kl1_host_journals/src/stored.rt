@@ -3,7 +3,6 @@
 ghost use Rattle.std.specs.Prelude.{◌≡◌};
 ghost use Rattle.kl1_log.specs.Receipts as receipts;
 ghost use Rattle.kl1_host_journals.specs.Places.{account_of, edition_of};
-ghost use Rattle.kl1_host_journals.specs.StoredPlaces.{receipt_of, place_of};
 
 use crate::history::Naming;
 use crate::place::Place;
