@@ -1,5 +1,5 @@
 -- The exchange that adds an edition keeps the rule.
-use Rattle.std.proofs.Common.{◌≡◌, ℕ, ◌+◌, ◌<◌, ◌==◌, Bool, true, false, List, [], ◌∷◌, ◌++◌, length, refl, ap, sym, ◌∙◌, subst, arith, inl, length-append, None}
+use Rattle.std.proofs.Common.{◌≡◌, ℕ, ◌+◌, ◌<◌, ◌==◌, Bool, true, false, List, [], ◌∷◌, ◌++◌, length, refl, ap, sym, ◌∙◌, subst, arith, inl, inr, length-append, None}
 use Rattle.std.proofs.lemmas.List.{append-nil}
 use Rattle.std.proofs.lemmas.Bool.Decides.{nat_tests}
 use mathlib.Core.List.{IsPrefix}
@@ -8,7 +8,7 @@ use Rattle.logbook.specs.Pages.{Cell, cell, keeps, no_nib, step, Moves, Goes}
 use Rattle.kl1_host_journals.specs.declared.edition.Edition.{Edition}
 use Rattle.kl1_host_journals.specs.Editions.{MayFollow, IsChain, IsUpToDate}
 use Rattle.kl1_host_journals.specs.Histories.{IsKept, Adds}
-use Rattle.kl1_host_journals.proofs.Chains.{prefix_whole, chain_snoc}
+use Rattle.kl1_host_journals.proofs.Chains.{prefix_whole, prefix_snoc, chain_snoc}
 
 abbrev pub shown : List Edition → List Edition
 shown log = []
@@ -16,7 +16,7 @@ shown log = []
 abbrev pub moved : List Edition → List Edition → ℕ → Type 0
 moved xs ys n = Unit {0}
 
-adds_goes : (log v : List Edition) (e : Edition) (old : ℕ) → length v ≡ old → MayFollow v e → IsUpToDate (v ++ e ∷ []) → IsChain log → IsUpToDate log → IsPrefix v log
+adds_goes : (log v : List Edition) (e : Edition) (old : ℕ) → length v ≡ old → MayFollow v e → IsUpToDate (v ++ e ∷ []) → IsChain log → ((front : List Edition) → IsPrefix front log → IsUpToDate front) → IsPrefix v log
     → (b : Bool) → (length log == old) ≡ b
     → Goes IsKept shown moved 0 (v, (no_nib, None)) (λ n. either (n == old) (old + 1) n) (Adds (step 0 old (old + 1) e) (v, (no_nib, None))) ((length log, true) ∷ (0, true) ∷ []) log
 adds_goes log v e old len may dated chain was pre true is =
@@ -30,7 +30,10 @@ adds_goes log v e old len may dated chain was pre true is =
       record {
         words = ap (λ (k : ℕ). (k, true) ∷ (0, true) ∷ []) n;
         chain = chain_snoc log e chain (subst (λ (x : List Edition). MayFollow x e) same may);
-        dated = subst (λ (x : List Edition). IsUpToDate (x ++ e ∷ [])) same dated;
+        dated = λ front p. elim (prefix_snoc front log e p) [
+          | inl before ↦ was front before
+          | inr all ↦ subst IsUpToDate (sym all) (subst (λ (x : List Edition). IsUpToDate (x ++ e ∷ [])) same dated)
+        ];
       },
       inl (refl, refl),
       rw is (ap (λ w. w ++ e ∷ []) (sym same)),
@@ -45,7 +48,7 @@ adds_goes log v e old len may dated chain was pre false is =
       record {
         words = ap (λ (k : ℕ). (k, true) ∷ (0, true) ∷ []) n;
         chain = subst IsChain (sym all) chain;
-        dated = subst IsUpToDate (sym all) was;
+        dated = λ front p. was front (subst (IsPrefix front) all p);
       },
       inl (refl, refl),
       rw is (ap length all),

@@ -1,5 +1,6 @@
 -- Editions one after another.
 use Rattle.std.proofs.Common.{◌≡◌, ℕ, zero, suc, ◌≤◌, ◌<◌, List, [], ◌∷◌, ◌++◌, length, refl, ap, sym, ◌∙◌, subst, arith, inl, inr, ◌⊎◌, append_assoc, length-append}
+use Rattle.std.proofs.lemmas.Bool.{cases_lt}
 use Rattle.std.proofs.lemmas.List.{append-nil}
 use mathlib.Core.List.{IsPrefix}
 use Rattle.kl1_log.specs.Later.{IsLater}
@@ -30,6 +31,13 @@ prefix_whole [] (y ∷ ys) p le = absurd (omega arith)
 prefix_whole (x ∷ xs) [] p le = absurd (cc (p.1))
 prefix_whole (x ∷ xs) (y ∷ ys) p le =
     let rest = prefix_whole xs ys (p.0, cc (p.1)) (omega arith) in cc (p.1, rest)
+
+-- a beginning of a list with one more is a beginning of the list, or all
+pub prefix_snoc : {A : Type 0} (xs ys : List A) (e : A) → IsPrefix xs (ys ++ e ∷ []) → IsPrefix xs ys ⊎ (xs ≡ ys ++ e ∷ [])
+prefix_snoc xs ys e p = elim (cases_lt (length ys) (length xs)) [
+  | inl less ↦ inr (prefix_whole xs (ys ++ e ∷ []) p (omega (arith, less, length-append ys (e ∷ []))))
+  | inr le ↦ inl (prefix_shorter xs ys (ys ++ e ∷ []) p (e ∷ [], refl) le)
+]
 
 -- a text stands in itself, and in what a later one does
 pub stands_same : (d e : Edition) → d.generation ≡ e.generation → d.text ≡ e.text → StandsIn d e
