@@ -13,6 +13,7 @@ use Rattle.kl1_host_journals.specs.declared.notes.Notes.{Notes}
 use Rattle.kl1_host_journals.specs.Drafts.{edition_over}
 use Rattle.kl1_host_journals.specs.Editions.{last_of, lines_of, run_of, StandsIn, Follows, MayFollow, HaveGrown, IsEdited, IsLastEdited, IsUpToDate}
 use Rattle.kl1_host_journals.specs.Notes.{waiting_of, generation_of, number_of, change_of, TakesIn}
+use Rattle.kl1_host_journals.specs.Notings.{IsNotedOver, IsMarked}
 use Rattle.kl1_host_journals.proofs.Chains.{last_snoc, grown_before, grown_last}
 
 -- a journal has grown in its generation
@@ -35,12 +36,6 @@ taken_in_anew old new j g up counts one other at = record {
   longer = λ same. absurd (other same);
   one = λ _. one;
 }
-
--- what was noted last of a file that is to hold `base` when it has got nothing yet
-pub record IsNotedOver (base : List ℕ) (n : Notes) (last : Edition) : Type 0 where
-  pub number : last.number ≡ number_of n
-  pub generation : last.generation ≡ generation_of n
-  pub text : last.text ≡ text_after base (change_of n)
 
 -- it isn't of a past generation
 same_by : (old new : Notes) (j : Journal) (g : ℕ) (base : List ℕ) (last : Edition) (r : Rows) → IsNotedOver base old last → TakesIn old new j g → generation_of old ≤ g
@@ -91,16 +86,15 @@ grown_to [] e some grown same = absurd (omega (arith, some))
 grown_to (d ∷ ds) e some grown same = grown_last d ds e grown same
 
 -- what waits makes of the file one of the journal that was noted now, if the journals have only grown
-pub note_up_to : (log : List Edition) (old new : Notes) (j : Journal) (g : ℕ) (base : List ℕ) (r : Rows) → 1 ≤ length log → IsNotedOver base old (last_of log) → TakesIn old new j g → r.journal ≡ j → IsUpToDate log
-    → (HaveGrown log → (mark_of (waiting_of old)).lines ≡ lines_of (last_of log)) → (HaveGrown log → (mark_of (waiting_of old)).run ≡ run_of (last_of log))
+pub note_up_to : (log : List Edition) (old new : Notes) (j : Journal) (g : ℕ) (base : List ℕ) (r : Rows) → 1 ≤ length log → IsNotedOver base old (last_of log) → TakesIn old new j g → r.journal ≡ j → IsUpToDate log → IsMarked old log
     → HaveGrown (log ++ edition_over base new r ∷ []) → IsUpTo (waiting_of new) base j
-note_up_to log old new j g base r some is t same dated lines run grown =
+note_up_to log old new j g base r some is t same dated marked grown =
     let e = edition_over base new r in
     let before = grown_before log e grown in
     let last = last_of log in
     let up : IsUpTo (waiting_of old) base last.journal.journal = record {
       file = subst (λ (x : List ℕ). IsFile x last.journal.journal) is.text (last_edited log some (dated before));
-      mark = record { lines = lines before; run = run before };
+      mark = record { lines = marked.lines before; run = marked.run before };
     } in
     t.file base last.journal.journal up (λ (at : g ≡ generation_of old). subst (IsLater last.journal.journal) same (grown_to log e some grown (is.generation ∙ sym at ∙ sym t.now)))
 
@@ -115,3 +109,7 @@ note_lines log new j base r same up = up.mark.lines ∙ sym (ap lines_of (last_s
 
 pub note_run : (log : List Edition) (new : Notes) (j : Journal) (base : List ℕ) (r : Rows) → r.journal ≡ j → IsUpTo (waiting_of new) base j → (mark_of (waiting_of new)).run ≡ run_of (last_of (log ++ edition_over base new r ∷ []))
 note_run log new j base r same up = up.mark.run ∙ sym (ap run_of (last_snoc log (edition_over base new r)) ∙ ap (λ (x : Journal). run_of (edition_over base new (record { journal = x; room = 0 }))) same)
+
+-- the first edition of a history
+pub first_dated : (n : Notes) (bytes : List ℕ) (r : Rows) (j : Journal) → r.journal ≡ j → IsUpTo (waiting_of n) bytes j → IsUpToDate ([] ++ edition_over bytes n r ∷ [])
+first_dated n bytes r j same up grown = subst (IsFile (text_after bytes (change_of n))) (sym same) up.file

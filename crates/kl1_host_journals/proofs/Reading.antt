@@ -25,7 +25,7 @@ crashes_keep_deeds covered text bytes n j k pre was is =
     let at = appends_are_fronts covered (rest ++ bytes) was.read is.read (length rest + n) was.is (subst (λ (x : List ℕ). journal_in x ≡ Some is.read) (sym whole) is.is) in
     let r = front_of is.read at.0 in
     let here : covered ++ take (length rest + n) (rest ++ bytes) ≡ text ++ take n bytes =
-        ap (λ (x : List ℕ). covered ++ x) (take-append-add rest bytes n) ∙ sym (append_assoc covered rest (take n bytes)) ∙ ap (λ (x : List ℕ). x ++ take n bytes) pre.1 in
+    ap (λ (x : List ℕ). covered ++ x) (take-append-add rest bytes n) ∙ sym (append_assoc covered rest (take n bytes)) ∙ ap (λ (x : List ℕ). x ++ take n bytes) pre.1 in
     record {
       read = r;
       is = ap recovered (sym here) ∙ at.1;

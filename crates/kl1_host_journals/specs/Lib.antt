@@ -8,6 +8,7 @@ pub mod HeldLeaves
 pub mod Parcels
 pub mod Texts
 pub mod KeptFiles
+pub mod Notings
 pub mod Notebooks
 pub mod Outgoings
 pub mod Openings

@@ -133,7 +133,10 @@ impl<J: Naming> History<J> {
         ensures ok { OnOk result (self.new.seen.log ≡ self.old.seen.log ++ M.ask about.now ∷ []) }
         ensures err { OnErr result (self.new.seen.log ≡ self.old.seen.log) }
     {
-        let count = self.count.checked_add(1).ok_or(AllocError)?;
+        if self.count == u64::MAX {
+            return Err(AllocError);
+        }
+        let count = self.count + 1;
         let mut seen = self.seen.again();
         let mut offer: Offer<Edition, u64, Law, Nothing> = seen.plain::<Nothing, X, M>(about);
         let mut pen = seen.no_pen();

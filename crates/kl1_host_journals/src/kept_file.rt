@@ -5,7 +5,7 @@ ghost use Rattle.std.proofs.Props.{props};
 ghost use Rattle.kl1_log.specs.Files.{AtAnyMoment, is_at_rest};
 ghost use Rattle.kl1_log.specs.Batches.{text_of, IsLeftOfKnown};
 ghost use Rattle.kl1_log.specs.LogFiles.{disk_of, account_of as account_of_file, changes_of, IsFailed};
-ghost use Rattle.kl1_host_journals.specs.Places.{account_of, edition_of};
+ghost use Rattle.kl1_host_journals.specs.Places.{account_of, log_of, edition_of};
 ghost use Rattle.kl1_host_journals.specs.Parcels.{batch_of, end_of};
 ghost use Rattle.kl1_host_journals.specs.StoredPlaces.{place_of as stored_place_of};
 ghost use Rattle.kl1_host_journals.specs.Texts.{IsTextOf};
@@ -43,14 +43,15 @@ impl<D: Disk, J: Naming> KeptFile<D, J> {
 
     /// Writes what was taken, and has it on disk. On an error nothing that isn't on disk is told.
     pub fn write(&mut self, parcel: Parcel<J>) -> Result<Stored<J>, LogError>
-        ensures stored { IfOk result (λ s. stored_place_of s ≡ end_of parcel) }
-        ensures place { OnOk result (self.new.place ≡ end_of parcel) }
+        ensures stored { IfOk result (λ s. log_of (stored_place_of s) ≡ log_of (end_of parcel)) }
+        ensures place { OnOk result (log_of self.new.place ≡ log_of (end_of parcel)) }
         ensures on_disk { OnOk result (IsTrue (is_at_rest (D.known (disk_of self.new.file))) × IsTextOf (D.known (disk_of self.new.file)) (edition_of (end_of parcel)).text) }
         ensures any_moment { AtAnyMoment (D.known (disk_of self.old.file)) (D.known (disk_of self.new.file)) (IsLeftOfKnown (D.known (disk_of self.old.file)) (batch_of parcel).change) }
         ensures failed { IsFailed result → D.is_usable (disk_of self.new.file) ≡ false }
     {
         let Parcel { batch, from, to } = parcel;
         let receipt = self.file.write(batch)?;
+        // What the file held is what the batch was made for.
         self.place.shows_same(&from);
         self.place = to.again();
         Ok(Stored { receipt, place: to })

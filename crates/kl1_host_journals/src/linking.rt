@@ -9,7 +9,7 @@ ghost use Rattle.kl1_host_journals.specs.Editions.{IsNoteOf};
 ghost use Rattle.kl1_host_journals.specs.KeptFiles.{file_of, place_of as place_of_file};
 ghost use Rattle.kl1_host_journals.specs.Notebooks.{notes_of};
 ghost use Rattle.kl1_host_journals.specs.Notes.{waiting_of, generation_of};
-ghost use Rattle.kl1_host_journals.specs.Places.{edition_of};
+ghost use Rattle.kl1_host_journals.specs.Places.{log_of, edition_of};
 ghost use Rattle.kl1_host_journals.specs.StoredPlaces.{receipt_of, place_of};
 ghost use Rattle.kl1_host_journals.specs.Links.{IsUpToIf, IsOfFile};
 
@@ -59,7 +59,7 @@ impl From<AllocError> for LinkFault {
 
 /// The file of this account with what waits for it, which is nothing: it is one of `journal`, in this generation. If its bytes aren't the
 /// text of the journal, it is begun anew. `fresh` is the account's history, which begins with it.
-#[tactic(auto, using(crate::proofs::LinkedFiles::read_up_to, crate::proofs::LinkedFiles::taken_up_to, crate::proofs::Resting::same_rests))]
+#[tactic(auto, using(crate::proofs::KeptFiles::read_text, crate::proofs::KeptFiles::written_text, crate::proofs::LinkedFiles::read_up_to, crate::proofs::LinkedFiles::taken_up_to, crate::proofs::Resting::same_rests))]
 pub fn link<D: Disk + Drop, J: Naming>(
     alloc: Global,
     resting: RestingFile<D>,
@@ -73,7 +73,7 @@ pub fn link<D: Disk + Drop, J: Naming>(
     ensures generation { IfOk result (λ l. generation_of (notes_of l.notebook) ≡ generation) }
     ensures account { IfOk result (λ l. (account_of_file (file_of l.file) ≡ account) × (account_of (receipt_of l.stored) ≡ account)) }
     ensures changes { IfOk result (λ l. (changes_of (receipt_of l.stored) ≡ noted_of (waiting_of (notes_of l.notebook))) × (changes_of_file (file_of l.file) ≡ noted_of (waiting_of (notes_of l.notebook))) × (taken_of (waiting_of (notes_of l.notebook)) ≡ noted_of (waiting_of (notes_of l.notebook)))) }
-    ensures note { IfOk result (λ l. IsNoteOf (edition_of (place_of l.stored)) journal.now.journal generation × (place_of_file l.file ≡ place_of l.stored)) }
+    ensures note { IfOk result (λ l. IsNoteOf (edition_of (place_of l.stored)) journal.now.journal generation × (log_of (place_of_file l.file) ≡ log_of (place_of l.stored))) }
     ensures fault { IfErr result IsOfFile }
 {
     let mut disk = resting.into_disk();

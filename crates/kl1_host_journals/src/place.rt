@@ -21,7 +21,8 @@ pub struct Place<J: Naming> {
 impl<J: Naming> Place<J> {
     /// The same once more.
     pub fn again(&self) -> Self
-        ensures { result ≡ self.now }
+        ensures account { result.account ≡ self.now.account }
+        ensures seen { result.seen ≡ self.now.seen }
     {
         Place {
             account: self.account,

@@ -20,7 +20,9 @@ pub struct Stored<J: Naming> {
 impl<J: Naming> Stored<J> {
     /// The same once more.
     pub fn again(&self) -> Self
-        ensures { result ≡ self.now }
+        ensures receipt { result.receipt ≡ self.now.receipt }
+        ensures account { result.place.account ≡ self.now.place.account }
+        ensures seen { result.place.seen ≡ self.now.place.seen }
     {
         Stored {
             receipt: self.receipt,
