@@ -37,8 +37,8 @@ add-requires-clause-dated g c =
     let dated : IsUpToDate log = subst IsUpToDate c.place.ensures.log c.shows_dated.ensures in
     note_dated log new j base c.of-2.result.value same (note_up_to log old new j gen base c.of-2.result.value c.requires.some over takes same dated c.requires.marked)
 
-pub invariant_of-result-in-Ok : goal.invariant_of-result-in-Ok
-invariant_of-result-in-Ok g c =
+pub invariant_of-result : goal.invariant_of-result
+invariant_of-result g c =
     let log = c.args.history.seen.log in
     let old = c.args.old.value in
     let new = c.of.result.value in
