@@ -15,4 +15,4 @@ returns-clause-ok c = λ text old up later.
     }
 
 pub returns-clause-longer : goal.returns-clause-longer
-returns-clause-longer c = λ text. (c.deref.result.now, sym (c.extend.ensures.ok text))
+returns-clause-longer c = λ text. (c.deref.result.now, sym (c.in_ok-extend.ensures.ok text))
