@@ -156,7 +156,7 @@ where
     R::Dir: Send + Sync,
 {
     let (rt, alloc, settings) = (log.rt, log.alloc, &opened.settings);
-    let pauses = Mutex::new(Pauses::new(alloc));
+    let pauses = Mutex::new(Pauses::new(alloc)?);
     let sessions = Mutex::new(SessionBook::new(alloc)?);
     let sites = sites_of(alloc, settings, opened.browsers.as_ref())?;
     let program = Program {
