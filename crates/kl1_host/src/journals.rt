@@ -22,18 +22,11 @@ use std::thread;
 use std::thread::Threads;
 use std::time::Clock;
 
-/// The file of an account that was opened, and the line of the fault if its journal was repaired.
-#[derive(Drop)]
-struct OpenedFile<D: Disk> {
-    file: AccountFile<D>,
-    repaired: Option<u64>,
-}
-
 /// An account whose file is to be opened, and then what became of that.
 #[derive(Drop)]
 struct Opening<'k, D: Disk> {
     key: &'k Key,
-    opened: Option<Result<OpenedFile<D>, Fault>>,
+    opened: Option<Result<AccountFile<D>, Fault>>,
 }
 
 /// Opens the file of the journal of an account. With a word for the names of files in which what is repaired is kept, a fault is repaired.
@@ -42,7 +35,7 @@ fn file_of<'r, R: Files<File = File> + Clock + Eprint>(
     folder: &str,
     key: &Key,
     repair: Option<&str>,
-) -> Result<OpenedFile<FolderFile<&'r R>>, Fault> {
+) -> Result<AccountFile<FolderFile<&'r R>>, Fault> {
     let alloc = log.alloc;
     let journals = path_in(alloc, folder, JOURNALS)?;
     let text = format!(in alloc; "{}", key.name.escape_ascii())?;
@@ -59,14 +52,7 @@ fn file_of<'r, R: Files<File = File> + Clock + Eprint>(
         repair,
     );
     match opened {
-        Ok((file, opened)) => Ok(OpenedFile {
-            file: AccountFile {
-                name,
-                file,
-                journal: opened.journal,
-            },
-            repaired: opened.repaired,
-        }),
+        Ok(opened) => Ok(AccountFile { name, opened }),
         Err(fault) => {
             let path = journal_in(alloc, folder, key.name.as_slice())?;
             Err(open_fault(alloc, path.as_str(), &fault)?)
@@ -99,8 +85,8 @@ fn open_one<'r, R: Files<File = File> + Clock + Eprint>(
 /// Tells which journals were repaired, in the order of accounts.
 fn tell_repairs<R: Clock + Eprint, D: Disk>(log: &Log<'_, R>, openings: &[Opening<'_, D>]) {
     for opening in openings {
-        if let Some(Ok(opened)) = &opening.opened
-            && let Some(line) = opened.repaired
+        if let Some(Ok(found)) = &opening.opened
+            && let Some(line) = found.opened.repaired()
         {
             log.tell_repaired(opening.key.name.as_slice(), line);
         }
@@ -133,7 +119,7 @@ fn gathered<D: Disk + Drop>(
         let Some(opened) = opened else {
             return Err(Fault::Memory);
         };
-        let file = opened?.file;
+        let file = opened?;
         // It always is; no clause says so of what threads have opened.
         if !is_of(&file, &keys[account]) {
             return Err(Fault::Memory);

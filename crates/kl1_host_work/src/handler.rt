@@ -1,5 +1,9 @@
 // A pool with its files as what does the commands of one connection.
 
+ghost use Rattle.std.specs.Prelude.{◌≡◌};
+ghost use Rattle.kl1_command.specs.Commands.{command_view};
+ghost use Rattle.kl1_host_work.specs.Refusals.{is_logout, is_refused, source_bytes};
+
 use crate::front::Performer;
 use crate::host::Host;
 use crate::noting::note_told;
@@ -23,7 +27,9 @@ pub struct HostHandler<'p, 't, W: Wait, R: Wait, K: PoolIds> {
 }
 
 /// How many bytes of source a command loads; 0 if it is no load.
-fn source_bytes(command: &Command) -> usize {
+fn source_bytes(command: &Command) -> usize
+    ensures { result ≡ source_bytes (command_view command.now) }
+{
     match command {
         Command::Does(Event::Load { source }) => source.len(),
         _ => 0,
@@ -31,8 +37,17 @@ fn source_bytes(command: &Command) -> usize {
 }
 
 /// Whether a command is a logout, which each account answers.
-fn is_logout(command: &Command) -> bool {
+fn is_logout(command: &Command) -> bool
+    ensures { result ≡ is_logout (command_view command.now) }
+{
     matches!(command, Command::Does(Event::Logout))
+}
+
+/// Whether a command is answered as if memory was refused, of an account that is stopped or isn't, and may load `left` bytes of sources.
+fn is_refused(command: &Command, is_stopped: bool, left: u64) -> bool
+    ensures { result ≡ is_refused (command_view command.now) is_stopped left }
+{
+    !is_logout(command) && (is_stopped || left < source_bytes(command) as u64)
 }
 
 /// Whether a module was loaded.
@@ -43,18 +58,14 @@ fn is_loaded(performed: &Performed) -> bool {
 impl<'p, 't, W: Wait, R: Wait, K: PoolIds> HostHandler<'p, 't, W, R, K> {
     /// Whether a command is answered as if memory was refused: the account is stopped, or it has loaded what it may.
     fn is_refused(&self, account: usize, command: &Command) -> bool {
-        if is_logout(command) {
-            return false;
-        }
         let is_stopped = match self.host.keepers.get(account) {
             Some(keeper) => keeper.on_disk().is_stopped(),
             None => true,
         };
-        let is_over = match self.host.budgets.get(account) {
-            Some(budget) => !budget.allows(source_bytes(command)),
-            None => true,
-        };
-        is_stopped || is_over
+        match self.host.budgets.get(account) {
+            Some(budget) => is_refused(command, is_stopped, budget.left()),
+            None => is_refused(command, true, 0),
+        }
     }
 
     /// Counts a source that was loaded.

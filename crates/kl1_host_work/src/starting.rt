@@ -76,7 +76,7 @@ fn used_of<D: Disk>(
 {
     let mut used = Vec::with_capacity(alloc, accounts.len())?;
     for account in accounts {
-        let names = names_of(alloc, &account.journal)?;
+        let names = names_of(alloc, account.opened.journal())?;
         used.push(names)?;
     }
     Ok(used)

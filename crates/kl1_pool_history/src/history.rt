@@ -93,10 +93,14 @@ pub struct History<K: PoolIds> {
 
 impl<K: PoolIds> Model for History<K> {
     ghost use Rattle.std.specs.Prelude.{map};
+    ghost use Rattle.std.specs.Coded.{codes};
+    ghost use Rattle.kl1_model.specs.code.TermCode.{term_code};
     ghost use Rattle.kl1_pool_history.specs.Histories.{HistoryValue, AreAnswered};
     ghost use Rattle.kl1_pool_history.specs.Entries.{done_of};
 
     ghost Value = { HistoryValue };
+
+    ghost coded = { Prim.hlevel (codes, term_code) };
 
     ghost view = { λ h. record { begun = h.begun.value; share = h.share; done = map done_of h.seen.log } };
 
