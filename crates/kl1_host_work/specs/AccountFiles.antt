@@ -7,3 +7,7 @@ module _ {D : Type 0} {g : disk.Ghosts D} where
   -- what the accounts of files are called, in order
   abbrev pub names_of : List (AccountFile D g) → List (List ℕ)
   names_of accounts = map (λ (a : AccountFile D g). a.name) accounts
+
+  -- for each account, in order, the names that it had used when its file's journal began
+  abbrev pub names_used : List (AccountFile D g) → List (List (List ℕ))
+  names_used accounts = map (λ (a : AccountFile D g). a.opened.journal.journal.names) accounts
