@@ -1,8 +1,9 @@
 // What was done for one connection, with the share in which it was counted.
 
-ghost use Rattle.std.specs.Prelude.{◌≡◌, ◌<◌, [], ◌++◌, ◌∷◌};
+ghost use Rattle.std.specs.Prelude.{◌≡◌, ◌<◌, [], ◌++◌, ◌∷◌, map};
 ghost use Rattle.kl1_command.specs.Commands.{command_view};
 ghost use Rattle.kl1_command.specs.declared.performed.Performed.TheVariants.{Memory};
+ghost use Rattle.kl1_pool_history.specs.Entries.{done_of};
 ghost use Rattle.kl1_pool_history.specs.Histories.{AreAnswered};
 
 use kl1_command::{Command, Performed};
@@ -62,13 +63,13 @@ impl Opening<Longer, Entry> for More {
 }
 
 /// What was seen, and then an answer to a command to an account.
-fn longer(
+fn with_entry(
     seen: &Seen<Entry, (), Unruled>,
     account: Snapshot<usize>,
     command: Snapshot<Command>,
     performed: &Performed,
 ) -> Seen<Entry, (), Unruled>
-    ensures { let entry : Entry = record { account = account; command = command; performed = record { value = performed.now } } in result.log ≡ seen.now.log ++ entry ∷ [] }
+    ensures { map done_of result.log ≡ map done_of seen.now.log ++ record { account = account.value; command = command_view command.value; answer = performed.now } ∷ [] }
 {
     let longer = Longer {
         before: Snapshot::of(seen),
@@ -95,8 +96,8 @@ impl<K: PoolIds> Model for History<K> {
     ghost use Rattle.std.specs.Prelude.{map};
     ghost use Rattle.std.specs.Coded.{codes};
     ghost use Rattle.kl1_model.specs.code.TermCode.{term_code};
-    ghost use Rattle.kl1_pool_history.specs.Histories.{HistoryValue, AreAnswered};
     ghost use Rattle.kl1_pool_history.specs.Entries.{done_of};
+    ghost use Rattle.kl1_pool_history.specs.Histories.{HistoryValue, AreAnswered};
 
     ghost Value = { HistoryValue };
 
@@ -134,7 +135,7 @@ impl<K: PoolIds> History<K> {
         answer.shows_given();
         // What is noted is what the answer says of itself, not what was asked for.
         let (performed, done_to, done) = answer.into_parts();
-        self.seen = longer(&self.seen, done_to, done, &performed);
+        self.seen = with_entry(&self.seen, done_to, done, &performed);
         performed
     }
 
@@ -145,7 +146,7 @@ impl<K: PoolIds> History<K> {
         ensures refused { result ≡ Memory }
     {
         let performed = Performed::Memory;
-        self.seen = longer(
+        self.seen = with_entry(
             &self.seen,
             Snapshot::of(&account),
             Snapshot::of(command),
