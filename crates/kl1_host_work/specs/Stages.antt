@@ -9,8 +9,8 @@ use Rattle.kl1_host_work.specs.declared.restoring.Stage.TheVariants.{Waits, Stan
 
 module _ {D : Type 0} {g : disk.Ghosts D} where
   -- none is restored yet, and these are the files that were found
-  abbrev pub AreWaiting : List (AccountFile D g) → List (Stage D g) → Type 0
-  AreWaiting found stages = stages ≡ map (λ (a : AccountFile D g). Waits a) found
+  abbrev pub AreWaiting : List (AccountFile D) → List (Stage D g) → Type 0
+  AreWaiting found stages = stages ≡ map (λ (a : AccountFile D). Waits a) found
 
   -- all stand, and these are their files
   abbrev pub AreStanding : List (Stage D g) → List (LogFile D g) → Type 0

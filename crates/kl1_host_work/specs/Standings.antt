@@ -28,8 +28,8 @@ module _ {D : Type 0} {g : disk.Ghosts D} where
   IsRestarted rules name (Fails fault) after = ⊤
 
   -- these are the files of accounts that stand, in order, each by the journal of the file that was found for it
-  pub record AreRestored (rules : Rules) (names : List (List ℕ)) (found : List (AccountFile D g)) (files : List (LogFile D g)) : Type 0 where
+  pub record AreRestored (rules : Rules) (names : List (List ℕ)) (found : List (AccountFile D)) (files : List (LogFile D g)) : Type 0 where
     pub standings : List (Standing D g)
     pub files_are : files ≡ map (λ (s : Standing D g). s.linked.file) standings
     pub all : length standings ≡ length found
-    pub each : (k : ℕ) (s : Standing D g) (a : AccountFile D g) → k < length found → IsStandingOf rules (slice_get names k) (get_or found k a).opened.journal.journal (get_or standings k s)
+    pub each : (k : ℕ) (s : Standing D g) (a : AccountFile D) → k < length found → IsStandingOf rules (slice_get names k) (get_or found k a).opened.journal.journal (get_or standings k s)
