@@ -10,6 +10,7 @@ use crate::control::answer_until_stop;
 use crate::log::Log;
 use crate::logins::LoginLog;
 use crate::machine::ThisMachine;
+use crate::paces::{PacedLine, Paces};
 use crate::web::{WebAccounts, is_local};
 use kl1_host_front::{Field, Number, Pauses, PausingDoor, address_number};
 use kl1_host_web::{AskedRecord, Page, Service, SessionBook, Site};
@@ -42,6 +43,7 @@ pub struct Program<'f, R: Wait + Clock + Eprint + Files + RandomSource> {
     /// After how many seconds without a request a browser's session ends.
     pub idle: u64,
     pub machine: ThisMachine<'f, R>,
+    pub paces: &'f Paces,
     pub log: &'f Log<'f, R>,
     pub listeners: Listeners<'f>,
     /// Where it is asked how it goes, and to stop.
@@ -172,6 +174,24 @@ impl<'f, R: Wait + Clock + Eprint + Files + RandomSource> Program<'f, R> {
             .tell_account(event, self.name_of(account), &[taken, most]);
     }
 
+    /// Tells an event of who connects from this address, once a second at most, with how many like it were left out before.
+    fn tell_paced(&self, line: PacedLine, event: &[u8], address: SocketAddr) {
+        let Some(left_out) = self.paces.told(self.rt, line) else {
+            return;
+        };
+        // Without memory the line has its address alone.
+        match format!(in self.alloc; "{left_out}") {
+            Ok(words) => {
+                let others = Field {
+                    name: b"left_out",
+                    value: words.as_bytes(),
+                };
+                self.log.tell_of(event, address, &[others]);
+            }
+            Err(_) => self.log.tell_of(event, address, &[]),
+        }
+    }
+
     /// Tells that a host is ready, and where.
     fn tell_ready(&self) -> Result<(), AllocError> {
         let listen = local_of(self.alloc, self.listeners.clients)?;
@@ -226,6 +246,9 @@ impl<'f, R: Wait + Clock + Eprint + Files + RandomSource + Sync> Front for Progr
             HostEvent::Restored { account, entries } => self.tell_restored(account, entries),
             HostEvent::Opened(_) => {}
             HostEvent::TurnedAway(address) => self.log.tell_of(b"turned_away", address, &[]),
+            HostEvent::Unserved(address) => {
+                self.tell_paced(PacedLine::Unserved, b"no_thread", address)
+            }
             HostEvent::Closed(address, ended) => {
                 let how = Field {
                     name: b"by",

@@ -9,6 +9,7 @@ use crate::journals::files_of;
 use crate::lock::lock_folder;
 use crate::log::Log;
 use crate::machine::ThisMachine;
+use crate::paces::Paces;
 use crate::program::Program;
 use crate::repair::{cut_journal, word_of_now};
 use crate::settings::settings_of;
@@ -158,6 +159,7 @@ where
     let (rt, alloc, settings) = (log.rt, log.alloc, &opened.settings);
     let pauses = Mutex::new(Pauses::new(alloc));
     let sessions = Mutex::new(SessionBook::new(alloc)?);
+    let paces = Paces::new();
     let sites = sites_of(alloc, settings, opened.browsers.as_ref())?;
     let program = Program {
         rt,
@@ -170,6 +172,7 @@ where
         sites: sites.as_slice(),
         idle: settings.idle.div_ceil(1_000),
         machine: ThisMachine { rt },
+        paces: &paces,
         log,
         listeners: Listeners {
             clients: &opened.clients,

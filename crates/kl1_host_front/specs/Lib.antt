@@ -4,4 +4,5 @@ pub mod Origins
 pub mod Sums
 pub mod Pauses
 pub mod LogLines
+pub mod Paces
 pub mod StatusLines

@@ -6,7 +6,7 @@ ghost use Rattle.kl1_host_work.specs.Fronts.{AreAccountsOf};
 use crate::connection::{serve_lines, serve_pages};
 use crate::front::{Front, HostEvent};
 use crate::host::Host;
-use crate::lobby::{Limits, Lobby};
+use crate::lobby::{Admission, Limits, Lobby};
 use kl1_pool::{Pool, PoolIds, Share};
 use std::alloc::Global;
 use std::net::{Net, SocketAddr, TcpListener, TcpStream};
@@ -86,7 +86,7 @@ fn serve_client<'t, F: Front, W: Wait, R: Wait, K: PoolIds>(
     desk.front.tell(HostEvent::Closed(address, served));
 }
 
-/// Serves a connection that was let in by this number, and gives the share back.
+/// Serves a connection that was let in by this number, with the share that is kept for it, and gives that back.
 fn serve_visitor<'t, F: Front, W: Wait, R: Wait, K: PoolIds>(
     rt: &W,
     desk: &Desk<'_, 't, F, R, K>,
@@ -94,22 +94,79 @@ fn serve_visitor<'t, F: Front, W: Wait, R: Wait, K: PoolIds>(
     address: SocketAddr,
     peers: Peers,
     number: u64,
-    share: Share<K>,
 )
     requires { AreAccountsOf (F.names desk.now.front.now) K.names K.accounts }
 {
-    let mut share = share;
-    match peers {
-        Peers::Clients => serve_client(&*rt, &*desk, &*stream, address, &mut share),
-        Peers::Browsers => serve_pages(&*rt, &*desk, &*stream, address, &mut share),
+    if let Some(share) = desk.lobby.take_share(rt, number) {
+        let mut share = share;
+        match peers {
+            Peers::Clients => serve_client(&*rt, &*desk, &*stream, address, &mut share),
+            Peers::Browsers => serve_pages(&*rt, &*desk, &*stream, address, &mut share),
+        }
+        desk.lobby.give_back(rt, share);
     }
     drop(stream);
-    desk.lobby.give_back(rt, share);
     desk.lobby.leave(rt, number);
 }
 
-/// Accepts connections until the host closes, and serves each in a thread of its own, or in this one if no thread can be made. When all
-/// have ended, it returns.
+/// A connection that came in and is open.
+#[derive(Drop)]
+struct Arrival {
+    stream: Arc<TcpStream, Global>,
+    address: SocketAddr,
+    number: u64,
+}
+
+/// What came in.
+#[derive(Drop)]
+enum Received {
+    /// A connection that is open.
+    Open(Arrival),
+    /// Nothing that is served.
+    Nothing,
+    /// Nothing, since the host is closing.
+    Closing,
+}
+
+/// Waits for the next connection, and lets it in if it may.
+fn receive<'t, F: Front, N, R: Wait, K: PoolIds>(
+    rt: &N,
+    listener: &TcpListener,
+    desk: &Desk<'_, 't, F, R, K>,
+) -> Received
+where
+    N: Wait + Clock,
+{
+    let Ok((stream, address)) = listener.accept() else {
+        if desk.lobby.is_closing(rt) {
+            return Received::Closing;
+        }
+        thread::sleep(rt, Duration::from_millis(PAUSE_MILLISECONDS));
+        return Received::Nothing;
+    };
+    let Ok(stream) = Arc::new(desk.alloc, stream) else {
+        return Received::Nothing;
+    };
+    match desk
+        .lobby
+        .admit(rt, &stream, address.ip(), desk.limits.each)
+    {
+        Admission::Open(number) => Received::Open(Arrival {
+            stream,
+            address,
+            number,
+        }),
+        Admission::TurnedAway => {
+            desk.front.tell(HostEvent::TurnedAway(address));
+            Received::Nothing
+        }
+        // A host that is closing wakes this accept by a connection of its own.
+        Admission::Closing => Received::Closing,
+    }
+}
+
+/// Accepts connections until the host closes, and serves each in a thread of its own; one for which no thread can be made is closed. When
+/// all have ended, it returns.
 pub(crate) fn serve_each<'t, F: Front + Sync, N, R: Wait + Sync, K: PoolIds + Send + Sync>(
     rt: &N,
     listener: &TcpListener,
@@ -128,37 +185,24 @@ where
             requires { AreAccountsOf (F.names desk.now.front.now) K.names K.accounts }
         {
             for _ in rt.forever() {
-                let Some(share) = desk.lobby.share(rt) else {
-                    return;
+                let arrival = match receive(rt, listener, desk) {
+                    Received::Open(arrival) => arrival,
+                    Received::Nothing => continue,
+                    Received::Closing => return,
                 };
-                let Ok((stream, address)) = listener.accept() else {
-                    desk.lobby.give_back(rt, share);
-                    thread::sleep(rt, Duration::from_millis(PAUSE_MILLISECONDS));
-                    continue;
-                };
-                let Ok(stream) = Arc::new(desk.alloc, stream) else {
-                    desk.lobby.give_back(rt, share);
-                    continue;
-                };
-                let Some(number) = desk
-                    .lobby
-                    .admit(rt, &stream, address.ip(), desk.limits.each)
-                else {
-                    desk.lobby.give_back(rt, share);
-                    // A host that is closing wakes this accept by a connection of its own.
-                    if !desk.lobby.is_closing(rt) {
-                        desk.front.tell(HostEvent::TurnedAway(address));
-                    }
-                    continue;
-                };
-                match scope.spawn(move || {
-                    serve_visitor(rt, desk, stream, address, peers, number, share)
-                }) {
+                let Arrival {
+                    stream,
+                    address,
+                    number,
+                } = arrival;
+                match scope.spawn(move || serve_visitor(rt, desk, stream, address, peers, number)) {
                     // A thread whose handle is dropped leaves nothing when it ends, and the scope waits for it all the same.
                     Ok(handle) => drop(handle),
                     Err(failed) => {
-                        let thread::SpawnError { value: here, .. } = failed;
-                        here();
+                        // It isn't served here: this thread would then wait for who has connected. With what it was to do its stream goes.
+                        drop(failed);
+                        desk.lobby.leave(rt, number);
+                        desk.front.tell(HostEvent::Unserved(address));
                     }
                 }
             }

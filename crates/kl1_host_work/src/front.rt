@@ -21,6 +21,8 @@ pub enum HostEvent {
     Opened(SocketAddr),
     /// A connection is refused: too many are open.
     TurnedAway(SocketAddr),
+    /// A connection is closed: no thread can be made for it.
+    Unserved(SocketAddr),
     /// A connection of a client has ended.
     Closed(SocketAddr, Disconnect),
     /// An account's file can't be written: it gets nothing more, and the account no commands.

@@ -1,7 +1,7 @@
 // Who is connected, and shares for those who come.
 
 use kl1_pool::{PoolIds, Share};
-use std::alloc::{AllocError, Global};
+use std::alloc::{AllocError, AllocFailed, Global};
 use std::net::{IpAddr, Shutdown, TcpStream};
 use std::sync::{Arc, Condvar, Mutex, Wait};
 use std::time::Duration;
@@ -16,17 +16,19 @@ pub struct Limits {
 
 /// A connection that is open.
 #[derive(Drop)]
-struct Visitor {
+struct Visitor<K: PoolIds> {
     number: u64,
     address: IpAddr,
     stream: Arc<TcpStream, Global>,
+    /// The share for it, until the thread that serves it takes it: one that can't be made keeps none.
+    share: Option<Share<K>>,
 }
 
 /// Shares that are free, and connections that are open.
 #[derive(Drop)]
 struct Visitors<K: PoolIds> {
     free: Vec<Share<K>>,
-    open: Vec<Visitor>,
+    open: Vec<Visitor<K>>,
     /// The number of the last connection.
     last: u64,
     is_closing: bool,
@@ -37,6 +39,50 @@ struct Visitors<K: PoolIds> {
 pub(crate) struct Lobby<K: PoolIds> {
     visitors: Mutex<Visitors<K>>,
     changed: Condvar,
+}
+
+/// What becomes of a connection that came in.
+#[derive(Clone, Copy)]
+pub(crate) enum Admission {
+    /// It is open, by this number.
+    Open(u64),
+    /// Too many are open from its address.
+    TurnedAway,
+    /// The host is closing.
+    Closing,
+}
+
+impl<K: PoolIds> Visitors<K> {
+    /// Takes a connection in, with a share that is free. There is room for as many as there are shares.
+    fn take_in(&mut self, address: IpAddr, stream: Arc<TcpStream, Global>) -> Admission {
+        let Some(share) = self.free.pop() else {
+            return Admission::TurnedAway;
+        };
+        let number = self.last.saturating_add(1);
+        self.last = number;
+        let visitor = Visitor {
+            number,
+            address,
+            stream,
+            share: Some(share),
+        };
+        match self.open.push(visitor) {
+            Ok(()) => Admission::Open(number),
+            Err(refused) => {
+                let AllocFailed { value, .. } = refused;
+                self.give_back(value);
+                Admission::TurnedAway
+            }
+        }
+    }
+
+    /// Gives the share of a connection back that its thread hasn't taken.
+    fn give_back(&mut self, visitor: Visitor<K>) {
+        let Visitor { share, .. } = visitor;
+        if let Some(share) = share {
+            let _ = self.free.push(share);
+        }
+    }
 }
 
 impl<K: PoolIds> Lobby<K> {
@@ -54,8 +100,18 @@ impl<K: PoolIds> Lobby<K> {
         })
     }
 
-    /// Waits for a share; `None` if the host is closing.
-    pub(crate) fn share<W: Wait>(&self, rt: &W) -> Option<Share<K>> {
+    /// Lets a connection in, once a share is free for it, which is kept until its thread takes it; not if the host is closing, or if there
+    /// are `each` from this address.
+    pub(crate) fn admit<W: Wait>(
+        &self,
+        rt: &W,
+        stream: &Arc<TcpStream, Global>,
+        address: IpAddr,
+        each: usize,
+    ) -> Admission {
+        let Ok(stream) = Arc::try_clone(stream) else {
+            return Admission::TurnedAway;
+        };
         let mut guard = self
             .changed
             .wait_while(rt, self.visitors.lock(rt), |visitors| {
@@ -63,9 +119,24 @@ impl<K: PoolIds> Lobby<K> {
             });
         let visitors = &mut *guard;
         if visitors.is_closing {
-            return None;
+            return Admission::Closing;
         }
-        visitors.free.pop()
+        if count_of(visitors.open.as_slice(), address) >= each {
+            return Admission::TurnedAway;
+        }
+        visitors.take_in(address, stream)
+    }
+
+    /// The share that is kept for a connection.
+    pub(crate) fn take_share<W: Wait>(&self, rt: &W, number: u64) -> Option<Share<K>> {
+        let mut guard = self.visitors.lock(rt);
+        let visitors = &mut *guard;
+        for visitor in visitors.open.iter_mut() {
+            if visitor.number == number {
+                return visitor.share.take();
+            }
+        }
+        None
     }
 
     /// Gives a share back. There is room for each, so that no memory is asked for.
@@ -77,35 +148,6 @@ impl<K: PoolIds> Lobby<K> {
         self.changed.notify_all();
     }
 
-    /// The number of a connection that may be open; `None` if the host is closing, or if there are `each` from this address.
-    pub(crate) fn admit<W: Wait>(
-        &self,
-        rt: &W,
-        stream: &Arc<TcpStream, Global>,
-        address: IpAddr,
-        each: usize,
-    ) -> Option<u64> {
-        let Ok(stream) = Arc::try_clone(stream) else {
-            return None;
-        };
-        let mut guard = self.visitors.lock(rt);
-        let visitors = &mut *guard;
-        if visitors.is_closing || count_of(visitors.open.as_slice(), address) >= each {
-            return None;
-        }
-        let number = visitors.last.checked_add(1)?;
-        visitors.last = number;
-        let visitor = Visitor {
-            number,
-            address,
-            stream,
-        };
-        if visitors.open.push(visitor).is_err() {
-            return None;
-        }
-        Some(number)
-    }
-
     /// Notes that a connection has ended.
     pub(crate) fn leave<W: Wait>(&self, rt: &W, number: u64) {
         let mut guard = self.visitors.lock(rt);
@@ -115,7 +157,8 @@ impl<K: PoolIds> Lobby<K> {
             .iter()
             .position(|visitor| visitor.number == number);
         if let Some(place) = found {
-            let _ = visitors.open.swap_remove(place);
+            let visitor = visitors.open.swap_remove(place);
+            visitors.give_back(visitor);
         }
         drop(guard);
         self.changed.notify_all();
@@ -155,7 +198,7 @@ impl<K: PoolIds> Lobby<K> {
 }
 
 /// How many connections are open from this address.
-fn count_of(open: &[Visitor], address: IpAddr) -> usize {
+fn count_of<K: PoolIds>(open: &[Visitor<K>], address: IpAddr) -> usize {
     open.iter()
         .filter(|visitor| visitor.address == address)
         .count()
