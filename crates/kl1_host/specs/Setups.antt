@@ -29,7 +29,9 @@ pub record IsSetUp (settings : Settings) (accounts : ℕ) (s : Setup) : Type 0 w
   pub workers : s.workers ≡ unwrap_or settings.workers accounts
   pub connections : s.connections ≡ settings.connections
   pub each : s.limits.each ≡ settings.connections_each
+  pub waiting : s.limits.waiting_each ≡ settings.waiting_each
   pub idle : as_nanos s.limits.idle ≡ settings.idle * 1_000_000
+  pub idle_login : as_nanos s.limits.idle_login ≡ settings.idle_login * 1_000_000
   pub syncing : IsSynced settings.sync s.syncing
   pub codes : s.codes_each ≡ settings.codes_each
   pub memory : s.memory_each ≡ settings.memory_each

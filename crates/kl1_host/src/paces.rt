@@ -9,12 +9,15 @@ use std::time::Clock;
 pub enum PacedLine {
     /// No thread could be made for a connection.
     Unserved,
+    /// A connection gave way to another.
+    GaveWay,
 }
 
 /// How often each of these lines is told.
 #[derive(Drop)]
 pub struct Paces {
     unserved: Mutex<Pace>,
+    gave_way: Mutex<Pace>,
 }
 
 impl Paces {
@@ -22,6 +25,7 @@ impl Paces {
     pub fn new() -> Self {
         Paces {
             unserved: Mutex::new(Pace::new()),
+            gave_way: Mutex::new(Pace::new()),
         }
     }
 
@@ -29,6 +33,7 @@ impl Paces {
     fn pace_of(&self, line: PacedLine) -> &Mutex<Pace> {
         match line {
             PacedLine::Unserved => &self.unserved,
+            PacedLine::GaveWay => &self.gave_way,
         }
     }
 

@@ -249,6 +249,9 @@ impl<'f, R: Wait + Clock + Eprint + Files + RandomSource + Sync> Front for Progr
             HostEvent::Unserved(address) => {
                 self.tell_paced(PacedLine::Unserved, b"no_thread", address)
             }
+            HostEvent::GaveWay(address) => {
+                self.tell_paced(PacedLine::GaveWay, b"gave_way", address)
+            }
             HostEvent::Closed(address, ended) => {
                 let how = Field {
                     name: b"by",

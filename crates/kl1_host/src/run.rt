@@ -64,7 +64,9 @@ fn setup_of(settings: &Settings, accounts: usize) -> Setup
         connections: settings.connections as usize,
         limits: Limits {
             each: settings.connections_each as usize,
+            waiting_each: settings.waiting_each as usize,
             idle: Duration::from_millis(settings.idle),
+            idle_login: Duration::from_millis(settings.idle_login),
         },
         syncing: syncing_of(settings.sync),
         codes_each: settings.codes_each,

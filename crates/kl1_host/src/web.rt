@@ -159,7 +159,11 @@ impl<'w, R: Wait + Clock + Eprint + Files, P: Performer, V: HostView> Accounts
     }
 
     fn open(&mut self, name: &[u8], key: &[u8]) -> Option<usize> {
-        self.door.open(name, key)
+        let found = self.door.open(name, key);
+        if found.is_some() {
+            self.host.let_in();
+        }
+        found
     }
 
     fn put_name(&self, account: usize, out: &mut Vec<u8>) -> Result<(), AllocError> {
@@ -177,6 +181,8 @@ impl<'w, R: Wait + Clock + Eprint + Files, P: Performer, V: HostView> Accounts
     }
 
     fn look(&mut self, account: usize) -> AccountViewer<'w, V> {
+        // The door of the page lets none look at an account but who has the cookie and the token of its session.
+        self.host.let_in();
         self.record.looked(account);
         AccountViewer {
             host: self.host,

@@ -145,9 +145,13 @@ pub const FIRST_SETTINGS: &str = "\
 # After which time a silent connection is ended.
 # idle = \"10m\"
 
-# How many connections are open at once, and how many from one address.
+# After which time a connection is ended that has shown no key.
+# idle_login = \"10s\"
+
+# How many connections are open at once, how many from one address, and how many of these that have shown no key.
 # connections = 1000
 # connections_each = 100
+# waiting_each = 64
 
 # How much memory an account may take, and how much source it may load.
 # memory_each = \"256 MB\"

@@ -7,6 +7,7 @@ use crate::connection::{serve_lines, serve_pages};
 use crate::front::{Front, HostEvent};
 use crate::host::Host;
 use crate::lobby::{Admission, Limits, Lobby};
+use crate::visit::Visit;
 use kl1_pool::{Pool, PoolIds, Share};
 use std::alloc::Global;
 use std::net::{Net, SocketAddr, TcpListener, TcpStream};
@@ -62,35 +63,35 @@ impl<'d, 't, F: Front, R: Wait, K: PoolIds> Desk<'d, 't, F, R, K> {
 }
 
 /// Serves a connection of a client.
-fn serve_client<'t, F: Front, W: Wait, R: Wait, K: PoolIds>(
+fn serve_client<'t, F: Front, W: Wait + Clock, R: Wait, K: PoolIds>(
     rt: &W,
     desk: &Desk<'_, 't, F, R, K>,
-    stream: &TcpStream,
+    visit: &Visit,
     address: SocketAddr,
     share: &mut Share<K>,
 )
     requires { AreAccountsOf (F.names desk.now.front.now) K.names K.accounts }
 {
     desk.front.tell(HostEvent::Opened(address));
-    let mut door = desk.front.door(address);
+    let door = desk.front.door(address);
     let served = serve_lines(
         rt,
         desk.alloc,
-        stream,
+        visit,
         desk.pool,
         desk.host,
-        desk.limits.idle,
-        &mut door,
+        desk.limits,
+        door,
         share,
     );
     desk.front.tell(HostEvent::Closed(address, served));
 }
 
 /// Serves a connection that was let in by this number, with the share that is kept for it, and gives that back.
-fn serve_visitor<'t, F: Front, W: Wait, R: Wait, K: PoolIds>(
+fn serve_visitor<'t, F: Front, W: Wait + Clock, R: Wait, K: PoolIds>(
     rt: &W,
     desk: &Desk<'_, 't, F, R, K>,
-    stream: Arc<TcpStream, Global>,
+    visit: Arc<Visit, Global>,
     address: SocketAddr,
     peers: Peers,
     number: u64,
@@ -100,19 +101,19 @@ fn serve_visitor<'t, F: Front, W: Wait, R: Wait, K: PoolIds>(
     if let Some(share) = desk.lobby.take_share(rt, number) {
         let mut share = share;
         match peers {
-            Peers::Clients => serve_client(&*rt, &*desk, &*stream, address, &mut share),
-            Peers::Browsers => serve_pages(&*rt, &*desk, &*stream, address, &mut share),
+            Peers::Clients => serve_client(&*rt, &*desk, &*visit, address, &mut share),
+            Peers::Browsers => serve_pages(&*rt, &*desk, &*visit, address, &mut share),
         }
         desk.lobby.give_back(rt, share);
     }
-    drop(stream);
+    drop(visit);
     desk.lobby.leave(rt, number);
 }
 
 /// A connection that came in and is open.
 #[derive(Drop)]
 struct Arrival {
-    stream: Arc<TcpStream, Global>,
+    visit: Arc<Visit, Global>,
     address: SocketAddr,
     number: u64,
 }
@@ -128,15 +129,44 @@ enum Received {
     Closing,
 }
 
+/// Lets a connection in as soon as there is a share for it, if it may. Others that have shown no key give way to it.
+fn arrival_of<'t, F: Front, N: Wait + Clock, R: Wait, K: PoolIds>(
+    rt: &N,
+    desk: &Desk<'_, 't, F, R, K>,
+    visit: Arc<Visit, Global>,
+    address: SocketAddr,
+) -> Received {
+    for _ in rt.forever() {
+        match desk.lobby.admit(rt, &visit, address, desk.limits) {
+            Admission::Open(number) => {
+                return Received::Open(Arrival {
+                    visit,
+                    address,
+                    number,
+                });
+            }
+            Admission::TurnedAway => {
+                desk.front.tell(HostEvent::TurnedAway(address));
+                return Received::Nothing;
+            }
+            // A host that is closing wakes this accept by a connection of its own.
+            Admission::Closing => return Received::Closing,
+            Admission::Awaits(oldest) => {
+                desk.front.tell(HostEvent::GaveWay(oldest));
+                desk.lobby.wait_for_share(rt, true);
+            }
+            Admission::Waits => desk.lobby.wait_for_share(rt, false),
+        }
+    }
+    Received::Nothing
+}
+
 /// Waits for the next connection, and lets it in if it may.
-fn receive<'t, F: Front, N, R: Wait, K: PoolIds>(
+fn receive<'t, F: Front, N: Wait + Clock, R: Wait, K: PoolIds>(
     rt: &N,
     listener: &TcpListener,
     desk: &Desk<'_, 't, F, R, K>,
-) -> Received
-where
-    N: Wait + Clock,
-{
+) -> Received {
     let Ok((stream, address)) = listener.accept() else {
         if desk.lobby.is_closing(rt) {
             return Received::Closing;
@@ -144,24 +174,24 @@ where
         thread::sleep(rt, Duration::from_millis(PAUSE_MILLISECONDS));
         return Received::Nothing;
     };
-    let Ok(stream) = Arc::new(desk.alloc, stream) else {
-        return Received::Nothing;
-    };
-    match desk
-        .lobby
-        .admit(rt, &stream, address.ip(), desk.limits.each)
-    {
-        Admission::Open(number) => Received::Open(Arrival {
-            stream,
-            address,
-            number,
-        }),
-        Admission::TurnedAway => {
-            desk.front.tell(HostEvent::TurnedAway(address));
-            Received::Nothing
-        }
-        // A host that is closing wakes this accept by a connection of its own.
-        Admission::Closing => Received::Closing,
+    match Arc::new(desk.alloc, Visit::new(stream)) {
+        Ok(visit) => arrival_of(rt, desk, visit, address),
+        Err(_) => Received::Nothing,
+    }
+}
+
+/// Takes in that no thread can be made for the connection of this number: the oldest that has shown no key is told to end, and it is waited
+/// a short time for that.
+fn make_room<'t, F: Front, N: Wait + Clock, R: Wait, K: PoolIds>(
+    rt: &N,
+    desk: &Desk<'_, 't, F, R, K>,
+    number: u64,
+) {
+    if let Some(oldest) = desk.lobby.make_room(rt, number) {
+        desk.front.tell(HostEvent::GaveWay(oldest));
+        desk.lobby.wait_for_leave(rt);
+        // Its thread has a last step to go.
+        thread::sleep(rt, Duration::from_millis(PAUSE_MILLISECONDS));
     }
 }
 
@@ -191,19 +221,22 @@ where
                     Received::Closing => return,
                 };
                 let Arrival {
-                    stream,
+                    visit,
                     address,
                     number,
                 } = arrival;
-                match scope.spawn(move || serve_visitor(rt, desk, stream, address, peers, number)) {
-                    // A thread whose handle is dropped leaves nothing when it ends, and the scope waits for it all the same.
-                    Ok(handle) => drop(handle),
-                    Err(failed) => {
-                        // It isn't served here: this thread would then wait for who has connected. With what it was to do its stream goes.
-                        drop(failed);
-                        desk.lobby.leave(rt, number);
-                        desk.front.tell(HostEvent::Unserved(address));
-                    }
+                let job = move || serve_visitor(rt, desk, visit, address, peers, number);
+                // A thread whose handle is dropped leaves nothing when it ends, and the scope waits for it all the same.
+                let Err(failed) = scope.spawn(job) else {
+                    continue;
+                };
+                let thread::SpawnError { value: job, .. } = failed;
+                make_room(rt, desk, number);
+                if let Err(failed) = scope.spawn(job) {
+                    // It isn't served here: this thread would then wait for who has connected. With what it was to do it is closed.
+                    drop(failed);
+                    desk.lobby.leave(rt, number);
+                    desk.front.tell(HostEvent::Unserved(address));
                 }
             }
         },

@@ -23,6 +23,8 @@ pub enum HostEvent {
     TurnedAway(SocketAddr),
     /// A connection is closed: no thread can be made for it.
     Unserved(SocketAddr),
+    /// A connection that has shown no key is told to end, since another came in for which there is no place.
+    GaveWay(SocketAddr),
     /// A connection of a client has ended.
     Closed(SocketAddr, Disconnect),
     /// An account's file can't be written: it gets nothing more, and the account no commands.
@@ -36,6 +38,9 @@ pub enum HostEvent {
 /// What can be seen of a host that runs. What looks at an account waits for one that is in the midst of a reduction, and gives an error if
 /// there is no such account.
 pub trait HostView {
+    /// Takes in that who is served has shown a key, or the cookie and the token of a session: so its connection isn't ended as a stranger's.
+    fn let_in(&self);
+
     /// Whether an account's file gets nothing more, and the account no commands.
     fn is_stopped(&self, account: usize) -> bool;
 

@@ -17,6 +17,7 @@ mod running;
 mod start_fault;
 mod starting;
 mod view;
+mod visit;
 
 pub use budget::Budget;
 pub use connection::serve;

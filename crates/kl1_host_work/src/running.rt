@@ -150,6 +150,7 @@ fn attend<'p, 't, F: Front, N: Wait, R: Wait, K: PoolIds>(
         rt,
         desk,
         outgoing: None,
+        visit: None,
     };
     desk.front.attend(&mut performer, &view);
 }

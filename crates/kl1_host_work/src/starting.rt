@@ -32,7 +32,7 @@ use std::time::Clock;
 pub struct Setup {
     /// How many threads go on with accounts.
     pub workers: usize,
-    /// How many connections may be open at once; with a page for browsers one more.
+    /// How many connections may be open at once.
     pub connections: usize,
     pub limits: Limits,
     pub syncing: Syncing,
@@ -207,8 +207,6 @@ where
             .saturating_add(setup.connections)
             // The program attends to the host with one.
             .saturating_add(1)
-            // Who waits for the next browser has one already.
-            .saturating_add(usize::from(listeners.browsers.is_some()))
             // Accounts are restored with shares of their own.
             .saturating_add(accounts.len()),
     )?

@@ -3,6 +3,7 @@
 use crate::connections::Desk;
 use crate::front::{Front, HostView};
 use crate::noting::note_told;
+use crate::visit::Visit;
 use kl1_host_journals::Outgoing;
 use kl1_journal_entries::Journal;
 use kl1_pool::{BookTotals, JournalReader, PoolIds};
@@ -18,6 +19,8 @@ pub(crate) struct View<'v, 'd, 't, F: Front, N: Wait, R: Wait, K: PoolIds> {
     pub(crate) desk: &'v Desk<'d, 't, F, R, K>,
     /// The leave to write of the connection that is told what is seen; `None` if no connection is.
     pub(crate) outgoing: Option<&'v Cell<Outgoing>>,
+    /// That connection.
+    pub(crate) visit: Option<&'v Visit>,
 }
 
 /// Reads how many sessions are open.
@@ -46,6 +49,12 @@ impl<F: Front, N: Wait, R: Wait, K: PoolIds> View<'_, '_, '_, F, N, R, K> {
 }
 
 impl<F: Front, N: Wait, R: Wait, K: PoolIds> HostView for View<'_, '_, '_, F, N, R, K> {
+    fn let_in(&self) {
+        if let Some(visit) = self.visit {
+            visit.let_in();
+        }
+    }
+
     fn is_stopped(&self, account: usize) -> bool {
         let desk = self.desk;
         let keepers = desk.host.keepers;

@@ -24,7 +24,9 @@ pub(crate) fn setup() -> Setup {
         connections: 4,
         limits: Limits {
             each: 4,
+            waiting_each: 4,
             idle: Duration::from_secs(30),
+            idle_login: Duration::from_secs(30),
         },
         syncing: Syncing {
             replies_wait: true,
