@@ -35,3 +35,4 @@ pub record IsSetUp (settings : Settings) (accounts : ℕ) (s : Setup) : Type 0 w
   pub syncing : IsSynced settings.sync s.syncing
   pub codes : s.codes_each ≡ settings.codes_each
   pub memory : s.memory_each ≡ settings.memory_each
+  pub disk : s.disk_each ≡ settings.disk_each

@@ -17,6 +17,7 @@ mod log;
 mod logins;
 mod machine;
 mod new_file;
+mod open_files;
 mod paces;
 mod program;
 mod repair;

@@ -19,6 +19,7 @@ use kl1_lines::{Sink, Source};
 use kl1_log::LogError;
 use kl1_session::{Disconnect, Key};
 use std::alloc::{AllocError, Global};
+use std::io::Write;
 use std::net::{Ipv4Addr, SocketAddr, SocketAddrV4, TcpListener};
 use std::os::unix::net::{UnixListener, UnixStream};
 use std::random::RandomSource;
@@ -33,8 +34,10 @@ pub struct Program<'f, R: Wait + Clock + Eprint + Files + RandomSource> {
     pub alloc: Global,
     pub folder: &'f str,
     pub keys: &'f [Key],
-    /// How many bytes an account may take.
+    /// How many bytes an account may take in memory, its journal may have on disk, and its sources may have.
     pub memory_each: u64,
+    pub disk_each: u64,
+    pub codes_each: u64,
     pub pauses: &'f Mutex<Pauses>,
     /// The sessions of browsers.
     pub sessions: &'f Mutex<SessionBook>,
@@ -192,6 +195,43 @@ impl<'f, R: Wait + Clock + Eprint + Files + RandomSource> Program<'f, R> {
         }
     }
 
+    /// Tells an event of an account.
+    fn tell_of(&self, event: &[u8], account: usize) {
+        self.log.tell_account(event, self.name_of(account), &[]);
+    }
+
+    /// Tells that the file of an account has as many bytes as it may, or fewer again.
+    fn tell_disk(&self, event: &[u8], account: usize) {
+        let most = Number {
+            name: b"disk_each",
+            number: self.disk_each,
+        };
+        self.log
+            .tell_account(event, self.name_of(account), &[most]);
+    }
+
+    /// Tells that an account was refused a source.
+    fn tell_codes(&self, account: usize) {
+        let most = Number {
+            name: b"codes_each",
+            number: self.codes_each,
+        };
+        self.log
+            .tell_account(b"codes_full", self.name_of(account), &[most]);
+    }
+
+    /// Tells for which account a host waits that was asked to stop: also who asked.
+    fn tell_awaited(&self, account: usize) {
+        self.tell_of(b"stop_waits", account);
+        let mut guard = self.asker.lock(self.rt);
+        if let Some(asker) = &mut *guard {
+            let name = self.name_of(account);
+            let _ = asker.write_all(b"waits for ");
+            let _ = asker.write_all(name);
+            let _ = asker.write_all(b", which is in the midst of a reduction\n");
+        }
+    }
+
     /// Tells that a host is ready, and where.
     fn tell_ready(&self) -> Result<(), AllocError> {
         let listen = local_of(self.alloc, self.listeners.clients)?;
@@ -266,6 +306,12 @@ impl<'f, R: Wait + Clock + Eprint + Files + RandomSource + Sync> Front for Progr
             HostEvent::Freed { account, bytes } => {
                 self.tell_memory(b"memory_free", account, bytes)
             }
+            HostEvent::Waits { account } => self.tell_of(b"no_room", account),
+            HostEvent::Written { account } => self.tell_of(b"room", account),
+            HostEvent::DiskFull { account } => self.tell_disk(b"disk_full", account),
+            HostEvent::DiskFreed { account } => self.tell_disk(b"disk_free", account),
+            HostEvent::CodesFull { account } => self.tell_codes(account),
+            HostEvent::AwaitsEnd { account } => self.tell_awaited(account),
         }
     }
 

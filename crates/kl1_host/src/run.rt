@@ -5,10 +5,11 @@ ghost use Rattle.kl1_host.specs.Setups.{IsSynced, IsSetUp};
 use crate::accounts::{Accounts, accounts_in};
 use crate::fault::Fault;
 use crate::folder::{SOCKET, path_in};
-use crate::journals::files_of;
+use crate::journals::{files_of, remove_spares};
 use crate::lock::lock_folder;
 use crate::log::Log;
 use crate::machine::ThisMachine;
+use crate::open_files::fit_connections;
 use crate::paces::Paces;
 use crate::program::Program;
 use crate::repair::{cut_journal, word_of_now};
@@ -71,6 +72,7 @@ fn setup_of(settings: &Settings, accounts: usize) -> Setup
         syncing: syncing_of(settings.sync),
         codes_each: settings.codes_each,
         memory_each: settings.memory_each,
+        disk_each: settings.disk_each,
     }
 }
 
@@ -95,7 +97,11 @@ where
     for _ in 0..keys.len().saturating_add(1) {
         let files = files_of(program.log, program.folder, keys, repair)?;
         match run_host(rt, alloc, program.listeners, program, files, setup) {
-            Ok(_files) => return Ok(()),
+            Ok(files) => {
+                drop(files);
+                remove_spares(program.log, program.folder, keys);
+                return Ok(());
+            }
             Err(StartFault::Unaccepted { account, line }) if repairs => {
                 let name = program.name_of(account);
                 cut_journal(rt, alloc, program.folder, name, line, word.as_str())?;
@@ -169,6 +175,8 @@ where
         folder,
         keys: opened.accounts.keys.as_slice(),
         memory_each: settings.memory_each,
+        disk_each: settings.disk_each,
+        codes_each: settings.codes_each,
         pauses: &pauses,
         sessions: &sessions,
         sites: sites.as_slice(),
@@ -208,14 +216,19 @@ where
 {
     let alloc = rt.alloc();
     let _lock = lock_folder(rt, alloc, folder, "one host at a time")?;
-    let opened = opened(rt, alloc, folder)?;
+    let mut opened = opened(rt, alloc, folder)?;
     let log = Log { rt, alloc };
     let folder_field = Field {
         name: b"folder",
         value: folder.as_bytes(),
     };
     log.tell(b"start", &[folder_field]);
-    let ended = run_opened(&log, folder, &opened, repairs, asker);
+    let accounts = opened.accounts.keys.len();
+    let fitted = fit_connections(&log, &mut opened.settings, accounts);
+    let ended = match fitted {
+        Ok(()) => run_opened(&log, folder, &opened, repairs, asker),
+        Err(fault) => Err(fault),
+    };
     let _ = fs::remove_file(rt, path_in(alloc, folder, SOCKET)?.as_str());
     if ended.is_ok() {
         log.tell(b"end", &[]);

@@ -201,9 +201,9 @@ impl<'w, R: Wait + Clock + Eprint + Files, P: Performer, V: HostView> Accounts
             None => Ok(0),
         };
         Measures {
-            entries: match self.host.usage(account) {
-                Ok(usage) => usage.entries.count,
-                Err(_) => 0,
+            entries: match self.host.sight(account) {
+                (Some(sight), _) => sight.usage.entries.count,
+                (None, _) => 0,
             },
             bytes: bytes.unwrap_or(0),
         }
@@ -216,12 +216,12 @@ impl<'w, R: Wait + Clock + Eprint + Files, P: Performer, V: HostView> Accounts
             events: 0,
             steps: 0,
         };
+        self.host.ask_all();
         for account in 0..self.door.keys.len() {
-            let sessions = self.host.sessions(account).unwrap_or(0);
-            sums.sessions = sums.sessions.saturating_add(sessions);
-            if let Ok(counted) = self.host.counted(account) {
-                sums.events = sums.events.saturating_add(counted.events);
-                sums.steps = sums.steps.saturating_add(counted.steps);
+            if let (Some(sight), _) = self.host.sight(account) {
+                sums.sessions = sums.sessions.saturating_add(sight.sessions);
+                sums.events = sums.events.saturating_add(sight.counted.events);
+                sums.steps = sums.steps.saturating_add(sight.counted.steps);
             }
         }
         sums

@@ -4,5 +4,6 @@ pub mod Origins
 pub mod Sums
 pub mod Pauses
 pub mod LogLines
+pub mod OpenFiles
 pub mod Paces
 pub mod StatusLines

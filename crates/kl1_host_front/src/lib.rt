@@ -4,6 +4,7 @@
 mod address;
 mod hashed_keys;
 mod log_line;
+mod open_files;
 mod origin;
 mod pace;
 mod pauses;
@@ -19,6 +20,7 @@ mod wrong_keys;
 pub use address::address_number;
 pub use hashed_keys::{HashedKeys, sum_of};
 pub use log_line::{Field, put_line};
+pub use open_files::{FILES_EACH, FILES_KEPT, connections_within, open_files_in};
 pub use origin::host_of;
 pub use pace::{MOST_LEFT_OUT, Pace, TOLD_AGAIN_AFTER};
 pub use pausing_door::{LoginTeller, PausingDoor};

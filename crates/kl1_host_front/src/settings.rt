@@ -35,6 +35,8 @@ pub struct Settings {
     pub memory_each: u64,
     /// How many bytes of sources an account may load.
     pub codes_each: u64,
+    /// How many bytes the journal of an account may have on disk.
+    pub disk_each: u64,
 }
 
 /// The most workers.
@@ -167,6 +169,7 @@ impl Settings {
             waiting_each: 64,
             memory_each: 256_000_000,
             codes_each: 64_000_000,
+            disk_each: 1_000_000_000,
         })
     }
 
@@ -185,6 +188,7 @@ impl Settings {
             "waiting_each" => self.waiting_each = number_of(value, MOST_CONNECTIONS)?,
             "memory_each" => self.memory_each = size_of(value)?,
             "codes_each" => self.codes_each = size_of(value)?,
+            "disk_each" => self.disk_each = size_of(value)?,
             _ => return Err(BadSetting::Unknown),
         }
         Ok(())

@@ -153,7 +153,8 @@ pub const FIRST_SETTINGS: &str = "\
 # connections_each = 100
 # waiting_each = 64
 
-# How much memory an account may take, and how much source it may load.
+# How much memory an account may take, how much source it may load, and how much its journal may have on the disk.
 # memory_each = \"256 MB\"
 # codes_each = \"64 MB\"
+# disk_each = \"1 GB\"
 ";

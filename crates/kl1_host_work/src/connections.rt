@@ -3,6 +3,7 @@
 ghost use Rattle.std.specs.Prelude.{◌≡◌};
 ghost use Rattle.kl1_host_work.specs.Fronts.{AreAccountsOf};
 
+use crate::board::Board;
 use crate::connection::{serve_lines, serve_pages};
 use crate::front::{Front, HostEvent};
 use crate::host::Host;
@@ -34,6 +35,7 @@ pub(crate) struct Desk<'d, 't, F: Front, R: Wait, K: PoolIds> {
     pub(crate) front: &'d F,
     pub(crate) pool: &'d Pool<'t, R, K>,
     pub(crate) lobby: &'d Lobby<K>,
+    pub(crate) board: &'d Board,
     pub(crate) host: Host<'d>,
     pub(crate) limits: Limits,
     pub(crate) alloc: Global,
@@ -45,6 +47,7 @@ impl<'d, 't, F: Front, R: Wait, K: PoolIds> Desk<'d, 't, F, R, K> {
         front: &'d F,
         pool: &'d Pool<'t, R, K>,
         lobby: &'d Lobby<K>,
+        board: &'d Board,
         host: Host<'d>,
         limits: Limits,
         alloc: Global,
@@ -55,6 +58,7 @@ impl<'d, 't, F: Front, R: Wait, K: PoolIds> Desk<'d, 't, F, R, K> {
             front,
             pool,
             lobby,
+            board,
             host,
             limits,
             alloc,

@@ -2,6 +2,7 @@
 
 ghost use Rattle.kl1_session.specs.Histories.{done_in};
 
+use crate::filling::{has_no_room, is_of_sessions, is_short, note_done};
 use crate::front::Performer;
 use crate::host::Host;
 use crate::noting::note_told;
@@ -76,7 +77,9 @@ impl<'p, 't, W: Wait, R: Wait, K: PoolIds> CommandHandler for HostHandler<'p, 't
     ghost done = { λ handler. done_in handler.history };
 
     fn act(&mut self, account: usize, command: &Command) -> Performed {
-        if self.is_refused(account, command) {
+        if self.is_refused(account, command)
+            || has_no_room(self.rt, self.host, account, command)
+        {
             let performed = Performed::Memory;
             self.history
                 .add(Snapshot::of(&account), Snapshot::of(command), &performed);
@@ -85,7 +88,11 @@ impl<'p, 't, W: Wait, R: Wait, K: PoolIds> CommandHandler for HostHandler<'p, 't
         let answer = self.pool.act(self.rt, account, command, self.share);
         // What is noted is what the answer says of itself, not what was asked for.
         let (performed, done_to, done) = answer.into_parts();
-        note_told(self.rt, self.pool, self.host, self.outgoing, account);
+        note_done(self.host, account, command);
+        // A session that is opened while the disk is full tells nothing of the account, so its reply waits for nothing: a reset may follow.
+        if !(is_of_sessions(command) && is_short(self.host, account)) {
+            note_told(self.rt, self.pool, self.host, self.outgoing, account);
+        }
         self.count(account, source_bytes(command), &performed);
         self.history.add(done_to, done, &performed);
         performed

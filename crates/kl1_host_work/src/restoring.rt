@@ -5,6 +5,7 @@ ghost use Rattle.kl1_host_work.specs.Restarts.{IsAllRestored};
 
 use crate::budget::Budget;
 use crate::front::{Front, HostEvent};
+use crate::host::FileRoom;
 use crate::linking::link_account;
 use crate::start_fault::StartFault;
 use kl1_host_journals::{Keeper, Linked, RestingFile};
@@ -30,6 +31,7 @@ pub(crate) struct Shelf<D: Disk> {
     pub(crate) files: Vec<LogFile<D>>,
     pub(crate) keepers: Vec<Keeper>,
     pub(crate) budgets: Vec<Budget>,
+    pub(crate) rooms: Vec<FileRoom>,
 }
 
 /// Does the entries of a journal to an account in which nothing has happened; answers how many they are.
@@ -66,6 +68,7 @@ impl<D: Disk + Drop> Shelf<D> {
             files: Vec::with_capacity(alloc, accounts)?,
             keepers: Vec::with_capacity(alloc, accounts)?,
             budgets: Vec::with_capacity(alloc, accounts)?,
+            rooms: Vec::with_capacity(alloc, accounts)?,
         })
     }
 
@@ -76,6 +79,7 @@ impl<D: Disk + Drop> Shelf<D> {
             notes,
             receipt,
         } = linked;
+        self.rooms.push(file.disk().room())?;
         self.files.push(file)?;
         self.keepers.push(Keeper::new(notes, receipt))?;
         self.budgets.push(Budget::new(bytes))?;

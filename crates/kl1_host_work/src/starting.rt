@@ -6,6 +6,7 @@ ghost use Rattle.kl1_pool.specs.Parts.{AreUsed};
 ghost use Rattle.kl1_host_work.specs.AccountFiles.{names_of};
 ghost use Rattle.kl1_host_work.specs.Fronts.{AreAccountsOf};
 
+use crate::board::Board;
 use crate::connections::Desk;
 use crate::front::Front;
 use crate::host::{Host, Syncing};
@@ -38,8 +39,10 @@ pub struct Setup {
     pub syncing: Syncing,
     /// How many bytes of sources each account may load.
     pub codes_each: u64,
-    /// How many bytes each account may take.
+    /// How many bytes each account may take in memory.
     pub memory_each: u64,
+    /// How many bytes the file of each account may have.
+    pub disk_each: u64,
 }
 
 /// The last `count` of some shares, or all if they are fewer; the others are left.
@@ -114,19 +117,23 @@ where
         files,
         keepers,
         budgets,
+        rooms,
     } = restore_all(rt, alloc, pool, front, files, setup.codes_each, restoring)?;
     let workers = take_shares(alloc, &mut shares, setup.workers)?;
     let Some(attending) = shares.pop() else {
         return Err(StartFault::Memory);
     };
     let lobby = Lobby::new(alloc, shares)?;
+    let board = Board::new(alloc, pool.accounts())?;
     let host = Host {
         keepers: keepers.as_slice(),
         budgets: budgets.as_slice(),
+        rooms: rooms.as_slice(),
         syncing: setup.syncing,
         memory_each: setup.memory_each,
+        disk_each: setup.disk_each,
     };
-    let desk = Desk::new(&*front, &*pool, &lobby, host, setup.limits, alloc);
+    let desk = Desk::new(&*front, &*pool, &lobby, &board, host, setup.limits, alloc);
     run_threads(rt, listeners, &desk, workers, attending, files)
 }
 

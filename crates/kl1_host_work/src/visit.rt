@@ -96,7 +96,7 @@ fn set_up(stream: &TcpStream, silence: Duration) {
 }
 
 /// The time since some start; 0 if the clock can't be read.
-fn now_of<R: Clock>(rt: &R) -> Duration {
+pub(crate) fn now_of<R: Clock>(rt: &R) -> Duration {
     match rt.monotonic() {
         Ok(time) => time,
         Err(_) => Duration::from_millis(0),

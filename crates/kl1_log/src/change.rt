@@ -15,6 +15,14 @@ pub enum Change {
 }
 
 impl Change {
+    /// How many bytes it has.
+    pub(crate) fn len(&self) -> usize {
+        match self {
+            Change::Appends(bytes) => bytes.len(),
+            Change::Begins(bytes) => bytes.len(),
+        }
+    }
+
     /// Adds bytes that the file gets after it.
     #[tactic(auto, using(crate::proofs::Waits::put_after))]
     pub(crate) fn extend(&mut self, bytes: &[u8]) -> Result<(), AllocError>

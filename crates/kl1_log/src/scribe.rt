@@ -35,6 +35,16 @@ impl<D: Disk> LogFile<D> {
         &self.disk
     }
 
+    /// Sees that there is room for a reset, if there is any.
+    pub fn make_ready(&mut self)
+        ensures known { D.known (disk_of self.new) ≡ D.known (disk_of self.old) }
+        ensures usable { D.is_usable (disk_of self.new) ≡ D.is_usable (disk_of self.old) }
+        ensures account { account_of self.new ≡ account_of self.old }
+        ensures changes { changes_of self.new ≡ changes_of self.old }
+    {
+        self.disk.make_ready();
+    }
+
     /// Writes a batch, and has it on disk. On an error nothing that isn't on disk is told, and after one of a call the file gets nothing more.
     pub fn write(&mut self, batch: Batch) -> Result<Receipt, LogError>
         ensures receipt { IfOk result (λ r. (receipts.account_of r ≡ batch.account) × (receipts.changes_of r ≡ batch.noted)) }

@@ -34,6 +34,7 @@ pub(crate) fn setup() -> Setup {
         },
         codes_each: 1_000,
         memory_each: u64::MAX,
+        disk_each: u64::MAX,
     }
 }
 
