@@ -1,5 +1,5 @@
 -- How a host is set up by its settings.
-use Rattle.std.specs.Prelude.{◌≡◌, ℕ, ◌*◌, Bool, true, false, unwrap_or}
+use Rattle.std.specs.Prelude.{◌≡◌, ℕ, ◌*◌, Bool, true, false, unwrap_or, min}
 use Rattle.std.specs.Duration.{as_nanos}
 use Rattle.kl1_host_front.specs.declared.settings.Settings.{Settings}
 use Rattle.kl1_host_front.specs.declared.sync.Sync.{Sync}
@@ -13,11 +13,11 @@ is_waited_for sync.Always = true
 is_waited_for (sync.Every milliseconds) = false
 is_waited_for sync.Never = false
 
--- after how many milliseconds a change is written at the latest
+-- after how many milliseconds a change is written at the latest: a longer time than a tenth of a second is as that
 abbrev pub period_of : Sync → ℕ
 period_of sync.Always = 100
-period_of (sync.Every milliseconds) = milliseconds
-period_of sync.Never = 1000
+period_of (sync.Every milliseconds) = min milliseconds 100
+period_of sync.Never = 100
 
 -- journals are written, and replies wait, as is set
 pub record IsSynced (set : Sync) (s : Syncing) : Type 0 where

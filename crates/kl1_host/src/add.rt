@@ -81,7 +81,8 @@ fn write_accounts(rt: &HostRuntime, folder: &str, text: &[u8]) -> Result<(), Fau
     sync_folder(rt, alloc, folder)
 }
 
-/// Adds an account, writes its key to standard output, and answers the program's status. The key is nowhere else.
+/// Adds an account, writes its key to standard output, and answers the program's status. The key is nowhere else, and comes first: whenever
+/// this ends, there is no account whose key nobody has.
 pub fn add_account(rt: &HostRuntime, folder: &str, name: &str) -> Result<u8, Fault> {
     let _lock = lock_folder(
         rt,
@@ -92,13 +93,8 @@ pub fn add_account(rt: &HostRuntime, folder: &str, name: &str) -> Result<u8, Fau
     let accounts = accounts_in(rt, folder)?;
     refuse_used(rt, &accounts, name)?;
     let key = new_key(rt)?;
-    let before = accounts.text.len();
     let text = text_with(rt, accounts, name, key.as_str())?;
+    println!(rt; "{key}")?;
     write_accounts(rt, folder, text.as_slice())?;
-    if let Err(error) = println!(rt; "{key}") {
-        // Nobody has the key, so the account goes again.
-        write_accounts(rt, folder, text.get(..before).unwrap_or(text.as_slice()))?;
-        return Err(error.into());
-    }
     Ok(0)
 }

@@ -25,6 +25,7 @@ mod run;
 mod settings;
 mod sockets;
 mod start_words;
+mod started;
 mod web;
 mod words;
 

@@ -11,6 +11,7 @@ use crate::log::Log;
 use crate::logins::LoginLog;
 use crate::machine::ThisMachine;
 use crate::paces::{PacedLine, Paces};
+use crate::started::note_started;
 use crate::web::{WebAccounts, is_local};
 use kl1_host_front::{Field, Number, Pauses, PausingDoor, address_number};
 use kl1_host_web::{AskedRecord, Page, Service, SessionBook, Site};
@@ -79,6 +80,7 @@ impl<'f, R: Wait + Clock + Eprint + Files + RandomSource> Program<'f, R> {
             address: address_number(address.ip()),
             teller: LoginLog {
                 log: self.log,
+                keys: self.keys,
                 address,
             },
         }
@@ -329,6 +331,8 @@ impl<'f, R: Wait + Clock + Eprint + Files + RandomSource + Sync> Front for Progr
     }
 
     fn attend<P: Performer, V: HostView>(&self, performer: &mut P, host: &V) {
+        // Each has a journal on the disk now, if only its heading. If that can't be noted, a later start doesn't miss one.
+        let _ = note_started(self.rt, self.alloc, self.folder, self.keys);
         let _ = self.tell_ready();
         let mut attending = Attending {
             program: self,

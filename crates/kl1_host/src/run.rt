@@ -16,6 +16,7 @@ use crate::repair::{cut_journal, word_of_now};
 use crate::settings::settings_of;
 use crate::sockets::{bind, socket_of};
 use crate::start_words::start_fault;
+use crate::started::refuse_missing;
 use crate::web::sites_of;
 use kl1_host_front::{Field, Pauses, Settings, Sync as Syncs};
 use kl1_host_web::SessionBook;
@@ -30,7 +31,7 @@ use std::sync::{Mutex, Wait};
 use std::thread::Threads;
 use std::time::{Clock, Duration, Instant};
 
-/// How long after a change it is written if no reply waits for it, in milliseconds.
+/// How long after a change it is written at the latest, in milliseconds: who ends a host by a signal loses no more.
 const WRITTEN_AFTER: u64 = 100;
 
 /// When journals are written, and whether replies wait for it.
@@ -44,11 +45,11 @@ fn syncing_of(sync: Syncs) -> Syncing
         },
         Syncs::Every(period) => Syncing {
             replies_wait: false,
-            period: Duration::from_millis(period),
+            period: Duration::from_millis(period.min(WRITTEN_AFTER)),
         },
         Syncs::Never => Syncing {
             replies_wait: false,
-            period: Duration::from_secs(1),
+            period: Duration::from_millis(WRITTEN_AFTER),
         },
     }
 }
@@ -130,6 +131,7 @@ where
 {
     let settings = settings_of(rt, folder)?;
     let accounts = accounts_in(rt, folder)?;
+    refuse_missing(rt, folder, accounts.keys.as_slice())?;
     let clients = bind(rt, alloc, settings.listen.as_str())?;
     let browsers = match &settings.web {
         Some(address) => Some(bind(rt, alloc, address.as_str())?),
