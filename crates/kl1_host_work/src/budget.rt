@@ -1,13 +1,11 @@
 // How many bytes of sources an account may still load.
 
-use std::sync::atomic::{AtomicBool, AtomicU64, Ordering};
+use std::sync::atomic::{AtomicU64, Ordering};
 
 /// How many bytes of sources an account may still load until the next start: codes are never given back.
 #[derive(Drop)]
 pub struct Budget {
     left: AtomicU64,
-    /// Whether a source was refused.
-    was_refused: AtomicBool,
 }
 
 impl Budget {
@@ -15,22 +13,12 @@ impl Budget {
     pub fn new(bytes: u64) -> Self {
         Budget {
             left: AtomicU64::new(bytes),
-            was_refused: AtomicBool::new(false),
         }
     }
 
     /// Whether a source of this many bytes may be loaded.
     pub(crate) fn allows(&self, bytes: usize) -> bool {
-        let allows = bytes as u64 <= self.left.load(Ordering::SeqCst);
-        if !allows {
-            self.was_refused.store(true, Ordering::SeqCst);
-        }
-        allows
-    }
-
-    /// Whether a source was refused.
-    pub(crate) fn was_refused(&self) -> bool {
-        self.was_refused.load(Ordering::SeqCst)
+        bytes as u64 <= self.left.load(Ordering::SeqCst)
     }
 
     /// How many bytes may still be loaded.

@@ -34,6 +34,14 @@ fn source_bytes(command: &Command) -> usize {
     }
 }
 
+/// The source that a command loads; `None` if it is no load.
+fn source_of(command: &Command) -> Option<&[u8]> {
+    match command {
+        Command::Does(Event::Load { source }) => Some(source.as_slice()),
+        _ => None,
+    }
+}
+
 /// Whether a command is a logout, which each account answers.
 fn is_logout(command: &Command) -> bool {
     matches!(command, Command::Does(Event::Logout))
@@ -55,18 +63,35 @@ impl<'p, 't, W: Wait, R: Wait, K: PoolIds> HostHandler<'p, 't, W, R, K> {
             None => true,
         };
         let is_over = match self.host.budgets.get(account) {
-            Some(budget) => !budget.allows(source_bytes(command)),
+            Some(budget) => {
+                !budget.allows(source_bytes(command)) && !self.is_known(account, command)
+            }
             None => true,
         };
+        if is_over && let Some(sources) = self.host.sources.get(account) {
+            sources.refuse();
+        }
         is_stopped || is_over
     }
 
-    /// Counts a source that was loaded.
-    fn count(&self, account: usize, bytes: usize, performed: &Performed) {
+    /// Whether a command loads a source that its account has loaded before.
+    fn is_known(&self, account: usize, command: &Command) -> bool {
+        match (source_of(command), self.host.sources.get(account)) {
+            (Some(source), Some(sources)) => sources.knows(self.rt, source),
+            _ => false,
+        }
+    }
+
+    /// Counts a source that was loaded, unless it was loaded before.
+    fn count(&self, account: usize, command: &Command, performed: &Performed) {
         if is_loaded(performed)
+            && !self.is_known(account, command)
+            && let Some(source) = source_of(command)
             && let Some(budget) = self.host.budgets.get(account)
+            && let Some(sources) = self.host.sources.get(account)
         {
-            budget.spend(bytes);
+            budget.spend(source.len());
+            sources.add(self.rt, source);
         }
     }
 }
@@ -93,7 +118,7 @@ impl<'p, 't, W: Wait, R: Wait, K: PoolIds> CommandHandler for HostHandler<'p, 't
         if !(is_of_sessions(command) && is_short(self.host, account)) {
             note_told(self.rt, self.pool, self.host, self.outgoing, account);
         }
-        self.count(account, source_bytes(command), &performed);
+        self.count(account, command, &performed);
         self.history.add(done_to, done, &performed);
         performed
     }

@@ -16,6 +16,7 @@ mod noting;
 mod overruns;
 mod restoring;
 mod running;
+mod sources;
 mod start_fault;
 mod starting;
 mod view;

@@ -7,6 +7,7 @@ use crate::budget::Budget;
 use crate::front::{Front, HostEvent};
 use crate::host::FileRoom;
 use crate::linking::link_account;
+use crate::sources::Sources;
 use crate::start_fault::StartFault;
 use kl1_host_journals::{Keeper, Linked, RestingFile};
 use kl1_journal_entries::Journal;
@@ -32,6 +33,8 @@ pub(crate) struct Shelf<D: Disk> {
     pub(crate) keepers: Vec<Keeper>,
     pub(crate) budgets: Vec<Budget>,
     pub(crate) rooms: Vec<FileRoom>,
+    pub(crate) sources: Vec<Sources>,
+    alloc: Global,
 }
 
 /// Does the entries of a journal to an account in which nothing has happened; answers how many they are.
@@ -69,6 +72,8 @@ impl<D: Disk + Drop> Shelf<D> {
             keepers: Vec::with_capacity(alloc, accounts)?,
             budgets: Vec::with_capacity(alloc, accounts)?,
             rooms: Vec::with_capacity(alloc, accounts)?,
+            sources: Vec::with_capacity(alloc, accounts)?,
+            alloc,
         })
     }
 
@@ -83,6 +88,7 @@ impl<D: Disk + Drop> Shelf<D> {
         self.files.push(file)?;
         self.keepers.push(Keeper::new(notes, receipt))?;
         self.budgets.push(Budget::new(bytes))?;
+        self.sources.push(Sources::new(self.alloc))?;
         Ok(())
     }
 }

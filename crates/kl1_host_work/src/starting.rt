@@ -118,6 +118,8 @@ where
         keepers,
         budgets,
         rooms,
+        sources,
+        ..
     } = restore_all(rt, alloc, pool, front, files, setup.codes_each, restoring)?;
     let workers = take_shares(alloc, &mut shares, setup.workers)?;
     let Some(attending) = shares.pop() else {
@@ -129,6 +131,7 @@ where
         keepers: keepers.as_slice(),
         budgets: budgets.as_slice(),
         rooms: rooms.as_slice(),
+        sources: sources.as_slice(),
         syncing: setup.syncing,
         memory_each: setup.memory_each,
         disk_each: setup.disk_each,

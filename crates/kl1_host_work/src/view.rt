@@ -113,8 +113,8 @@ impl<F: Front, N: Wait + Clock, R: Wait, K: PoolIds> HostView for View<'_, '_, '
     }
 
     fn is_out_of_codes(&self, account: usize) -> bool {
-        match self.desk.host.budgets.get(account) {
-            Some(budget) => budget.was_refused(),
+        match self.desk.host.sources.get(account) {
+            Some(sources) => sources.was_refused(),
             None => false,
         }
     }

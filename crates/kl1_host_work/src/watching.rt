@@ -78,8 +78,8 @@ fn tell_room<'t, F: Front, W: Wait, R: Wait, K: PoolIds>(
             HostEvent::DiskFreed { account }
         });
     }
-    let has_all_codes = match host.budgets.get(account) {
-        Some(budget) => budget.was_refused(),
+    let has_all_codes = match host.sources.get(account) {
+        Some(sources) => sources.was_refused(),
         None => false,
     };
     if has_all_codes && !told.has_all_codes {
