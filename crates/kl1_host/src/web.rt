@@ -9,7 +9,7 @@ use kl1_host_front::{PausingDoor, Settings, host_of};
 use kl1_host_web::{Accounts, AskedRecord, Measures, SessionBook, Site, Stop, Sums, Viewer};
 use kl1_host_work::{HostView, Performer};
 use kl1_session::Door;
-use kl1_user_events::{Extent, GoalNo, GoalView, Presence, ShoenNo, ShoenView, Usage};
+use kl1_user_events::{Event, Extent, GoalNo, GoalView, Presence, ShoenNo, ShoenView, Usage};
 use std::alloc::{AllocError, Global};
 use std::fs;
 use std::net::{SocketAddr, TcpListener};
@@ -76,30 +76,45 @@ pub struct AccountViewer<'w, V: HostView> {
     host: &'w V,
     account: usize,
     most_bytes: u64,
+    /// Whether an answer may be made.
+    may_answer: bool,
+}
+
+impl<V: HostView> AccountViewer<'_, V> {
+    /// Refuses memory if no answer may be made.
+    fn refuse_more(&self) -> Result<(), AllocError> {
+        if self.may_answer { Ok(()) } else { Err(AllocError) }
+    }
 }
 
 impl<V: HostView> Viewer for AccountViewer<'_, V> {
     fn shoens_from(&mut self, from: ShoenNo, count: usize) -> Result<Vec<ShoenView>, AllocError> {
+        self.refuse_more()?;
         self.host.shoens_from(self.account, from, count)
     }
 
     fn goals_from(&mut self, from: GoalNo, count: usize) -> Result<Vec<GoalView>, AllocError> {
+        self.refuse_more()?;
         self.host.goals_from(self.account, from, count)
     }
 
     fn goal_text(&mut self, goal: GoalNo, extent: Extent) -> Result<Option<Vec<u8>>, AllocError> {
+        self.refuse_more()?;
         self.host.goal_text(self.account, goal, extent)
     }
 
     fn awaited(&mut self, goal: GoalNo) -> Result<Option<Vec<u32>>, AllocError> {
+        self.refuse_more()?;
         self.host.awaited(self.account, goal)
     }
 
     fn presence(&mut self, goal: GoalNo, variable: u64, most: u64) -> Result<Presence, AllocError> {
+        self.refuse_more()?;
         self.host.presence(self.account, goal, variable, most)
     }
 
     fn usage(&mut self) -> Result<Usage, AllocError> {
+        self.refuse_more()?;
         self.host.usage(self.account)
     }
 
@@ -126,6 +141,11 @@ pub fn disk_of<R: Files>(
         Ok(attributes) => attributes.len(),
         Err(_) => 0,
     })
+}
+
+/// Whether a command closes a session.
+fn is_logout(command: &Command) -> bool {
+    matches!(command, Command::Does(Event::Logout))
 }
 
 /// The accounts of a host, for one connection of a browser.
@@ -174,7 +194,13 @@ impl<'w, R: Wait + Clock + Eprint + Files, P: Performer, V: HostView> Accounts
     }
 
     fn act(&mut self, account: usize, command: &Command) -> Performed {
-        let performed = self.performer.perform(account, command);
+        // A session is closed whoever reads.
+        let may_answer = is_logout(command) || self.host.begin_answer(account);
+        let performed = if may_answer {
+            self.performer.perform(account, command)
+        } else {
+            Performed::Memory
+        };
         self.record
             .did(Snapshot::of(&account), Snapshot::of(command), &performed);
         performed
@@ -188,6 +214,7 @@ impl<'w, R: Wait + Clock + Eprint + Files, P: Performer, V: HostView> Accounts
             host: self.host,
             account,
             most_bytes: self.most_bytes,
+            may_answer: self.host.begin_answer(account),
         }
     }
 

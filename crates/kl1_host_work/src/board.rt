@@ -1,5 +1,6 @@
 // What was seen of accounts last.
 
+use crate::answers::Answers;
 use crate::front::Sight;
 use kl1_host_journals::Bell;
 use kl1_model::limits::MOST_ACCOUNTS;
@@ -85,6 +86,7 @@ impl Outlook {
 #[derive(Drop)]
 pub(crate) struct Board {
     outlooks: Vec<Outlook>,
+    answers: Vec<Answers>,
 }
 
 impl Board {
@@ -92,10 +94,17 @@ impl Board {
     pub(crate) fn new(alloc: Global, accounts: usize) -> Result<Self, AllocError> {
         let accounts = accounts.min(MOST_ACCOUNTS);
         let mut outlooks = Vec::with_capacity(alloc, accounts)?;
+        let mut answers = Vec::with_capacity(alloc, accounts)?;
         for _ in 0..accounts {
             outlooks.push(Outlook::new())?;
+            answers.push(Answers::new())?;
         }
-        Ok(Board { outlooks })
+        Ok(Board { outlooks, answers })
+    }
+
+    /// How many answers of each account are made or written.
+    pub(crate) fn answers(&self) -> &[Answers] {
+        self.answers.as_slice()
     }
 
     /// That of an account.

@@ -66,7 +66,7 @@ pub(crate) fn serve_lines<'t, W: Wait + Clock, R: Wait, K: PoolIds, D: Door + Dr
     requires { D.accounts door ≤ K.accounts }
 {
     let outgoing = Cell::new(Outgoing::new());
-    let mut source = FailureCounter::new(VisitReader::new(rt, visit, limits));
+    let mut source = FailureCounter::new(VisitReader::new(rt, visit, limits, &[]));
     let writer = SyncedWriter::new(visit.stream(), rt, host.keepers, &outgoing);
     let mut sink = FailureCounter::new(writer);
     let mut door = WatchedDoor { door, visit };
@@ -106,9 +106,11 @@ pub(crate) fn serve_pages<'p, 't, F: Front, W: Wait + Clock, R: Wait, K: PoolIds
         outgoing: Some(&outgoing),
         visit: Some(visit),
     };
-    let mut source = FailureCounter::new(VisitReader::new(rt, visit, desk.limits));
+    let answers = desk.board.answers();
+    let mut source = FailureCounter::new(VisitReader::new(rt, visit, desk.limits, answers));
     let writer = SyncedWriter::new(visit.stream(), rt, desk.host.keepers, &outgoing);
     let mut sink = FailureCounter::new(writer);
     desk.front
         .serve_pages(address, &mut source, &mut sink, &mut performer, &view);
+    visit.end_answer(answers);
 }

@@ -69,6 +69,10 @@ pub trait HostView {
     /// Takes in that who is served has shown a key, or the cookie and the token of a session: so its connection isn't ended as a stranger's.
     fn let_in(&self);
 
+    /// Whether an answer of an account may be made, since few of its answers aren't read yet. Until more is read of the connection it counts
+    /// as one.
+    fn begin_answer(&self, account: usize) -> bool;
+
     /// Whether an account's file gets nothing more, and the account no commands.
     fn is_stopped(&self, account: usize) -> bool;
 

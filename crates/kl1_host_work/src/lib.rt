@@ -2,6 +2,7 @@
 //! is told to clients is on disk.
 #![tactic(auto)]
 
+mod answers;
 mod board;
 mod budget;
 mod connection;

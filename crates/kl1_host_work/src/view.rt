@@ -74,6 +74,13 @@ impl<F: Front, N: Wait + Clock, R: Wait, K: PoolIds> HostView for View<'_, '_, '
         }
     }
 
+    fn begin_answer(&self, account: usize) -> bool {
+        match self.visit {
+            Some(visit) => visit.begin_answer(self.desk.board.answers(), account),
+            None => true,
+        }
+    }
+
     fn is_stopped(&self, account: usize) -> bool {
         let desk = self.desk;
         let keepers = desk.host.keepers;

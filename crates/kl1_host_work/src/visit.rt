@@ -2,12 +2,17 @@
 
 ghost use Rattle.std.specs.Prelude.{◌≡◌};
 
+use crate::answers::Answers;
 use crate::lobby::Limits;
 use kl1_session::Door;
 use std::io::{self, ErrorKind, Read};
 use std::net::{Shutdown, TcpStream};
-use std::sync::atomic::{AtomicBool, Ordering};
+use std::sync::atomic::{AtomicBool, AtomicUsize, Ordering};
 use std::time::{Clock, Duration};
+
+/// The most bytes that are read of a connection that has shown no key: a login, a request for the page, a load that is refused. So what
+/// strangers send takes little memory.
+const MOST_STRANGE_BYTES: usize = 98_304;
 
 /// A connection, and how far who connected has come: one that has shown no key is a stranger's.
 #[derive(Drop)]
@@ -19,6 +24,8 @@ pub(crate) struct Visit {
     is_trying: AtomicBool,
     /// Whether it was told to end.
     is_leaving: AtomicBool,
+    /// 0, or one more than the number of the account of which an answer to it is made or written.
+    answers: AtomicUsize,
 }
 
 impl Visit {
@@ -29,6 +36,34 @@ impl Visit {
             is_in: AtomicBool::new(false),
             is_trying: AtomicBool::new(false),
             is_leaving: AtomicBool::new(false),
+            answers: AtomicUsize::new(0),
+        }
+    }
+
+    /// Whether an answer of this account to it may be made: not if as many are that aren't read.
+    pub(crate) fn begin_answer(&self, answers: &[Answers], account: usize) -> bool {
+        let mark = account.saturating_add(1);
+        if self.answers.load(Ordering::SeqCst) == mark {
+            return true;
+        }
+        self.end_answer(answers);
+        let may_begin = match answers.get(account) {
+            Some(others) => others.begin(),
+            None => false,
+        };
+        if may_begin {
+            self.answers.store(mark, Ordering::SeqCst);
+        }
+        may_begin
+    }
+
+    /// Takes in that what was answered to it is written.
+    pub(crate) fn end_answer(&self, answers: &[Answers]) {
+        let mark = self.answers.swap(0, Ordering::SeqCst);
+        if let Some(account) = mark.checked_sub(1)
+            && let Some(others) = answers.get(account)
+        {
+            others.end();
         }
     }
 
@@ -113,11 +148,20 @@ pub(crate) struct VisitReader<'v, R: Clock> {
     begun: Duration,
     /// Whether the socket is set up for who is in.
     is_settled: bool,
+    /// How many bytes were read of a stranger.
+    count: usize,
+    /// Where it is told that an answer was read.
+    answers: &'v [Answers],
 }
 
 impl<'v, R: Clock> VisitReader<'v, R> {
     /// What is read from a connection that begins now.
-    pub(crate) fn new(rt: &'v R, visit: &'v Visit, limits: Limits) -> Self {
+    pub(crate) fn new(
+        rt: &'v R,
+        visit: &'v Visit,
+        limits: Limits,
+        answers: &'v [Answers],
+    ) -> Self {
         set_up(&visit.stream, limits.idle_login);
         VisitReader {
             rt,
@@ -125,11 +169,16 @@ impl<'v, R: Clock> VisitReader<'v, R> {
             limits,
             begun: now_of(rt),
             is_settled: false,
+            count: 0,
+            answers,
         }
     }
 
-    /// Lets the next read of a stranger wait until the time of the connection is over; `false` if it is.
+    /// Lets the next read of a stranger wait until the time of the connection is over; `false` if it is, or if too much was read.
     fn hurry(&self) -> bool {
+        if self.count >= MOST_STRANGE_BYTES {
+            return false;
+        }
         let gone = now_of(self.rt).saturating_sub(self.begun);
         let left = self.limits.idle_login.saturating_sub(gone);
         if left.is_zero() {
@@ -142,6 +191,8 @@ impl<'v, R: Clock> VisitReader<'v, R> {
 
 impl<R: Clock> Read for VisitReader<'_, R> {
     fn read(&mut self, buf: &mut [u8]) -> io::Result<usize> {
+        // What was answered is on its way before more is read.
+        self.visit.end_answer(self.answers);
         if !self.visit.is_in() {
             if !self.hurry() {
                 return Err(io::Error::from(ErrorKind::TimedOut));
@@ -151,6 +202,8 @@ impl<R: Clock> Read for VisitReader<'_, R> {
             self.is_settled = true;
         }
         let mut stream = &self.visit.stream;
-        stream.read(buf)
+        let count = stream.read(buf)?;
+        self.count = self.count.saturating_add(count);
+        Ok(count)
     }
 }
