@@ -1,5 +1,9 @@
 // Room on the disk for the files of accounts.
 
+ghost use Rattle.std.specs.Prelude.{◌≡◌};
+ghost use Rattle.kl1_command.specs.Commands.{command_view};
+ghost use Rattle.kl1_host_work.specs.Filling.{goes_on, fills_disk, is_reset, is_of_sessions};
+
 use crate::host::{FileRoom, Host};
 use kl1_command::Command;
 use kl1_log::Room;
@@ -16,7 +20,9 @@ fn room_of(rooms: &[FileRoom], account: usize) -> Option<&Room> {
 }
 
 /// Whether a message lets a shoen go on that may add entries without end; others let it stand, or are its last.
-fn goes_on(message: &Message) -> bool {
+fn goes_on(message: &Message) -> bool
+    ensures { result ≡ goes_on message.now }
+{
     match message {
         Message::Abort | Message::Stop => false,
         Message::Start | Message::Allow(_) => true,
@@ -24,7 +30,9 @@ fn goes_on(message: &Message) -> bool {
 }
 
 /// Whether a command makes the file of an account grow beyond an entry of a few bytes that lets less come after it.
-pub(crate) fn fills_disk(command: &Command) -> bool {
+pub(crate) fn fills_disk(command: &Command) -> bool
+    ensures { result ≡ fills_disk (command_view command.now) }
+{
     match command {
         Command::Does(event) => match event {
             Event::Load { .. } | Event::Start { .. } | Event::Answer { .. } => true,
@@ -38,12 +46,16 @@ pub(crate) fn fills_disk(command: &Command) -> bool {
 }
 
 /// Whether a command is a reset.
-fn is_reset(command: &Command) -> bool {
+fn is_reset(command: &Command) -> bool
+    ensures { result ≡ is_reset (command_view command.now) }
+{
     matches!(command, Command::Does(Event::Reset))
 }
 
 /// Whether a command opens or closes a session, of which the file tells nothing.
-pub(crate) fn is_of_sessions(command: &Command) -> bool {
+pub(crate) fn is_of_sessions(command: &Command) -> bool
+    ensures { result ≡ is_of_sessions (command_view command.now) }
+{
     matches!(command, Command::Does(Event::Login | Event::Logout))
 }
 

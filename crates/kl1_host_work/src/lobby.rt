@@ -1,5 +1,9 @@
 // Who is connected, and shares for those who come.
 
+ghost use Rattle.std.specs.Prelude.{◌≡◌};
+ghost use Rattle.std.specs.declared.net.ip_addr.IpAddr.{IpAddr};
+ghost use Rattle.kl1_host_work.specs.Strangers.{IsCanonical, network_in, gives_way};
+
 use crate::visit::Visit;
 use kl1_pool::{PoolIds, Share};
 use std::alloc::{AllocError, AllocFailed, Global};
@@ -250,7 +254,9 @@ impl<K: PoolIds> Lobby<K> {
 }
 
 /// The number of an address by which connections are counted.
-fn network_of(address: IpAddr) -> u128 {
+fn network_of(address: IpAddr) -> u128
+    ensures { (canonical : IpAddr) × IsCanonical address canonical × (result ≡ network_in canonical) }
+{
     match address.to_canonical() {
         IpAddr::V4(short) => u128::from(short.to_bits()),
         // Who has one address of such a network has all.
@@ -292,7 +298,9 @@ fn oldest_of<K: PoolIds>(open: &[Visitor<K>], before: u64) -> Option<usize> {
 }
 
 /// Whether a connection gives way before another, by whether their keys are looked at, and by their numbers.
-fn is_less(one: (bool, u64), other: (bool, u64)) -> bool {
+fn is_less(one: (bool, u64), other: (bool, u64)) -> bool
+    ensures { result ≡ gives_way one.0 one.1 other.0 other.1 }
+{
     if one.0 == other.0 {
         one.1 < other.1
     } else {
