@@ -20,7 +20,7 @@ use std::cell::Cell;
 use std::net::{Net, TcpListener, TcpStream};
 use std::sync::Wait;
 use std::thread;
-use std::thread::Threads;
+use std::thread::{JoinHandle, Threads};
 use std::time::{Clock, Duration};
 
 /// The gate of the host's workers, which holds nobody.
@@ -129,6 +129,24 @@ where
     }
 }
 
+/// Ends the connections of a host, and then its workers; a reduction that is going on is waited for.
+fn wind_down<'t, F: Front, N, R: Wait, K: PoolIds>(
+    rt: &N,
+    desk: &Desk<'_, 't, F, R, K>,
+    listeners: Listeners<'_>,
+    workers: Vec<JoinHandle<()>>,
+)
+where
+    N: Net<Listener = TcpListener, Stream = TcpStream> + Threads + Wait,
+{
+    close_doors(rt, desk, listeners);
+    desk.lobby.wait_until_empty(rt);
+    desk.pool.close();
+    for worker in workers {
+        worker.join(rt);
+    }
+}
+
 /// Runs a host until its program has attended to it: workers, connections, and who looks at each account. When it returns, all of them have
 /// ended. Answers whether all threads could be made; the program attends to no other host.
 fn run_accounts<'t, F: Front + Sync, R, K: PoolIds + Send + Sync>(
@@ -189,12 +207,7 @@ where
             attend(&*rt, &*desk, all_are_there, attending);
             // Without a thread for it nobody is told for whom the host waits.
             let _ = scope.spawn(move || tell_waits(rt, desk, over));
-            close_doors(rt, desk, listeners);
-            desk.lobby.wait_until_empty(rt);
-            desk.pool.close();
-            for handle in handles {
-                handle.join(rt);
-            }
+            wind_down(rt, desk, listeners, handles);
             over.end(rt);
             desk.board.close(rt);
             all_are_there
