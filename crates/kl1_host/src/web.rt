@@ -44,15 +44,6 @@ fn own_sites(
     Ok(())
 }
 
-/// The port of an origin that names none, after a colon.
-fn usual_port(origin: &str) -> &'static [u8] {
-    if origin.starts_with("https://") {
-        b":443"
-    } else {
-        b":80"
-    }
-}
-
 /// The names by which browsers know the host: its own, and where its page comes from if a proxy stands before it.
 pub fn sites_of(
     alloc: Global,
@@ -70,16 +61,6 @@ pub fn sites_of(
             host: Vec::from_slice(alloc, host)?,
             origin: Vec::from_slice(alloc, page.as_bytes())?,
         })?;
-        // Some proxies tell the port that a browser leaves out.
-        if !host.contains(&b':') {
-            let port = usual_port(page.as_str());
-            let mut with_port = Vec::from_slice(alloc, host)?;
-            with_port.extend_from_slice(port)?;
-            sites.push(Site {
-                host: with_port,
-                origin: Vec::from_slice(alloc, page.as_bytes())?,
-            })?;
-        }
     }
     Ok(sites)
 }
