@@ -66,7 +66,9 @@ fn make_folder(rt: &HostRuntime, folder: &str) -> Result<bool, Fault> {
         Err(error) if error.kind() == ErrorKind::AlreadyExists => {
             if !is_empty(rt, folder)? {
                 if !is_left(rt, folder)? {
-                    let words = format!(in rt.alloc(); "{folder}: there is something in it already")?;
+                    let words = format!(in rt.alloc();
+                        "{folder}: there is something in it already"
+                    )?;
                     return Err(Fault::Words(REFUSED, words));
                 }
                 remove_left(rt, folder)?;

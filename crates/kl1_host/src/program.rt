@@ -208,8 +208,7 @@ impl<'f, R: Wait + Clock + Eprint + Files + RandomSource> Program<'f, R> {
             name: b"disk_each",
             number: self.disk_each,
         };
-        self.log
-            .tell_account(event, self.name_of(account), &[most]);
+        self.log.tell_account(event, self.name_of(account), &[most]);
     }
 
     /// Tells that an account was refused a source.

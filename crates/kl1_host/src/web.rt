@@ -83,7 +83,11 @@ pub struct AccountViewer<'w, V: HostView> {
 impl<V: HostView> AccountViewer<'_, V> {
     /// Refuses memory if no answer may be made.
     fn refuse_more(&self) -> Result<(), AllocError> {
-        if self.may_answer { Ok(()) } else { Err(AllocError) }
+        if self.may_answer {
+            Ok(())
+        } else {
+            Err(AllocError)
+        }
     }
 }
 

@@ -75,9 +75,12 @@ impl Outlook {
     /// What was seen last, once the account was looked at as often as it was asked, or after a short time; and whether it was.
     fn wait<W: Wait + Clock>(&self, rt: &W) -> (Option<Sight>, bool) {
         let pause = Duration::from_millis(WAITED_FOR_A_LOOK);
-        let (guard, _) =
-            self.changed
-                .wait_timeout_while(rt, self.seen.lock(rt), pause, |seen| seen.done < seen.asked);
+        let (guard, _) = self.changed.wait_timeout_while(
+            rt,
+            self.seen.lock(rt),
+            pause,
+            |seen| seen.done < seen.asked,
+        );
         (guard.sight, guard.done >= guard.asked)
     }
 }

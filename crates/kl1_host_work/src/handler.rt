@@ -102,9 +102,7 @@ impl<'p, 't, W: Wait, R: Wait, K: PoolIds> CommandHandler for HostHandler<'p, 't
     ghost done = { λ handler. done_in handler.history };
 
     fn act(&mut self, account: usize, command: &Command) -> Performed {
-        if self.is_refused(account, command)
-            || has_no_room(self.rt, self.host, account, command)
-        {
+        if self.is_refused(account, command) || has_no_room(self.rt, self.host, account, command) {
             let performed = Performed::Memory;
             self.history
                 .add(Snapshot::of(&account), Snapshot::of(command), &performed);

@@ -175,11 +175,14 @@ impl<K: PoolIds> Lobby<K> {
     /// Waits until a connection has ended that was told to, for a short time at most.
     pub(crate) fn wait_for_leave<W: Wait + Clock>(&self, rt: &W) {
         let pause = Duration::from_millis(NEXT_GIVES_WAY_AFTER);
-        let (guard, _) =
-            self.changed
-                .wait_timeout_while(rt, self.visitors.lock(rt), pause, |visitors| {
-                    visitors.open.iter().any(|visitor| visitor.visit.is_leaving())
-                });
+        let (guard, _) = self
+            .changed
+            .wait_timeout_while(rt, self.visitors.lock(rt), pause, |visitors| {
+                visitors
+                    .open
+                    .iter()
+                    .any(|visitor| visitor.visit.is_leaving())
+            });
         drop(guard);
     }
 

@@ -156,12 +156,7 @@ pub(crate) struct VisitReader<'v, R: Clock> {
 
 impl<'v, R: Clock> VisitReader<'v, R> {
     /// What is read from a connection that begins now.
-    pub(crate) fn new(
-        rt: &'v R,
-        visit: &'v Visit,
-        limits: Limits,
-        answers: &'v [Answers],
-    ) -> Self {
+    pub(crate) fn new(rt: &'v R, visit: &'v Visit, limits: Limits, answers: &'v [Answers]) -> Self {
         set_up(&visit.stream, limits.idle_login);
         VisitReader {
             rt,

@@ -30,8 +30,7 @@ pub trait Disk {
     fn make_ready(&mut self)
         ensures known { known self.new ≡ known self.old }
         ensures usable { is_usable self.new ≡ is_usable self.old }
-    {
-    }
+    {}
 
     /// All the bytes.
     fn read(&mut self, alloc: Global) -> io::Result<Vec<u8>>
