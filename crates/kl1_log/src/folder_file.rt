@@ -85,14 +85,8 @@ fn is_of_room(error: &io::Error) -> bool {
     )
 }
 
-/// Writes all bytes where the last were written. On a full disk it waits for room; if a reset waits meanwhile, a part of a spare goes.
-fn put_all<R: Clock, F: Write + OpenFile>(
-    rt: &R,
-    room: &Room,
-    file: &mut F,
-    spare: Option<&F>,
-    bytes: &[u8],
-) -> io::Result<()> {
+/// Writes bytes where the last were written, as far as there is room; those that are left.
+fn put_some<'b, F: Write>(file: &mut F, bytes: &'b [u8]) -> io::Result<&'b [u8]> {
     let mut rest = bytes;
     for _ in 0..u64::MAX {
         if rest.is_empty() {
@@ -102,20 +96,11 @@ fn put_all<R: Clock, F: Write + OpenFile>(
             Ok(0) => return Err(io::Error::from(ErrorKind::WriteZero)),
             Ok(count) => rest = rest.get(count..).unwrap_or(&[]),
             Err(error) if error.kind() == ErrorKind::Interrupted => {}
-            Err(error) if is_of_room(&error) && room.may_wait() => {
-                room.set_short(true);
-                match spare {
-                    Some(spare) if room.is_hurried() => {
-                        let _ = spare.set_len(KEPT_BYTES);
-                    }
-                    _ => thread::sleep(rt, Duration::from_millis(TRIED_AGAIN_AFTER)),
-                }
-            }
+            Err(error) if is_of_room(&error) => break,
             Err(error) => return Err(error),
         }
     }
-    room.set_short(false);
-    Ok(())
+    Ok(rest)
 }
 
 /// Fills a new file with zeros, so that there is room for other bytes in their place.
@@ -189,6 +174,22 @@ impl<R: Files + Clock> FolderFile<R> {
         }
     }
 
+    /// Waits for room on the disk, for a short time; if a reset waits meanwhile, a part of the spare goes. An error if it is to be waited no
+    /// more.
+    fn await_room(&self) -> io::Result<()> {
+        if !self.room.may_wait() {
+            return Err(io::Error::from(ErrorKind::StorageFull));
+        }
+        self.room.set_short(true);
+        match &self.spare {
+            Some(spare) if self.room.is_hurried() => spare.set_len(KEPT_BYTES),
+            _ => {
+                thread::sleep(&self.rt, Duration::from_millis(TRIED_AGAIN_AFTER));
+                Ok(())
+            }
+        }
+    }
+
     /// Whether the open file is the one that has its name: it may have been renamed or removed, and what is written to it is lost then. It is
     /// looked once a second at most.
     fn has_its_name(&mut self) -> io::Result<bool> {
@@ -241,10 +242,18 @@ impl<R: Files + Clock> Disk for FolderFile<R> {
 
     fn append(&mut self, bytes: &[u8]) -> io::Result<()> {
         self.usable = false;
-        let file = self.file.as_mut().ok_or(missing())?;
-        file.seek(SeekFrom::End(0))?;
         self.room.grow(bytes.len() as u64);
-        put_all(&self.rt, &*self.room, file, self.spare.as_ref(), bytes)?;
+        let mut rest = bytes;
+        for _ in 0..u64::MAX {
+            let file = self.file.as_mut().ok_or(missing())?;
+            file.seek(SeekFrom::End(0))?;
+            rest = put_some(file, rest)?;
+            if rest.is_empty() {
+                break;
+            }
+            self.await_room()?;
+        }
+        self.room.set_short(false);
         self.usable = true;
         Ok(())
     }
@@ -277,7 +286,15 @@ impl<R: Files + Clock> Disk for FolderFile<R> {
             None => self.new_file()?,
         };
         next.seek(SeekFrom::Start(0))?;
-        put_all(&self.rt, &*self.room, &mut next, None, bytes)?;
+        let mut rest = bytes;
+        for _ in 0..u64::MAX {
+            rest = put_some(&mut next, rest)?;
+            if rest.is_empty() {
+                break;
+            }
+            self.await_room()?;
+        }
+        self.room.set_short(false);
         let len = bytes.len() as u64;
         next.set_len(len)?;
         self.next = Some((next, len));
