@@ -149,7 +149,7 @@ impl<'t, R: Wait, K: PoolIds> Pool<'t, R, K> {
             return (answer, false);
         }
         let answer = found.perform(self.rt, &self.common, &self.tables, share, command);
-        if reserve_of(command) > 0 {
+        if reserve_of(command) > 0 && found.is_over(self.most_bytes) {
             self.grants.grant(account);
         }
         let wants = found.wants_ticket();
