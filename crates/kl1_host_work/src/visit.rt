@@ -12,7 +12,7 @@ use std::time::{Clock, Duration};
 
 /// The most bytes that are read of a connection that has shown no key: a login, a request for the page, a load that is refused. So what
 /// strangers send takes little memory.
-const MOST_STRANGE_BYTES: usize = 98_304;
+const MOST_STRANGE_BYTES: usize = 131_072;
 
 /// A connection, and how far who connected has come: one that has shown no key is a stranger's.
 #[derive(Drop)]
