@@ -148,17 +148,23 @@ def goal_of(told):
     return name["goal"] if name else ""
 
 
-def place_of(told):
-    """The place of a goal that isn't proved, with its name."""
-    name = goal_of(told)
-    return f"{told['file']}:{told['line']}" + (f", {name}" if name else "")
+def answered_goal(told, text_of):
+    """The name of the goal, or of the lemma, whose written answer doesn't fit."""
+    lines = text_of(told["file"]).splitlines()[: int(told["line"])]
+    return next((found["goal"] for line in reversed(lines) if (found := ANSWERED.match(line))), "")
 
 
-def answer_at(told, text_of):
-    """The place of an answer that doesn't fit, with the name of its goal, or of the lemma."""
-    lines = text_of(told["file"]).splitlines()
-    names = [found["goal"] for line in lines[: int(told["line"])] if (found := ANSWERED.match(line))]
-    return f"{told['file']}:{told['line']}" + (f", {names[-1]}" if names else "")
+def refusal(told, goal, kind):
+    """
+    What says that a goal isn't shown, after how far it is from what the function promises and how little it tells: what it ensures and
+    invariants of loops come first, what is left after a failure later, what a call asks for last.
+    """
+    is_promise = goal.startswith("returns") and "in_err" not in goal or goal.endswith("-preserved")
+    is_of_call = bool(OF_CALL.match(goal))
+    gave_up = "; a search gave up" if "gave up at one of its limits" in told["said"] else ""
+    words = f"{told['file']}:{told['line']}" + (f", {goal}" if goal else "") + gave_up
+    far = 2 if is_of_call else 0 if is_promise else 1
+    return (far, KINDS.index(kind), "differ" not in told["said"]), Verdict(CALL if is_of_call else kind, words)
 
 
 def judge(said, status, lines, written, text_of):
@@ -178,22 +184,14 @@ def judge(said, status, lines, written, text_of):
         if it["file"].startswith(("src/", "specs/")) and NOT_READ.search(it["said"]):
             return Verdict(UNREAD, it[0][:160])
     goals = [it for it in told if "it is not proved that" in it["said"]]
-    # what a call asks for comes last
-    goals.sort(key=lambda it: (bool(OF_CALL.match(goal_of(it))), FALSE not in it["said"]))
     # a check of the code on a line that the edit wrote, as for a sum that it brought in, is no matter of a contract
     own = [it for it in goals if CODE_CHECK.match(goal_of(it)) and int(it["line"]) in written.get(it["file"], ())]
-    first = next((it for it in goals if it not in own), None)
-    if first and not OF_CALL.match(goal_of(first)):
-        gave_up = "; a search gave up" if "gave up at one of its limits" in first["said"] else ""
-        return Verdict(VALUES, place_of(first)) if FALSE in first["said"] else Verdict(OPEN, place_of(first) + gave_up)
-    # an answer whose two sides are other values tells most
-    answers = sorted((it for it in errors if not GONE.search(it["said"])), key=lambda it: "differ" not in it["said"])
-    if answers:
-        return Verdict(ANSWER, answer_at(answers[0], text_of))
-    if first:
-        return Verdict(CALL, place_of(first))
-    if goals:
-        return Verdict(FORM, f"only a check of the code that it wrote fails, at {place_of(goals[0])}")
+    found = [refusal(it, goal_of(it), VALUES if FALSE in it["said"] else OPEN) for it in goals if it not in own]
+    found += [refusal(it, answered_goal(it, text_of), ANSWER) for it in errors if not GONE.search(it["said"])]
+    if found:
+        return min(found, key=lambda it: it[0])[1]
+    if own:
+        return Verdict(FORM, f"only a check of the code that it wrote fails, at {own[0]['file']}:{own[0]['line']}, {goal_of(own[0])}")
     if choice := next(filter(None, map(CHOICE.match, lines)), None):
         return Verdict(OPEN, f"{choice['file']}: nothing shows that a loop ends")
     if errors:

@@ -167,7 +167,7 @@ where
     R::Dir: Send + Sync,
 {
     let (rt, alloc, settings) = (log.rt, log.alloc, &opened.settings);
-    let pauses = Mutex::new(Pauses::new(alloc));
+    let pauses = Mutex::new(Pauses::new(alloc)?);
     let sessions = Mutex::new(SessionBook::new(alloc)?);
     let paces = Paces::new();
     let sites = sites_of(alloc, settings, opened.browsers.as_ref())?;

@@ -1,8 +1,9 @@
 -- Wrong keys that are remembered.
-use Rattle.std.proofs.Common.{◌≡◌, ℕ, zero, suc, ◌-◌, ◌<◌, eqb, true, false, List, [], ◌∷◌, length, refl, ap, sym, ◌∙◌, arith}
-use Rattle.std.specs.Prelude.{nat_lt, if◌then◌else◌, slice_get, IfSome}
+use Rattle.std.proofs.Common.{◌≡◌, ℕ, zero, suc, ◌-◌, ◌<◌, eqb, true, false, ◌+◌, List, [], ◌∷◌, ◌++◌, length, take, Some, None, refl, ap, sym, ◌∙◌, arith, length-append}
+use Rattle.std.specs.Prelude.{nat_lt, if◌then◌else◌, slice_get, IfSome, Option, MatchOption, option_to_list}
 use Rattle.std.specs.List.{remove}
 use Rattle.std.proofs.lemmas.Bool.{eq-eqb, ne_eqb, lt-ltb}
+use Rattle.std.proofs.Math.Seq.{take-append_seam}
 use Rattle.kl1_host_front.specs.declared.wrong_keys.TheConstants.{FORGOTTEN_AFTER}
 use Rattle.kl1_host_front.specs.declared.wrong_keys.Wrong.{Wrong}
 use Rattle.kl1_host_front.specs.Pauses.{count_of, OthersStay}
@@ -45,3 +46,14 @@ added_others before after w who e k other now n =
 pub moved_others : (before left after : List Wrong) (w : Wrong) (place who : ℕ) → place < length before → IfSome (slice_get before place) (λ v. v.who ≡ who) → left ≡ remove before place → after ≡ w ∷ left → w.who ≡ who → OthersStay who before after
 moved_others before left after w place who h k d e m other now n =
     added_others left after w who e m other now n ∙ ap (λ ws. count_of ws other now) d ∙ removed before place who h k other now n
+
+-- one is taken out, if there are some
+pub one_out : {A : Type 0} (r : Option A) (old new : ℕ) → 0 < old → MatchOption r ((old ≡ 0) × (new ≡ 0)) (λ _. new + 1 ≡ old) → length (option_to_list r) ≡ 1
+one_out None old new some h = absurd (omega (arith, some, h.0))
+one_out (Some x) old new some h = refl
+
+-- all but the last, if one is taken out at the end
+pub but_last : {A : Type 0} (xs ys all : List A) → all ≡ xs ++ ys → length ys ≡ 1 → xs ≡ take (length all - 1) all
+but_last xs ys all e one =
+    let n : length all - 1 ≡ length xs = omega (arith, ap length e, length-append xs ys, one) in
+    sym (ap (λ k. take k all) n ∙ ap (λ l. take (length xs) l) e ∙ take-append_seam xs ys)

@@ -1,3 +1,4 @@
+pub mod Addresses
 pub mod Quantities
 pub mod Syncs
 pub mod Origins

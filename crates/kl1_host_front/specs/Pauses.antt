@@ -1,6 +1,6 @@
 -- Pauses after wrong keys.
-use Rattle.std.specs.Prelude.{◌≡◌, ℕ, ◌+◌, ◌-◌, ◌==◌, nat_lt, if◌then◌else◌, List, [], ◌∷◌}
-use Rattle.kl1_host_front.specs.declared.wrong_keys.TheConstants.{FORGOTTEN_AFTER, LONGEST_PAUSE, MOST_COUNTED}
+use Rattle.std.specs.Prelude.{◌≡◌, ◌≤◌, ◌⊎◌, ℕ, ◌+◌, ◌-◌, ◌==◌, nat_lt, if◌then◌else◌, List, [], ◌∷◌, length, take}
+use Rattle.kl1_host_front.specs.declared.wrong_keys.TheConstants.{FORGOTTEN_AFTER, LONGEST_PAUSE, MOST_COUNTED, MOST_REMEMBERED}
 use Rattle.kl1_host_front.specs.declared.wrong_keys.Wrong.{Wrong}
 use Rattle.kl1_host_front.specs.declared.wrong_keys.Pauses.{Pauses}
 
@@ -16,6 +16,10 @@ count_of (w ∷ ws) who now = if w.who == who then (if nat_lt (now - w.last) FOR
 -- whoever isn't `who` has as many wrong keys in a row as before
 abbrev pub OthersStay : ℕ → List Wrong → List Wrong → Type 0
 OthersStay who before after = (other : ℕ) → (now : ℕ) → (other ≡ who → ⊥) → count_of after other now ≡ count_of before other now
+
+-- whoever isn't `who` has as many as before; or, if as many are remembered as can be, all but the last have, whose wrong key is the oldest
+abbrev pub OthersMayBeFewer : ℕ → List Wrong → List Wrong → Type 0
+OthersMayBeFewer who before after = OthersStay who before after ⊎ ((MOST_REMEMBERED ≤ length before) × OthersStay who (take (length before - 1) before) after)
 
 -- one wrong key more: beyond a number they count as that
 abbrev pub one_more : ℕ → ℕ

@@ -1,8 +1,7 @@
 // Pauses after wrong keys.
 
-ghost use Rattle.std.specs.Prelude.{◌≡◌, ◌≤◌, ◌<◌, ℕ, length, slice_get, IfSome, OnOk};
-ghost use Rattle.kl1_host_front.specs.Pauses.{wrongs_in, count_of, one_more, pause_after, OthersStay};
-ghost use Rattle.kl1_host_front.specs.declared.wrong_keys.TheConstants.{MOST_REMEMBERED};
+ghost use Rattle.std.specs.Prelude.{◌≡◌, ◌≤◌, ℕ, length, slice_get, IfOk, IfSome};
+ghost use Rattle.kl1_host_front.specs.Pauses.{wrongs_in, count_of, one_more, pause_after, OthersStay, OthersMayBeFewer};
 
 use crate::wrong_keys::{
     FORGOTTEN_AFTER, LONGEST_PAUSE, MOST_COUNTED, MOST_REMEMBERED, Pauses, Wrong,
@@ -46,13 +45,12 @@ fn one_more(count: u8) -> u8
 }
 
 impl Pauses {
-    /// No wrong key was tried.
-    pub fn new(alloc: Global) -> Self
-        ensures { (who : ℕ) → (now : ℕ) → count_of (wrongs_in result) who now ≡ 0 }
+    /// No wrong key was tried. There is room for all that may be remembered, so that none that is tried later asks for memory.
+    pub fn new(alloc: Global) -> Result<Self, AllocError>
+        ensures { IfOk result (λ p. (who : ℕ) → (now : ℕ) → count_of (wrongs_in p) who now ≡ 0) }
     {
-        Pauses {
-            wrongs: Vec::new(alloc),
-        }
+        let wrongs = Vec::with_capacity(alloc, MOST_REMEMBERED)?;
+        Ok(Pauses { wrongs })
     }
 
     /// How many wrong keys were tried in a row for `who`, who may try one more at `now`.
@@ -99,10 +97,10 @@ impl Pauses {
     }
 
     /// A wrong key was tried for `who` at `now`. If too many are remembered, the one whose last wrong key is the oldest is forgotten.
-    #[tactic(auto, using(crate::proofs::WrongKeys::newest_counts, crate::proofs::WrongKeys::moved_others, crate::proofs::WrongKeys::added_others))]
-    pub fn note_wrong(&mut self, who: u128, now: u64) -> Result<(), AllocError>
-        ensures counted { OnOk result (count_of (wrongs_in self.new) who now ≡ one_more (count_of (wrongs_in self.old) who now)) }
-        ensures others { OnOk result (length (wrongs_in self.old) < MOST_REMEMBERED → OthersStay who (wrongs_in self.old) (wrongs_in self.new)) }
+    #[tactic(auto, using(crate::proofs::WrongKeys::newest_counts))]
+    pub fn note_wrong(&mut self, who: u128, now: u64)
+        ensures counted { count_of (wrongs_in self.new) who now ≡ one_more (count_of (wrongs_in self.old) who now) }
+        ensures others { OthersMayBeFewer who (wrongs_in self.old) (wrongs_in self.new) }
     {
         let count = one_more(self.count_of(who, now));
         let place = self.place_of(who);
@@ -111,15 +109,15 @@ impl Pauses {
         } else if self.wrongs.len() >= MOST_REMEMBERED {
             self.wrongs.pop();
         }
-        self.wrongs.insert(
-            0,
-            Wrong {
-                who,
-                count,
-                last: now,
-            },
-        )?;
-        Ok(())
+        let wrong = Wrong {
+            who,
+            count,
+            last: now,
+        };
+        if self.wrongs.insert(0, wrong).is_err() {
+            // There is room for one more.
+            unreachable!()
+        }
     }
 
     /// The wrong keys of `who` are forgotten, since a good one came.

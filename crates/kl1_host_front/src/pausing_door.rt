@@ -77,13 +77,13 @@ impl<R: Wait + Clock, L: LoginTeller + Drop> PausingDoor<'_, R, L> {
         }
     }
 
-    /// Takes in a wrong key for an account from the address. If memory is refused it doesn't count.
+    /// Takes in a wrong key for an account from the address.
     fn note_wrong(&self, account: Option<u128>) {
         let now = milliseconds(self.rt);
         let mut pauses = self.pauses.lock(self.rt);
-        let _ = pauses.note_wrong(self.address, now);
+        pauses.note_wrong(self.address, now);
         if let Some(account) = account {
-            let _ = pauses.note_wrong(account, now);
+            pauses.note_wrong(account, now);
         }
     }
 }

@@ -1,6 +1,6 @@
 // Wrong keys that are remembered.
 
-ghost use Rattle.std.specs.Prelude.{◌≤◌, length};
+ghost use Rattle.std.specs.Prelude.{◌≤◌, length, vec_capacity};
 ghost use Rattle.kl1_host_front.specs.declared.wrong_keys.TheConstants.{MOST_REMEMBERED};
 
 /// How many names and addresses with wrong keys are remembered.
@@ -26,9 +26,10 @@ pub(crate) struct Wrong {
     pub(crate) last: u64,
 }
 
-/// Wrong keys by the numbers of those for whom they were tried, the last first.
+/// Wrong keys by the numbers of those for whom they were tried, the last first. There is room for as many as are remembered.
 #[derive(Drop)]
 pub struct Pauses {
     pub(crate) wrongs: Vec<Wrong>,
     ghost few: { length wrongs.items ≤ MOST_REMEMBERED },
+    ghost room: { MOST_REMEMBERED ≤ vec_capacity wrongs },
 }

@@ -1,6 +1,7 @@
 // Files in a folder of the system.
 
 use crate::log::cut::{OPENING, TEXT, counted};
+use crate::sums::{file_of, text_in};
 use kl1_log::{Batch, Change, Disk, FolderFile, Found, LogError, LogFile, restore};
 use std::alloc::Global;
 use std::os::unix::fs::symlink;
@@ -23,13 +24,13 @@ fn first_batch(change: Change) -> Batch {
     }
 }
 
-/// Whether the file `cut.journal` has these bytes, one part after the other.
-fn has_bytes<R: Files>(rt: &R, alloc: Global, front: &[u8], last: &[u8]) -> io::Result<bool> {
-    let mut wanted = Vec::from_slice(alloc, front)?;
+/// Whether the journal in the file `cut.journal` has the text of a file of these bytes, and then this one.
+fn has_text<R: Files>(rt: &R, alloc: Global, front: &[u8], last: &[u8]) -> io::Result<bool> {
+    let mut wanted = text_in(alloc, Vec::from_slice(alloc, front)?)?;
     wanted.extend_from_slice(last)?;
     let mut disk = FolderFile::open(rt, alloc, ".", "cut")?;
-    let bytes = disk.read(alloc)?;
-    Ok(bytes.as_slice() == wanted.as_slice())
+    let text = text_in(alloc, disk.read(alloc)?)?;
+    Ok(text.as_slice() == wanted.as_slice())
 }
 
 /// Whether a file of these bytes is restored to its whole lines, and goes on; or is begun anew if its opening isn't whole.
@@ -54,16 +55,17 @@ fn is_restored<R: Files>(rt: &R, alloc: Global, bytes: &[u8]) -> io::Result<bool
         _ => return Ok(false),
     };
     let mut file = LogFile::new(disk, 7);
-    if file.write(first_batch(change)).is_err() {
+    if file.write(&first_batch(change)).is_err() {
         return Ok(false);
     }
-    has_bytes(rt, alloc, front, last)
+    has_text(rt, alloc, front, last)
 }
 
 /// Cuts a file at each of its bytes.
 pub(crate) fn file_cut_at_each_byte_goes_on<R: Files>(rt: &R, alloc: Global) -> io::Result<bool> {
-    for count in 0..TEXT.len() + 1 {
-        if !is_restored(rt, alloc, &TEXT[..count])? {
+    let file = file_of(alloc, TEXT)?;
+    for count in 0..file.len() + 1 {
+        if !is_restored(rt, alloc, &file[..count])? {
             return Ok(false);
         }
     }
@@ -85,17 +87,17 @@ fn is_stopped<R: Files>(
     } else {
         Change::Appends(bytes)
     };
-    let has_failed = matches!(file.write(first_batch(change)), Err(LogError::Failed(_)));
+    let has_failed = matches!(file.write(&first_batch(change)), Err(LogError::Failed(_)));
     let more = Change::Appends(Vec::from_slice(alloc, ENTRY)?);
-    let is_stopped = matches!(file.write(first_batch(more)), Err(LogError::Stopped));
+    let is_stopped = matches!(file.write(&first_batch(more)), Err(LogError::Stopped));
     Ok(has_failed && is_stopped)
 }
 
-/// Writes to a device that is always full.
-pub(crate) fn full_disk_stops_a_file<R: Files>(rt: &R, alloc: Global) -> io::Result<bool> {
-    let _gone = fs::remove_file(rt, "full.journal");
-    symlink(rt, "/dev/full", "full.journal")?;
-    is_stopped(rt, alloc, ".", "full", false)
+/// Writes to a file that takes nothing but a number: it can be read to its end, as a device that is full can't.
+pub(crate) fn refused_bytes_stop_a_file<R: Files>(rt: &R, alloc: Global) -> io::Result<bool> {
+    let _gone = fs::remove_file(rt, "number.journal");
+    symlink(rt, "/proc/self/oom_score_adj", "number.journal")?;
+    is_stopped(rt, alloc, ".", "number", false)
 }
 
 /// Writes to a folder in which no file can be made.
