@@ -11,7 +11,7 @@ use std::time::Clock;
 pub struct LoginLog<'f, R: Eprint + Clock> {
     pub log: &'f Log<'f, R>,
     /// The accounts: no other name is told, since it may be a key that stands in its place.
-    pub keys: &'f [Key],
+    pub accounts: &'f [Key],
     pub address: SocketAddr,
 }
 
@@ -32,7 +32,7 @@ impl<R: Eprint + Clock> LoginTeller for LoginLog<'_, R> {
             name: b"account",
             value: name,
         };
-        for key in self.keys {
+        for key in self.accounts {
             if key.name.as_slice() == name {
                 return self.log.tell_of(b"refused", self.address, &[account]);
             }

@@ -80,7 +80,7 @@ impl<'f, R: Wait + Clock + Eprint + Files + RandomSource> Program<'f, R> {
             address: address_number(address.ip()),
             teller: LoginLog {
                 log: self.log,
-                keys: self.keys,
+                accounts: self.keys,
                 address,
             },
         }

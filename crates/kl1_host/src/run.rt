@@ -178,7 +178,7 @@ where
         keys: opened.accounts.keys.as_slice(),
         memory_each: settings.memory_each,
         disk_each: settings.disk_each,
-        codes_each: settings.codes_each,
+        codes_each: opened.settings.codes_each,
         pauses: &pauses,
         sessions: &sessions,
         sites: sites.as_slice(),
