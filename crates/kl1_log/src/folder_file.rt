@@ -190,14 +190,8 @@ impl<R: Files + Clock> FolderFile<R> {
         }
     }
 
-    /// Whether the open file is the one that has its name: it may have been renamed or removed, and what is written to it is lost then. It is
-    /// looked once a second at most.
-    fn has_its_name(&mut self) -> io::Result<bool> {
-        let now = milliseconds(&self.rt);
-        if now.saturating_sub(self.looked) < LOOKED_AGAIN_AFTER {
-            return Ok(true);
-        }
-        self.looked = now;
+    /// Whether the open file is the one that has its name: it may have been renamed or removed, and what is written to it is lost then.
+    fn has_its_name(&self) -> io::Result<bool> {
         let own = self.file.as_ref().ok_or(missing())?.metadata()?;
         let named = fs::metadata(&self.rt, self.path.as_str())?;
         Ok(own.dev() == named.dev() && own.ino() == named.ino())
@@ -260,8 +254,12 @@ impl<R: Files + Clock> Disk for FolderFile<R> {
 
     fn sync(&mut self) -> io::Result<()> {
         self.usable = false;
-        if !self.has_its_name()? {
-            return Err(missing());
+        let now = milliseconds(&self.rt);
+        if now.saturating_sub(self.looked) >= LOOKED_AGAIN_AFTER {
+            self.looked = now;
+            if !self.has_its_name()? {
+                return Err(missing());
+            }
         }
         self.file.as_mut().ok_or(missing())?.sync_data()?;
         self.usable = true;
