@@ -190,6 +190,20 @@ impl<R: Files + Clock> FolderFile<R> {
         }
     }
 
+    /// Writes all bytes where the last were written. On a full disk it waits for room.
+    fn put_all(&self, file: &mut R::File, bytes: &[u8]) -> io::Result<()> {
+        let mut rest = bytes;
+        for _ in 0..u64::MAX {
+            rest = put_some(file, rest)?;
+            if rest.is_empty() {
+                break;
+            }
+            self.await_room()?;
+        }
+        self.room.set_short(false);
+        Ok(())
+    }
+
     /// Whether the open file is the one that has its name: it may have been renamed or removed, and what is written to it is lost then.
     fn has_its_name(&self) -> io::Result<bool> {
         let own = self.file.as_ref().ok_or(missing())?.metadata()?;
@@ -236,18 +250,14 @@ impl<R: Files + Clock> Disk for FolderFile<R> {
 
     fn append(&mut self, bytes: &[u8]) -> io::Result<()> {
         self.usable = false;
+        let mut file = self.file.take().ok_or(missing())?;
         self.room.grow(bytes.len() as u64);
-        let mut rest = bytes;
-        for _ in 0..u64::MAX {
-            let file = self.file.as_mut().ok_or(missing())?;
-            file.seek(SeekFrom::End(0))?;
-            rest = put_some(file, rest)?;
-            if rest.is_empty() {
-                break;
-            }
-            self.await_room()?;
-        }
-        self.room.set_short(false);
+        let put = match file.seek(SeekFrom::End(0)) {
+            Ok(_) => self.put_all(&mut file, bytes),
+            Err(error) => Err(error),
+        };
+        self.file = Some(file);
+        put?;
         self.usable = true;
         Ok(())
     }
@@ -284,15 +294,7 @@ impl<R: Files + Clock> Disk for FolderFile<R> {
             None => self.new_file()?,
         };
         next.seek(SeekFrom::Start(0))?;
-        let mut rest = bytes;
-        for _ in 0..u64::MAX {
-            rest = put_some(&mut next, rest)?;
-            if rest.is_empty() {
-                break;
-            }
-            self.await_room()?;
-        }
-        self.room.set_short(false);
+        self.put_all(&mut next, bytes)?;
         let len = bytes.len() as u64;
         next.set_len(len)?;
         self.next = Some((next, len));
