@@ -195,7 +195,7 @@ impl<'t, R: Wait, K: PoolIds> Pool<'t, R, K> {
     }
 
     /// A turn of an account under its lock, as `PoolAccount::turn`, between `enter` and `leave` of a gate. An account that takes more bytes
-    /// than it may gets none, but one after a message to one of its shoens. Unless the ticket is to be put back, none is out afterwards.
+    /// than it may gets none, but a short one after a message to one of its shoens. Unless the ticket is to be put back, none is out afterwards.
     pub(crate) fn turn<G: Gate, W: Wait>(
         &self,
         rt: &W,
@@ -217,12 +217,13 @@ impl<'t, R: Wait, K: PoolIds> Pool<'t, R, K> {
         if found.account() != account {
             return NO_TURN;
         }
-        if found.is_over(self.most_bytes) && !self.grants.take(account) {
+        let is_over = found.is_over(self.most_bytes);
+        if is_over && !self.grants.take(account) {
             found.clear_ticket();
             return NO_TURN;
         }
         gate.enter(number);
-        let slice = found.time_slice(self.rt, &self.common, &self.tables, share);
+        let slice = found.time_slice(self.rt, &self.common, &self.tables, share, is_over);
         gate.leave(number);
         if !slice.again {
             found.clear_ticket();
