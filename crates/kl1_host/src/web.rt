@@ -6,7 +6,9 @@ use crate::folder::journal_in;
 use crate::logins::LoginLog;
 use kl1_command::{Command, Performed};
 use kl1_host_front::{PausingDoor, Settings, host_of};
-use kl1_host_web::{Accounts, AskedRecord, Measures, SessionBook, Site, Stop, Sums, Viewer};
+use kl1_host_web::{
+    Accounts, AskedRecord, BookChange, LoginKeys, Measures, Site, Stop, Sums, Viewer,
+};
 use kl1_host_work::{HostView, Performer};
 use kl1_session::Door;
 use kl1_user_events::{Extent, GoalNo, GoalView, Presence, ShoenNo, ShoenView, Usage};
@@ -185,8 +187,8 @@ impl<'w, R: Wait + Clock + Eprint + Files, P: Performer, V: HostView> Accounts
         }
     }
 
-    fn note_search(&mut self, before: Snapshot<u64>, book: Snapshot<SessionBook>) {
-        self.record.sought(before, book);
+    fn note_change<K: LoginKeys>(&mut self, change: BookChange<K>) {
+        self.record.changed(change);
     }
 
     fn measures(&self, account: usize) -> Measures {
