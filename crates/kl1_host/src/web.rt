@@ -59,8 +59,20 @@ pub fn sites_of(
     if let Some(page) = &settings.page
         && let Some(host) = host_of(page.as_bytes())
     {
+        let port: &[u8] = if page.as_bytes().starts_with(b"https:") {
+            b":443"
+        } else {
+            b":80"
+        };
+        let mut with_port = Vec::from_slice(alloc, host)?;
+        with_port.extend_from_slice(port)?;
         sites.push(Site {
             host: Vec::from_slice(alloc, host)?,
+            origin: Vec::from_slice(alloc, page.as_bytes())?,
+        })?;
+        // A proxy may tell the port that browsers leave out.
+        sites.push(Site {
+            host: with_port,
             origin: Vec::from_slice(alloc, page.as_bytes())?,
         })?;
     }

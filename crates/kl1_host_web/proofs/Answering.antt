@@ -2,13 +2,14 @@
 use Rattle.std.proofs.Common.{◌≡◌, ℕ, ◌==◌, Bool, true, false, ◌||◌, if◌then◌else◌, List, [], ◌∷◌, ◌++◌, map, codes, IsUtf8, Result, Ok, Err, IfOk, refl, sym, ap, ◌∙◌, append_assoc, append-nil}
 use Rattle.std.proofs.lemmas.List.{map-append}
 use Rattle.std.specs.declared.alloc.AllocError.{AllocError}
-use Rattle.core.specs.Str.{is_utf8}
-use Rattle.core.proofs.str.Lossy.{IsUtf8-from_is_utf8, is_utf8-from_IsUtf8}
+use Rattle.std.specs.Str.{is_utf8}
+use Rattle.std.proofs.lemmas.Str.{IsUtf8-from_is_utf8, is_utf8-from_IsUtf8}
 use Rattle.serde_json.specs.Data.{Data, string, array, object, Items, no_items, item, member, no_members}
 use Rattle.serde_json.specs.View.{view, items_of}
 use Rattle.serde_json.specs.Written.{compact_text, has_float, items_have_float}
 use Rattle.serde_json.specs.declared.value.Value.{Value}
-use Rattle.kl1_model_server.specs.JournalText.{lines_of}
+use Rattle.kl1_model_server.specs.JournalText.{Lines, lines_of}
+use Rattle.kl1_model_server.proofs.TextLines.{byte_first, line_first}
 use Rattle.kl1_session.specs.Replies.{told}
 use Rattle.kl1_command.specs.declared.performed.Performed.{Performed}
 use Rattle.kl1_lines.specs.Places.{has_byte, IsSplit}
@@ -39,11 +40,26 @@ or_false : (a b : Bool) → (a || b) ≡ false → (a ≡ false) × (b ≡ false
 or_false true b e = absurd (cc)
 or_false false b e = (refl, e)
 
+-- the lines of a text by its first byte
+lines_by : Bool → ℕ → Lines → Lines
+lines_by x b ls = elim x [ true ↦ line_first ls | false ↦ byte_first b ls.whole ls.rest ]
+
+split_by : (x : Bool) (b : ℕ) (bs : List ℕ) (ls : Lines) (tail : List (List ℕ)) → x ≡ false → ls.whole ≡ bs ∷ tail → (lines_by x b ls).whole ≡ (b ∷ bs) ∷ tail
+unfolding lines_by
+split_by true b bs ls tail e w = absurd (cc)
+split_by false b bs ls tail e w = ap (λ (l : List (List ℕ)). (byte_first b l ls.rest).whole) w
+
+none_first : (x : Bool) (b : ℕ) (ls : Lines) → x ≡ false → ls.whole ≡ [] → (lines_by x b ls).whole ≡ []
+unfolding lines_by
+none_first true b ls e w = absurd (cc)
+none_first false b ls e w = ap (λ (l : List (List ℕ)). (byte_first b l ls.rest).whole) w
+
 split_at : (line after : List ℕ) → has_byte 10 line ≡ false → (lines_of (line ++ 10 ∷ after)).whole ≡ line ∷ (lines_of after).whole
+unfolding lines_by
 split_at [] after e = refl
 split_at (b ∷ bs) after e =
     let both = or_false (b == 10) (has_byte 10 bs) e in
-    rw (both.0, split_at bs after both.1) refl
+    split_by (b == 10) b bs (lines_of (bs ++ 10 ∷ after)) (lines_of after).whole both.0 (split_at bs after both.1)
 
 -- a text of a line and what is after it has this line and those after it
 pub split_whole : (text line after : List ℕ) → IsSplit text line after → (lines_of text).whole ≡ line ∷ (lines_of after).whole
@@ -51,10 +67,11 @@ split_whole text line after s = ap (λ t. (lines_of t).whole) s.is ∙ split_at 
 
 -- a text without a line feed has no line
 pub no_whole : (text : List ℕ) → has_byte 10 text ≡ false → (lines_of text).whole ≡ []
+unfolding lines_by
 no_whole [] e = refl
 no_whole (b ∷ bs) e =
     let both = or_false (b == 10) (has_byte 10 bs) e in
-    rw (both.0, no_whole bs both.1) refl
+    none_first (b == 10) b (lines_of bs) both.0 (no_whole bs both.1)
 
 -- one more line is a value
 pub one_line : (lines new : List Value) (v : Value) (rest line after : List ℕ) (all : List Data) → new ≡ lines ++ v ∷ [] → view v ≡ text_data line → IsSplit rest line after → map view lines ++ map text_data (lines_of rest).whole ≡ all → map view new ++ map text_data (lines_of after).whole ≡ all

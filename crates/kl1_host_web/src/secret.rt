@@ -41,8 +41,9 @@ pub(crate) fn new_session<M: Machine>(machine: &M, account: usize) -> Option<Web
     if !machine.fill(&mut random) {
         return None;
     }
-    let id = encoded(&random[..RANDOM_BYTES])?;
-    let token = encoded(&random[RANDOM_BYTES..])?;
+    let (front, back) = random.split_at(RANDOM_BYTES);
+    let id = encoded(front)?;
+    let token = encoded(back)?;
     let last = machine.seconds();
     Some(WebSession {
         id,

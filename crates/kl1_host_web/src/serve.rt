@@ -76,8 +76,12 @@ fn is_within(accounts: usize, allowed: &Allowed) -> bool
     }
 }
 
-/// Whether the connection goes on after an answer to this head.
+/// Whether the connection goes on after an answer to this head. It doesn't after a HEAD: who asks so takes what comes after the answer's head
+/// for the next answer.
 fn goes_on(head: &Head) -> bool {
+    if head.method.as_slice() == b"HEAD".as_slice() {
+        return false;
+    }
     let is_later = head.minor == 1;
     match value_of(head.fields.as_slice(), b"connection") {
         None => is_later,

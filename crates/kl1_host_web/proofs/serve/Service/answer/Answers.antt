@@ -35,8 +35,10 @@ returns-in_err-outcome-clause-answers g c =
     (performs (g.M.Machine.gives c.args.self.now.machine.now) house c.args.allowed.now c.args.head.now.target.items c.args.body.now c.in_ok-wish.wish (asked c.args.accounts.now) (asked c.grant.new.accounts) (asked c.grant.new.accounts) (Err c.in_err-outcome.field-0.0) c.from_residual-in_err-outcome.result c.in_ok-wish.ensures (rw c.as_slice.ensures.value at c.in_err-outcome.ensures.grants) (refl, c.from_residual-in_err-outcome.ensures.0))
 
 pub settle-requires : goal.settle-requires
-settle-requires g c =
-    subst (λ (h : House). IsOpenedIn h c.in_ok-outcome.outcome) (sym c.grant.ensures.house) c.in_ok-outcome.ensures.within
+settle-requires g c = record {
+  keys = ap (λ (h : House). h.opens) c.grant.ensures.house ∙ c.requires;
+  opened = subst (λ (h : House). IsOpenedIn h c.in_ok-outcome.outcome) (sym c.grant.ensures.house) c.in_ok-outcome.ensures.within;
+}
 
 pub returns-clause-answers : goal.returns-clause-answers
 returns-clause-answers g c =

@@ -1,3 +1,5 @@
+use Rattle.std.proofs.Common.{sym, subst}
+use Rattle.kl1_host_door.specs.Sessions.{LetsIn}
 use Rattle.kl1_host_door.specs.declared.refusal.Refusal.TheVariants as refusal
 use Rattle.kl1_host_web.proofs.Serving.{begun_refused, begun_failed, begun_full, begun_told}
 use Rattle.kl1_host_web.proofs.serve.Service.begin.Goals as goal
@@ -21,3 +23,6 @@ pub returns-clause-asked : goal.returns-clause-asked
 returns-clause-asked g c =
     let asked = g.A.Accounts.asked in
     begun_told (g.M.Machine.gives c.args.self.now.machine.now) c.args.account (asked c.args.accounts.now) (asked c.add.new.accounts) c.in-Some.session c.add.ensures.asked.0 c.add.result c.in-Ok.answer c.in-Some.ensures.account c.in-Some.ensures.drawn c.if-not-add.false c.add.ensures.asked.1 c.add.ensures.asked.2 c.in-Ok.ensures
+
+pub add-requires : goal.add-requires
+add-requires g c = subst (LetsIn g.K.LoginKeys.opens) (sym c.in-Some.ensures.account) c.requires.opened
