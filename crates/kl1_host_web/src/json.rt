@@ -1,7 +1,7 @@
 // Answers in JSON.
 
 ghost use Rattle.std.specs.Prelude.{◌≡◌, ◌<◌, ◌++◌, ℕ, false, List, OnOk, IfOk};
-ghost use Rattle.serde_json.specs.Data.{string, array, Items};
+ghost use Rattle.serde_json.specs.Data.{string, array, object, no_members, put as with_member, Items};
 ghost use Rattle.serde_json.specs.View.{view};
 ghost use Rattle.serde_json.specs.Written.{compact_text, has_float, items_have_float};
 ghost use Rattle.kl1_session.specs.Replies.{told};
@@ -14,7 +14,7 @@ use kl1_host_door::{Answer, Content, Cookie, Refusal, Status, WebSession, status
 use kl1_lines::split_feed;
 use kl1_reasons::{MOST_REASONS, Reason, reasons_of};
 use kl1_user_events::Reply;
-use serde_json::{Value, json, push};
+use serde_json::{Map, Value, json, push, put};
 use std::alloc::{AllocError, Global};
 use std::str;
 
@@ -34,6 +34,22 @@ pub(crate) fn told_value(
         cookie,
         body: value.to_string(alloc)?.into_bytes(),
     })
+}
+
+/// An object of two members.
+fn pair_value(
+    alloc: Global,
+    first: &str,
+    one: Value,
+    second: &str,
+    other: Value,
+) -> Result<Value, AllocError>
+    ensures { IfOk result (λ value. view value ≡ object (with_member second.now (view other) (with_member first.now (view one) no_members))) }
+{
+    let mut map = Map::new(alloc);
+    put(&mut map, alloc, first, one)?;
+    put(&mut map, alloc, second, other)?;
+    Ok(Value::Object(map))
 }
 
 /// The answer to a request that is refused.
@@ -130,7 +146,7 @@ pub(crate) fn told_session<A: Accounts>(
 {
     let name = name_value(alloc, accounts, session.account)?;
     let token = text_value(alloc, session.token.as_slice())?;
-    let value = json!(in alloc; {"name": name, "token": token})?;
+    let value = pair_value(alloc, "name", name, "token", token)?;
     told_value(alloc, Status::Good, Cookie::Set(session.id), &value)
 }
 
@@ -205,6 +221,6 @@ pub(crate) fn told_load(
 {
     let reply = reply_value(alloc, performed)?;
     let reasons = reasons_value(alloc, source)?;
-    let value = json!(in alloc; {"reply": reply, "reasons": reasons})?;
+    let value = pair_value(alloc, "reply", reply, "reasons", reasons)?;
     told_value(alloc, Status::Good, Cookie::Kept, &value)
 }
