@@ -23,18 +23,11 @@ use std::thread;
 use std::thread::Threads;
 use std::time::Clock;
 
-/// The file of an account that was opened, and the line of the fault if its journal was repaired.
-#[derive(Drop)]
-struct OpenedFile<D: Disk> {
-    file: AccountFile<D>,
-    repaired: Option<u64>,
-}
-
 /// An account whose file is to be opened, and then what became of that.
 #[derive(Drop)]
 struct Opening<'k, D: Disk> {
     key: &'k Key,
-    opened: Option<Result<OpenedFile<D>, Fault>>,
+    opened: Option<Result<AccountFile<D>, Fault>>,
 }
 
 /// Why the file on this path isn't opened, if that is a line of it.
@@ -58,7 +51,7 @@ fn file_of<'r, R: Files<File = File> + Clock + Eprint>(
     folder: &str,
     key: &Key,
     repair: Option<&str>,
-) -> Result<OpenedFile<FolderFile<&'r R>>, Fault> {
+) -> Result<AccountFile<FolderFile<&'r R>>, Fault> {
     let alloc = log.alloc;
     let journals = path_in(alloc, folder, JOURNALS)?;
     let text = format!(in alloc; "{}", key.name.escape_ascii())?;
@@ -80,14 +73,7 @@ fn file_of<'r, R: Files<File = File> + Clock + Eprint>(
         repair,
     );
     match opened {
-        Ok((file, opened)) => Ok(OpenedFile {
-            file: AccountFile {
-                name,
-                file,
-                journal: opened.journal,
-            },
-            repaired: opened.repaired,
-        }),
+        Ok(opened) => Ok(AccountFile { name, opened }),
         Err(fault) => {
             let why = why_of(log.rt, alloc, path, &fault)?;
             Err(open_fault(alloc, path, &fault, why)?)
@@ -120,8 +106,8 @@ fn open_one<'r, R: Files<File = File> + Clock + Eprint>(
 /// Tells which journals were repaired, in the order of accounts.
 fn tell_repairs<R: Clock + Eprint, D: Disk>(log: &Log<'_, R>, openings: &[Opening<'_, D>]) {
     for opening in openings {
-        if let Some(Ok(opened)) = &opening.opened
-            && let Some(line) = opened.repaired
+        if let Some(Ok(found)) = &opening.opened
+            && let Some(line) = found.opened.repaired()
         {
             log.tell_repaired(opening.key.name.as_slice(), line);
         }
@@ -154,7 +140,7 @@ fn gathered<D: Disk + Drop>(
         let Some(opened) = opened else {
             return Err(Fault::Memory);
         };
-        let file = opened?.file;
+        let file = opened?;
         // It always is; no clause says so of what threads have opened.
         if !is_of(&file, &keys[account]) {
             return Err(Fault::Memory);

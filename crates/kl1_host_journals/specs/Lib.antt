@@ -5,3 +5,4 @@ pub mod Links
 pub mod OpenFaults
 pub mod Gates
 pub mod SyncedWriters
+pub mod OpenedFiles

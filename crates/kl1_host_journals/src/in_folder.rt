@@ -1,7 +1,7 @@
 // The file of a journal in a folder, when a host starts.
 
-use crate::opening::{OpenFault, Opened, open_file};
-use crate::resting_file::RestingFile;
+use crate::opened_file::{OpenedFile, open_file};
+use crate::opening::OpenFault;
 use kl1_log::FolderFile;
 use kl1_model::Rules;
 use std::alloc::Global;
@@ -44,13 +44,13 @@ pub fn open_in_folder<'r, R: Files>(
     name: &str,
     rules: Rules,
     repair: Option<&str>,
-) -> Result<(RestingFile<FolderFile<&'r R>>, Opened), OpenFault> {
+) -> Result<OpenedFile<FolderFile<&'r R>>, OpenFault> {
     let disk = match FolderFile::open(rt, alloc, folder, name) {
         Ok(disk) => disk,
         Err(error) => return Err(OpenFault::Failed(error)),
     };
     let opened = open_file(alloc, disk, rules, repair.is_some())?;
-    if let (Some(_), Some(word)) = (opened.1.repaired, repair)
+    if let (Some(_), Some(word)) = (opened.repaired(), repair)
         && let Err(error) = keep_aside(rt, alloc, folder, name, word)
     {
         return Err(OpenFault::Failed(error));

@@ -1,10 +1,11 @@
 -- What accounts had used, with one account more.
-use Rattle.std.proofs.Common.{arith, ◌≡◌, ℕ, List, [], ◌∷◌, ◌++◌, sym, subst}
+use Rattle.std.proofs.Common.{arith, ◌≡◌, ℕ, List, [], ◌∷◌, ◌++◌, sym, subst, ap, ◌∙◌}
 use Rattle.std.specs.Prelude.{Vec}
 use Rattle.std.specs.declared.alloc.Global.{Global}
+use Rattle.std.proofs.lemmas.List.{map-append}
 use Rattle.std.proofs.lemmas.List.Elements.{All-append, All-cons}
 use Rattle.kl1_model_server.specs.laws.TextLaws.{AreNames}
-use Rattle.kl1_pool.specs.Parts.{AreUsed}
+use Rattle.kl1_pool.specs.Parts.{AreUsed, used_names}
 
 -- no account has used any
 none_used : AreUsed []
@@ -15,3 +16,8 @@ pub one_more_used : (used after : List (Vec (List ℕ) Global)) (names : Vec (Li
 one_more_used used after names is all one =
     let P : Vec (List ℕ) Global → Type 0 = λ v. AreNames v.items in
     subst AreUsed (sym is) (All-append P used (names ∷ []) all (All-cons P names [] one none_used))
+
+-- the names of one account more are those of its journal
+pub names_more : (used after : List (Vec (List ℕ) Global)) (names : Vec (List ℕ) Global) (all : List (List (List ℕ))) → after ≡ used ++ names ∷ [] → used_names used ≡ all → used_names after ≡ all ++ names.items ∷ []
+names_more used after names all is same =
+    ap used_names is ∙ map-append (λ (v : Vec (List ℕ) Global). v.items) used (names ∷ []) ∙ ap (λ (x : List (List (List ℕ))). x ++ names.items ∷ []) same

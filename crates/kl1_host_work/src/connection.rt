@@ -3,6 +3,7 @@
 ghost use Rattle.std.specs.Prelude.{◌≤◌, List, []};
 ghost use Rattle.kl1_session.specs.Conversations.{Done};
 ghost use Rattle.kl1_session.specs.Connections.{Serves};
+ghost use Rattle.kl1_pool_history.specs.Histories.{AreAnswered};
 ghost use Rattle.kl1_host_work.specs.declared.connection.TheConstants.{PIECE};
 
 use crate::connections::Desk;
@@ -13,7 +14,8 @@ use crate::view::View;
 use kl1_host_journals::{Outgoing, SyncedWriter};
 use kl1_lines::{FailureCounter, Sink, Source};
 use kl1_pool::{Pool, PoolIds, Share};
-use kl1_session::{Disconnect, Door, History};
+use kl1_pool_history::History;
+use kl1_session::{Disconnect, Door};
 use std::alloc::Global;
 use std::cell::Cell;
 use std::net::{SocketAddr, TcpStream};
@@ -23,7 +25,9 @@ use std::time::Duration;
 /// The bytes of one read. They bound what one connection may have read and not yet answered.
 pub(crate) const PIECE: usize = 4_096;
 
-/// Serves one connection of whom `door` lets in, to the accounts of a pool. `sink` is to write only by `outgoing`.
+/// Serves one connection of whom `door` lets in, to the accounts of a pool, and gives the share back. Each command that is answered is
+/// done once, by the account that was logged in to, and is counted in the share, unless it is answered as if memory was refused. `sink` is
+/// to write only by `outgoing`.
 pub fn serve<'p, 't, S: Source, T: Sink, W: Wait, R: Wait, K: PoolIds, D: Door>(
     rt: &'p W,
     alloc: Global,
@@ -33,21 +37,22 @@ pub fn serve<'p, 't, S: Source, T: Sink, W: Wait, R: Wait, K: PoolIds, D: Door>(
     host: Host<'p>,
     outgoing: &'p Cell<Outgoing>,
     door: &mut D,
-    share: &'p mut Share<K>,
-) -> Disconnect
+    share: Share<K>,
+) -> (Disconnect, Share<K>)
     requires { D.accounts door.old ≤ K.accounts }
-    ensures { (done : List Done) × Serves (D.opens door.old) PIECE result (S.remaining source.old) (S.remaining source.new) (T.contents sink.old) (T.contents sink.new) [] done }
+    ensures { (done : List Done) × Serves (D.opens door.old) PIECE result.0 (S.remaining source.old) (S.remaining source.new) (T.contents sink.old) (T.contents sink.new) [] done × AreAnswered K.rules K.names done share result.1 }
 {
     let mut handler = HostHandler {
         rt,
         pool,
-        share,
         host,
         outgoing,
-        history: History::new(),
+        history: History::new(share),
     };
     let mut buffer = [0u8; PIECE];
-    kl1_session::serve(alloc, source, sink, &mut handler, door, &mut buffer)
+    let served = kl1_session::serve(alloc, source, sink, &mut handler, door, &mut buffer);
+    let HostHandler { history, .. } = handler;
+    (served, history.into_share())
 }
 
 /// Lets replies go out at once, and a peer that is gone hold no session for good. A socket that can't do this serves all the same.
@@ -57,7 +62,7 @@ fn set_up(stream: &TcpStream, idle: Duration) {
     let _ = stream.set_write_timeout(Some(idle));
 }
 
-/// Serves one connection over a socket, and closes it if it is silent for `idle`.
+/// Serves one connection over a socket, closes it if it is silent for `idle`, and gives the share back.
 pub(crate) fn serve_lines<'t, W: Wait, R: Wait, K: PoolIds, D: Door>(
     rt: &W,
     alloc: Global,
@@ -66,8 +71,8 @@ pub(crate) fn serve_lines<'t, W: Wait, R: Wait, K: PoolIds, D: Door>(
     host: Host<'_>,
     idle: Duration,
     door: &mut D,
-    share: &mut Share<K>,
-) -> Disconnect
+    share: Share<K>,
+) -> (Disconnect, Share<K>)
     requires { D.accounts door.old ≤ K.accounts }
 {
     set_up(stream, idle);
@@ -88,23 +93,22 @@ pub(crate) fn serve_lines<'t, W: Wait, R: Wait, K: PoolIds, D: Door>(
     )
 }
 
-/// Serves one connection of a browser over a socket, and closes it if it is silent for too long.
+/// Serves one connection of a browser over a socket, closes it if it is silent for too long, and gives the share back.
 pub(crate) fn serve_pages<'p, 't, F: Front, W: Wait, R: Wait, K: PoolIds>(
     rt: &'p W,
     desk: &'p Desk<'p, 't, F, R, K>,
     stream: &TcpStream,
     address: SocketAddr,
-    share: &'p mut Share<K>,
-) {
+    share: Share<K>,
+) -> Share<K> {
     set_up(stream, desk.limits.idle);
     let outgoing = Cell::new(Outgoing::new());
     let mut performer = HostHandler {
         rt,
         pool: desk.pool,
-        share,
         host: desk.host,
         outgoing: &outgoing,
-        history: History::new(),
+        history: History::new(share),
     };
     let view = View {
         rt,
@@ -116,4 +120,6 @@ pub(crate) fn serve_pages<'p, 't, F: Front, W: Wait, R: Wait, K: PoolIds>(
     let mut sink = FailureCounter::new(writer);
     desk.front
         .serve_pages(address, &mut source, &mut sink, &mut performer, &view);
+    let HostHandler { history, .. } = performer;
+    history.into_share()
 }

@@ -61,19 +61,19 @@ impl<'d, 't, F: Front, R: Wait, K: PoolIds> Desk<'d, 't, F, R, K> {
     }
 }
 
-/// Serves a connection of a client.
+/// Serves a connection of a client, and gives the share back.
 fn serve_client<'t, F: Front, W: Wait, R: Wait, K: PoolIds>(
     rt: &W,
     desk: &Desk<'_, 't, F, R, K>,
     stream: &TcpStream,
     address: SocketAddr,
-    share: &mut Share<K>,
-)
+    share: Share<K>,
+) -> Share<K>
     requires { AreAccountsOf (F.names desk.now.front.now) K.names K.accounts }
 {
     desk.front.tell(HostEvent::Opened(address));
     let mut door = desk.front.door(address);
-    let served = serve_lines(
+    let (served, share) = serve_lines(
         rt,
         desk.alloc,
         stream,
@@ -84,6 +84,7 @@ fn serve_client<'t, F: Front, W: Wait, R: Wait, K: PoolIds>(
         share,
     );
     desk.front.tell(HostEvent::Closed(address, served));
+    share
 }
 
 /// Serves a connection that was let in by this number, and gives the share back.
@@ -98,11 +99,10 @@ fn serve_visitor<'t, F: Front, W: Wait, R: Wait, K: PoolIds>(
 )
     requires { AreAccountsOf (F.names desk.now.front.now) K.names K.accounts }
 {
-    let mut share = share;
-    match peers {
-        Peers::Clients => serve_client(&*rt, &*desk, &*stream, address, &mut share),
-        Peers::Browsers => serve_pages(&*rt, &*desk, &*stream, address, &mut share),
-    }
+    let share = match peers {
+        Peers::Clients => serve_client(&*rt, &*desk, &*stream, address, share),
+        Peers::Browsers => serve_pages(&*rt, &*desk, &*stream, address, share),
+    };
     drop(stream);
     desk.lobby.give_back(rt, share);
     desk.lobby.leave(rt, number);

@@ -1,6 +1,9 @@
 // What a host asks of the program around it.
 
-ghost use Rattle.std.specs.Prelude.{◌≡◌, ℕ, List, length};
+ghost use Rattle.std.specs.Prelude.{◌≡◌, ◌<◌, ◌≤◌, ◌++◌, ◌∷◌, [], ℕ, List, length};
+ghost use Rattle.kl1_command.specs.Commands.{command_view};
+ghost use Rattle.kl1_command.specs.declared.performed.Performed.TheVariants.{Memory};
+ghost use Rattle.kl1_session.specs.Conversations.{Done};
 ghost use Rattle.kl1_host_work.specs.Fronts.{OpensByName};
 
 use kl1_command::{Command, Performed};
@@ -91,8 +94,17 @@ pub trait HostView {
 
 /// What does commands for a connection.
 pub trait Performer {
+    /// How many accounts there are.
+    ghost accounts: { Self → ℕ };
+
+    /// What was done, in order, with what was answered.
+    ghost done: { Self → List Done };
+
     /// Does a command to an account; if there is no such account, as if memory was refused.
-    fn perform(&mut self, account: usize, command: &Command) -> Performed;
+    fn perform(&mut self, account: usize, command: &Command) -> Performed
+        ensures accounts { accounts self.new ≡ accounts self.old }
+        ensures done { account < accounts self.old → done self.new ≡ done self.old ++ record { account = account; command = command_view command.now; answer = result } ∷ [] }
+        ensures none { accounts self.old ≤ account → (done self.new ≡ done self.old) × (result ≡ Memory) };
 }
 
 /// The program around a host: who is let in, what is told to its log, and when it stops.

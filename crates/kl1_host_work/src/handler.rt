@@ -1,32 +1,35 @@
 // A pool with its files as what does the commands of one connection.
 
-ghost use Rattle.kl1_session.specs.Histories.{done_in};
+ghost use Rattle.std.specs.Prelude.{◌≡◌};
+ghost use Rattle.kl1_command.specs.Commands.{command_view};
+ghost use Rattle.kl1_host_work.specs.Refusals.{is_logout, is_refused, source_bytes};
 
 use crate::front::Performer;
 use crate::host::Host;
 use crate::noting::note_told;
 use kl1_command::{Command, Performed};
 use kl1_host_journals::Outgoing;
-use kl1_pool::{Pool, PoolIds, Share};
-use kl1_session::{CommandHandler, History};
+use kl1_pool::{Pool, PoolIds};
+use kl1_pool_history::History;
+use kl1_session::CommandHandler;
 use kl1_user_events::{Event, Reply};
 use std::cell::Cell;
-use std::snapshot::Snapshot;
 use std::sync::Wait;
 
-/// A pool with the share and the leave to write of one connection, and what was done for it.
+/// A pool with the leave to write of one connection, and what was done for it.
 #[derive(Drop)]
 pub struct HostHandler<'p, 't, W: Wait, R: Wait, K: PoolIds> {
     pub rt: &'p W,
     pub pool: &'p Pool<'t, R, K>,
-    pub share: &'p mut Share<K>,
     pub host: Host<'p>,
     pub outgoing: &'p Cell<Outgoing>,
-    pub history: History,
+    pub history: History<K>,
 }
 
 /// How many bytes of source a command loads; 0 if it is no load.
-fn source_bytes(command: &Command) -> usize {
+fn source_bytes(command: &Command) -> usize
+    ensures { result ≡ source_bytes (command_view command.now) }
+{
     match command {
         Command::Does(Event::Load { source }) => source.len(),
         _ => 0,
@@ -34,8 +37,17 @@ fn source_bytes(command: &Command) -> usize {
 }
 
 /// Whether a command is a logout, which each account answers.
-fn is_logout(command: &Command) -> bool {
+fn is_logout(command: &Command) -> bool
+    ensures { result ≡ is_logout (command_view command.now) }
+{
     matches!(command, Command::Does(Event::Logout))
+}
+
+/// Whether a command is answered as if memory was refused, of an account that is stopped or isn't, and may load `left` bytes of sources.
+fn is_refused(command: &Command, is_stopped: bool, left: u64) -> bool
+    ensures { result ≡ is_refused (command_view command.now) is_stopped left }
+{
+    !is_logout(command) && (is_stopped || left < source_bytes(command) as u64)
 }
 
 /// Whether a module was loaded.
@@ -46,18 +58,14 @@ fn is_loaded(performed: &Performed) -> bool {
 impl<'p, 't, W: Wait, R: Wait, K: PoolIds> HostHandler<'p, 't, W, R, K> {
     /// Whether a command is answered as if memory was refused: the account is stopped, or it has loaded what it may.
     fn is_refused(&self, account: usize, command: &Command) -> bool {
-        if is_logout(command) {
-            return false;
-        }
         let is_stopped = match self.host.keepers.get(account) {
             Some(keeper) => keeper.on_disk().is_stopped(),
             None => true,
         };
-        let is_over = match self.host.budgets.get(account) {
-            Some(budget) => !budget.allows(source_bytes(command)),
-            None => true,
-        };
-        is_stopped || is_over
+        match self.host.budgets.get(account) {
+            Some(budget) => is_refused(command, is_stopped, budget.left()),
+            None => is_refused(command, true, 0),
+        }
     }
 
     /// Counts a source that was loaded.
@@ -71,28 +79,32 @@ impl<'p, 't, W: Wait, R: Wait, K: PoolIds> HostHandler<'p, 't, W, R, K> {
 }
 
 impl<'p, 't, W: Wait, R: Wait, K: PoolIds> CommandHandler for HostHandler<'p, 't, W, R, K> {
+    ghost use Rattle.kl1_pool_tickets.specs.Counts.{Counts};
+
     ghost accounts = { λ handler. K.accounts };
 
-    ghost done = { λ handler. done_in handler.history };
+    ghost done = { λ handler. handler.history.done };
+
+    ghost Beside = { Counts };
+
+    ghost beside = { λ handler. handler.history.begun };
 
     fn act(&mut self, account: usize, command: &Command) -> Performed {
         if self.is_refused(account, command) {
-            let performed = Performed::Memory;
-            self.history
-                .add(Snapshot::of(&account), Snapshot::of(command), &performed);
-            return performed;
+            return self.history.refuse(account, command);
         }
-        let answer = self.pool.act(self.rt, account, command, self.share);
-        // What is noted is what the answer says of itself, not what was asked for.
-        let (performed, done_to, done) = answer.into_parts();
+        let performed = self.history.act(self.rt, self.pool, account, command);
         note_told(self.rt, self.pool, self.host, self.outgoing, account);
         self.count(account, source_bytes(command), &performed);
-        self.history.add(done_to, done, &performed);
         performed
     }
 }
 
 impl<'p, 't, W: Wait, R: Wait, K: PoolIds> Performer for HostHandler<'p, 't, W, R, K> {
+    ghost accounts = { λ handler. K.accounts };
+
+    ghost done = { λ handler. handler.history.done };
+
     fn perform(&mut self, account: usize, command: &Command) -> Performed {
         if account < self.pool.accounts() {
             self.act(account, command)

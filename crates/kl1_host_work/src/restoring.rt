@@ -1,13 +1,15 @@
 // Accounts restored from their files.
 
-ghost use Rattle.std.specs.Prelude.{◌<◌, slice_get, IfOk};
+ghost use Rattle.std.specs.Prelude.{◌≡◌, ◌<◌, ◌++◌, ◌∷◌, [], map, slice_get, IfOk, OnOk};
 ghost use Rattle.kl1_host_work.specs.Restarts.{IsAllRestored};
+ghost use Rattle.kl1_host_work.specs.Standings.{IsStandingOf, IsRestarted, AreRestored};
+ghost use Rattle.kl1_host_work.specs.Stages.{AreWaiting, AreStanding};
 
 use crate::budget::Budget;
 use crate::front::{Front, HostEvent};
 use crate::linking::link_account;
 use crate::start_fault::StartFault;
-use kl1_host_journals::{Keeper, Linked, RestingFile};
+use kl1_host_journals::{Keeper, Linked, OpenedFile};
 use kl1_journal_entries::Journal;
 use kl1_log::{Disk, LogFile};
 use kl1_pool::{AccountName, Pool, PoolIds, RestoreEnd, Share};
@@ -16,12 +18,11 @@ use std::sync::Wait;
 use std::thread::Threads;
 use std::{mem, thread};
 
-/// An account with its file, and with the journal with which it begins.
+/// An account with its file, and with the journal with which it begins, which was read from that.
 #[derive(Drop)]
 pub struct AccountFile<D: Disk> {
     pub name: AccountName,
-    pub file: RestingFile<D>,
-    pub journal: Journal,
+    pub opened: OpenedFile<D>,
 }
 
 /// The accounts' files, and what all threads share of them.
@@ -61,7 +62,9 @@ fn restore_account<'t, W: Wait, R: Wait, K: PoolIds>(
 
 impl<D: Disk + Drop> Shelf<D> {
     /// No files, with room for this number of them.
-    fn new(alloc: Global, accounts: usize) -> Result<Self, AllocError> {
+    fn new(alloc: Global, accounts: usize) -> Result<Self, AllocError>
+        ensures { IfOk result (λ s. s.files.items ≡ []) }
+    {
         Ok(Shelf {
             files: Vec::with_capacity(alloc, accounts)?,
             keepers: Vec::with_capacity(alloc, accounts)?,
@@ -70,7 +73,9 @@ impl<D: Disk + Drop> Shelf<D> {
     }
 
     /// Adds the file of the next account.
-    fn add(&mut self, linked: Linked<D>, bytes: u64) -> Result<(), AllocError> {
+    fn add(&mut self, linked: Linked<D>, bytes: u64) -> Result<(), AllocError>
+        ensures { OnOk result (self.new.files.items ≡ self.old.files.items ++ linked.file ∷ []) }
+    {
         let Linked {
             file,
             notes,
@@ -108,7 +113,8 @@ struct Restart<D: Disk, K: PoolIds> {
     stage: Stage<D>,
 }
 
-/// Restores an account from its file, and links that with the account's journal.
+/// Restores an account from its file, and links that with the account's journal: all entries of the file's journal are done to the account,
+/// and what waits for the file makes it one of the account's journal.
 fn stand<'t, D: Disk + Drop, W: Wait, R: Wait, K: PoolIds>(
     rt: &W,
     alloc: Global,
@@ -118,11 +124,11 @@ fn stand<'t, D: Disk + Drop, W: Wait, R: Wait, K: PoolIds>(
     share: &mut Share<K>,
 ) -> Result<Standing<D>, StartFault>
     requires { account < K.accounts }
+    ensures { IfOk result (IsStandingOf K.rules (slice_get K.names account) found.opened.journal.journal) }
 {
-    let AccountFile { file, journal, .. } = found;
-    let entries = restore_account(rt, alloc, pool, account, &journal, share)?;
-    drop(journal);
-    match link_account(rt, alloc, pool, account, file) {
+    let AccountFile { opened, .. } = found;
+    let entries = restore_account(rt, alloc, pool, account, opened.journal(), share)?;
+    match link_account(rt, alloc, pool, account, opened.into_file()) {
         Ok(linked) => Ok(Standing { linked, entries }),
         Err(fault) => Err(StartFault::Unlinked { account, fault }),
     }
@@ -135,7 +141,9 @@ fn restore_one<'t, D: Disk + Drop, W: Wait, R: Wait, K: PoolIds>(
     pool: &Pool<'t, R, K>,
     account: usize,
     restart: &mut Restart<D, K>,
-) {
+)
+    ensures { IsRestarted K.rules (slice_get K.names account) restart.old.stage restart.new.stage }
+{
     let Restart { share, stage } = restart;
     let before = mem::replace(stage, Stage::Fails(StartFault::Accounts));
     let Stage::Waits(found) = before else {
@@ -154,7 +162,9 @@ fn restarts_of<D: Disk + Drop, K: PoolIds>(
     alloc: Global,
     files: Vec<AccountFile<D>>,
     shares: Vec<Share<K>>,
-) -> Result<Vec<Restart<D, K>>, StartFault> {
+) -> Result<Vec<Restart<D, K>>, StartFault>
+    ensures { IfOk result (λ restarts. AreWaiting files.items (map (λ r. r.stage) restarts.items)) }
+{
     let mut shares = shares;
     let mut restarts = Vec::with_capacity(alloc, files.len())?;
     for found in files {
@@ -179,30 +189,16 @@ fn lanes<R: Threads>(rt: &R) -> usize
     }
 }
 
-/// Restores the accounts of a pool from their files, each with one of the shares, several at the same time; then tells `front` of each, in
-/// order. If some can't be restored, the fault of the first of them is told. Each may load sources of `bytes` bytes.
-pub(crate) fn restore_all<'t, F: Front, D: Disk + Drop + Send, N, R: Wait + Sync, K>(
-    rt: &N,
+/// The files of accounts that stand, in order, each of which may load sources of `bytes` bytes; tells `front` of each. If some don't stand, the
+/// fault of the first of them is told.
+fn shelf_of<F: Front, D: Disk + Drop, K: PoolIds>(
     alloc: Global,
-    pool: &Pool<'t, R, K>,
     front: &F,
-    files: Vec<AccountFile<D>>,
+    restarts: Vec<Restart<D, K>>,
     bytes: u64,
-    shares: Vec<Share<K>>,
 ) -> Result<Shelf<D>, StartFault>
-where
-    N: Threads + Wait + Sync,
-    K: PoolIds + Send + Sync,
+    ensures { IfOk result (λ shelf. AreStanding (map (λ r. r.stage) restarts.items) shelf.files.items) }
 {
-    let mut restarts = restarts_of(alloc, files, shares)?;
-    thread::for_each_mut(
-        rt,
-        restarts.as_mut_slice(),
-        lanes(rt),
-        &|account: usize, restart: &mut Restart<D, K>| {
-            restore_one(rt, alloc, pool, account, restart)
-        },
-    );
     let mut shelf = Shelf::new(alloc, restarts.len())?;
     for (account, restart) in restarts.into_iter().enumerate() {
         let Restart { stage, .. } = restart;
@@ -217,4 +213,32 @@ where
         }
     }
     Ok(shelf)
+}
+
+/// Restores the accounts of a pool from their files, each with one of the shares, several at the same time; then tells `front` of each, in
+/// order. If some can't be restored, the fault of the first of them is told. Each may load sources of `bytes` bytes.
+pub(crate) fn restore_all<'t, F: Front, D: Disk + Drop + Send, N, R: Wait + Sync, K>(
+    rt: &N,
+    alloc: Global,
+    pool: &Pool<'t, R, K>,
+    front: &F,
+    files: Vec<AccountFile<D>>,
+    bytes: u64,
+    shares: Vec<Share<K>>,
+) -> Result<Shelf<D>, StartFault>
+where
+    N: Threads + Wait + Sync,
+    K: PoolIds + Send + Sync,
+    ensures { IfOk result (λ shelf. AreRestored K.rules K.names files.items shelf.files.items) }
+{
+    let mut restarts = restarts_of(alloc, files, shares)?;
+    thread::for_each_mut(
+        rt,
+        restarts.as_mut_slice(),
+        lanes(rt),
+        &|account: usize, restart: &mut Restart<D, K>| {
+            restore_one(rt, alloc, pool, account, restart)
+        },
+    );
+    shelf_of(alloc, front, restarts, bytes)
 }

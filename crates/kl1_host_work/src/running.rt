@@ -14,7 +14,7 @@ use kl1_host_journals::{Bell, FaultTeller, Keeper, Outgoing, Scribe};
 use kl1_log::{Disk, LogError, LogFile};
 use kl1_model::limits::MOST_ACCOUNTS;
 use kl1_pool::{Gate, Pool, PoolIds, Share, worker};
-use kl1_session::History;
+use kl1_pool_history::History;
 use std::alloc::{AllocError, Global};
 use std::cell::Cell;
 use std::net::{Net, TcpListener, TcpStream};
@@ -137,14 +137,12 @@ fn attend<'p, 't, F: Front, N: Wait, R: Wait, K: PoolIds>(
         return;
     }
     let outgoing = Cell::new(Outgoing::new());
-    let mut share = share;
     let mut performer = HostHandler {
         rt,
         pool: desk.pool,
-        share: &mut share,
         host: desk.host,
         outgoing: &outgoing,
-        history: History::new(),
+        history: History::new(share),
     };
     let view = View {
         rt,

@@ -2,8 +2,8 @@
 
 ghost use Rattle.std.specs.Prelude.{◌≡◌, IfOk};
 ghost use Rattle.kl1_model_server.specs.laws.TextLaws.{AreNames};
-ghost use Rattle.kl1_pool.specs.Parts.{AreUsed};
-ghost use Rattle.kl1_host_work.specs.AccountFiles.{names_of};
+ghost use Rattle.kl1_pool.specs.Parts.{AreUsed, used_names};
+ghost use Rattle.kl1_host_work.specs.AccountFiles.{names_of, names_used};
 ghost use Rattle.kl1_host_work.specs.Fronts.{AreAccountsOf};
 
 use crate::connections::Desk;
@@ -59,7 +59,8 @@ fn take_shares<K: PoolIds>(
 
 /// The names that an account had used when its journal began.
 fn names_of(alloc: Global, journal: &Journal) -> Result<Vec<AtomText>, AllocError>
-    ensures { IfOk result (λ names. AreNames names.items) }
+    ensures may { IfOk result (λ names. AreNames names.items) }
+    ensures are { IfOk result (λ names. names.items ≡ journal.now.journal.names) }
 {
     // That these are names that an account may have used.
     journal.shows_written();
@@ -67,16 +68,17 @@ fn names_of(alloc: Global, journal: &Journal) -> Result<Vec<AtomText>, AllocErro
 }
 
 /// The names that each account had used when its journal began.
-#[tactic(auto, using(crate::proofs::UsedNames::one_more_used))]
+#[tactic(auto, using(crate::proofs::UsedNames::one_more_used, crate::proofs::UsedNames::names_more))]
 fn used_of<D: Disk>(
     alloc: Global,
     accounts: &[AccountFile<D>],
 ) -> Result<Vec<Vec<AtomText>>, AllocError>
-    ensures { IfOk result (λ used. AreUsed used.items) }
+    ensures may { IfOk result (λ used. AreUsed used.items) }
+    ensures are { IfOk result (λ used. used_names used.items ≡ names_used accounts.now) }
 {
     let mut used = Vec::with_capacity(alloc, accounts.len())?;
     for account in accounts {
-        let names = names_of(alloc, &account.journal)?;
+        let names = names_of(alloc, account.opened.journal())?;
         used.push(names)?;
     }
     Ok(used)

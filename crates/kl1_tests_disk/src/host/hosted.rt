@@ -63,11 +63,7 @@ fn accounts_of(
         };
         let disk = Memory::new(alloc, Vec::from_slice(alloc, text)?, left);
         match open_file(alloc, disk, Rules::Four, false) {
-            Ok((file, opened)) => accounts.push(AccountFile {
-                name,
-                file,
-                journal: opened.journal,
-            })?,
+            Ok(opened) => accounts.push(AccountFile { name, opened })?,
             Err(fault) => return Err(StartFault::Unopened { account, fault }),
         }
     }

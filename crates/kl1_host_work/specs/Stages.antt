@@ -1,0 +1,17 @@
+-- Accounts that are restored, by how far it is with each.
+use Rattle.std.specs.Prelude.{◌≡◌, List, map}
+use Rattle.kl1_log.specs.declared.disk.Disk as disk
+use Rattle.kl1_log.specs.declared.log_file.LogFile.{LogFile}
+use Rattle.kl1_host_work.specs.declared.restoring.AccountFile.{AccountFile}
+use Rattle.kl1_host_work.specs.declared.restoring.Standing.{Standing}
+use Rattle.kl1_host_work.specs.declared.restoring.Stage.{Stage}
+use Rattle.kl1_host_work.specs.declared.restoring.Stage.TheVariants.{Waits, Stands}
+
+module _ {D : Type 0} {g : disk.Ghosts D} where
+  -- none is restored yet, and these are the files that were found
+  abbrev pub AreWaiting : List (AccountFile D) → List (Stage D g) → Type 0
+  AreWaiting found stages = stages ≡ map (λ (a : AccountFile D). Waits a) found
+
+  -- all stand, and these are their files
+  abbrev pub AreStanding : List (Stage D g) → List (LogFile D g) → Type 0
+  AreStanding stages files = (standings : List (Standing D g)) × (stages ≡ map (λ (s : Standing D g). Stands s) standings) × (files ≡ map (λ (s : Standing D g). s.linked.file) standings)
