@@ -1,0 +1,1 @@
+while true; do for p in $(pgrep -f "bin/rattle (build|check) --crate-name kl1_(host_work|host|host_web|host_front|server_work|server|script|tests_threads|tests_disk|run) "); do c=$(readlink /proc/$p/cwd); case $c in /work/base/*) kill $p; echo killed $c;; esac; done; sleep 3; done
