@@ -1,10 +1,9 @@
 // The accounts of a folder.
 
 use crate::fault::{BAD, Fault, fault_in_folder};
-use crate::folder::{ACCOUNTS, path_in};
+use crate::folder::{ACCOUNTS, path_in, read_file};
 use kl1_host_front::{bad_line, read_sums};
 use kl1_session::Key;
-use std::fs;
 use std::rt::Files;
 
 /// The accounts of a folder.
@@ -20,7 +19,7 @@ pub struct Accounts {
 pub fn accounts_in<R: Files + AllocGlobal>(rt: &R, folder: &str) -> Result<Accounts, Fault> {
     let alloc = rt.alloc();
     let path = path_in(alloc, folder, ACCOUNTS)?;
-    let text = match fs::read(rt, path.as_str()) {
+    let text = match read_file(rt, alloc, path.as_str()) {
         Ok(text) => text,
         Err(error) => return Err(fault_in_folder(alloc, path.as_str(), &error)),
     };

@@ -2,15 +2,15 @@
 
 use crate::accounts::accounts_in;
 use crate::fault::{Fault, REFUSED};
-use crate::folder::journal_in;
+use crate::faulty_line::{LineFault, fault_in};
+use crate::folder::{journal_in, read_file};
 use crate::last_line::LastLine;
 use crate::settings::settings_of;
 use kl1_codes::PlainCodes;
-use kl1_journal_entries::{Entry, Journal, heading_of, next_line};
+use kl1_journal_entries::{Entry, Journal};
 use kl1_lines::{FailureCounter, ScriptFault};
 use kl1_log::{Found, recover};
-use kl1_script::run_replay_over;
-use std::fs;
+use kl1_script::replay_file;
 use std::io::ErrorKind;
 
 /// How the replay of a journal tells of a fault, before the number of its line.
@@ -24,14 +24,11 @@ struct Counts {
     steps: u64,
 }
 
-/// What there is in a journal of this text.
-fn counts_of(journal: &Journal, text: &[u8]) -> Counts {
+/// What there is in a journal.
+fn counts_of(journal: &Journal) -> Counts {
     let mut counts = Counts {
         entries: 0,
-        names: match next_line(text) {
-            Some((line, _)) => heading_of(line).map_or(0, |heading| heading.names),
-            None => 0,
-        },
+        names: journal.names().len() as u64,
         steps: 0,
     };
     let mut entries = journal.entries();
@@ -49,12 +46,11 @@ fn counts_of(journal: &Journal, text: &[u8]) -> Counts {
     counts
 }
 
-/// The line of the fault at which the replay of a text ends; `None` if all its entries are done.
+/// What is told of the fault at which the replay of a file ends; `None` if all its entries are done.
 fn fault_of(rt: &HostRuntime, text: &[u8]) -> Result<Option<String>, Fault> {
     let alloc = rt.alloc();
-    let mut source = FailureCounter::new(text);
     let mut sink = FailureCounter::new(LastLine::new(alloc));
-    match run_replay_over(alloc, PlainCodes::new(alloc), &mut source, &mut sink) {
+    match replay_file(alloc, PlainCodes::new(alloc), text, &mut sink) {
         Ok(()) => {}
         Err(ScriptFault::Memory) => return Err(Fault::Memory),
         Err(fault) => return Ok(Some(format!(in alloc; "{fault}")?)),
@@ -69,7 +65,7 @@ fn fault_of(rt: &HostRuntime, text: &[u8]) -> Result<Option<String>, Fault> {
 fn tell_whole(
     rt: &HostRuntime,
     name: &str,
-    journal: &Journal,
+    counts: Counts,
     text: &[u8],
     torn: usize,
 ) -> Result<bool, Fault> {
@@ -81,7 +77,7 @@ fn tell_whole(
         entries,
         names,
         steps,
-    } = counts_of(journal, text);
+    } = counts;
     if torn == 0 {
         println!(rt; "{name}: {entries} entries, {names} names, {steps} steps")?;
     } else {
@@ -92,11 +88,21 @@ fn tell_whole(
     Ok(true)
 }
 
-/// Replays the journal of an account, and tells what it has, or where it is at fault; answers whether it is sound.
+/// Tells the line of a file, the first being 1, at which it is no journal.
+fn tell_line(rt: &HostRuntime, name: &str, text: &[u8], line: u64) -> Result<(), Fault> {
+    match fault_in(rt.alloc(), text, line)? {
+        LineFault::NoEntry => println!(rt; "{name}: fault: line {line}")?,
+        fault => println!(rt; "{name}: fault: line {line}, {}", fault.words())?,
+    }
+    Ok(())
+}
+
+/// Compares the sums of the journal of an account and replays it; tells what it has, or where it is at fault, and answers whether it is
+/// sound.
 fn check_journal(rt: &HostRuntime, folder: &str, name: &str) -> Result<bool, Fault> {
     let alloc = rt.alloc();
     let file = journal_in(alloc, folder, name.as_bytes())?;
-    let text = match fs::read(rt, file.as_str()) {
+    let text = match read_file(rt, alloc, file.as_str()) {
         Ok(text) => text,
         Err(error) if error.kind() == ErrorKind::NotFound => {
             println!(rt; "{name}: no journal yet")?;
@@ -109,12 +115,15 @@ fn check_journal(rt: &HostRuntime, folder: &str, name: &str) -> Result<bool, Fau
     };
     match recover(alloc, text.as_slice())? {
         Found::Whole { journal, bytes } => {
+            let counts = counts_of(&journal);
+            // The replay has need of the memory.
+            drop(journal);
             let whole = text.get(..bytes).unwrap_or(text.as_slice());
             let torn = text.len().saturating_sub(whole.len());
-            tell_whole(rt, name, &journal, whole, torn)
+            tell_whole(rt, name, counts, whole, torn)
         }
         Found::Fault { line, .. } => {
-            println!(rt; "{name}: fault: line {line}")?;
+            tell_line(rt, name, text.as_slice(), line)?;
             Ok(false)
         }
         Found::Unopened => {

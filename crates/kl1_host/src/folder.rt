@@ -1,6 +1,9 @@
 // What is in the folder of a host.
 
 use std::alloc::{AllocError, Global};
+use std::fs::{self, File};
+use std::io::{self, Read};
+use std::rt::Files;
 
 /// Its settings.
 pub const SETTINGS: &str = "host.toml";
@@ -34,4 +37,22 @@ pub fn path_in(alloc: Global, folder: &str, name: &str) -> Result<String, AllocE
 /// The path of the journal of the account of this name.
 pub fn journal_in(alloc: Global, folder: &str, name: &[u8]) -> Result<String, AllocError> {
     format!(in alloc; "{folder}/{JOURNALS}/{}.journal", name.escape_ascii())
+}
+
+/// Refuses what is no file, as a pipe, from which a read may never come back. What isn't there isn't refused, and a folder by who reads it.
+pub fn refuse_pipe<R: Files>(rt: &R, path: &str) -> io::Result<()> {
+    match fs::metadata(rt, path) {
+        Ok(attributes) if !attributes.is_file() && !attributes.is_dir() => {
+            Err(io::Error::other("Not a file"))
+        }
+        _ => Ok(()),
+    }
+}
+
+/// What a file holds.
+pub fn read_file<R: Files>(rt: &R, alloc: Global, path: &str) -> io::Result<Vec<u8>> {
+    refuse_pipe(rt, path)?;
+    let mut bytes = Vec::new(alloc);
+    File::open(rt, path)?.read_to_end(&mut bytes)?;
+    Ok(bytes)
 }

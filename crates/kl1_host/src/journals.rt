@@ -5,17 +5,18 @@ ghost use Rattle.kl1_session.specs.Views.{entries_view};
 ghost use Rattle.kl1_host_work.specs.AccountFiles.{names_of};
 ghost use Rattle.kl1_host_work.specs.Fronts.{names_in};
 
-use crate::fault::Fault;
-use crate::folder::{JOURNALS, journal_in, path_in};
+use crate::fault::{Fault, fault_at};
+use crate::faulty_line::{LineFault, fault_in};
+use crate::folder::{JOURNALS, journal_in, path_in, read_file, refuse_pipe};
 use crate::log::Log;
 use crate::start_words::open_fault;
-use kl1_host_journals::open_in_folder;
+use kl1_host_journals::{OpenFault, open_in_folder};
 use kl1_host_work::AccountFile;
 use kl1_log::{Disk, FolderFile};
 use kl1_model::limits::MOST_ACCOUNTS;
 use kl1_pool::{AccountName, Rules};
 use kl1_session::Key;
-use std::alloc::Global;
+use std::alloc::{AllocError, Global};
 use std::fs::File;
 use std::rt::Files;
 use std::thread;
@@ -36,6 +37,21 @@ struct Opening<'k, D: Disk> {
     opened: Option<Result<OpenedFile<D>, Fault>>,
 }
 
+/// Why the file on this path isn't opened, if that is a line of it.
+fn why_of<R: Files>(
+    rt: &R,
+    alloc: Global,
+    path: &str,
+    fault: &OpenFault,
+) -> Result<LineFault, AllocError> {
+    if let OpenFault::Line(line) = fault
+        && let Ok(text) = read_file(rt, alloc, path)
+    {
+        return fault_in(alloc, text.as_slice(), *line);
+    }
+    Ok(LineFault::NoEntry)
+}
+
 /// Opens the file of the journal of an account. With a word for the names of files in which what is repaired is kept, a fault is repaired.
 fn file_of<'r, R: Files<File = File> + Clock + Eprint>(
     log: &Log<'r, R>,
@@ -50,6 +66,11 @@ fn file_of<'r, R: Files<File = File> + Clock + Eprint>(
     let Some(name) = AccountName::read(key.name.as_slice()) else {
         return Err(Fault::Memory);
     };
+    let path = journal_in(alloc, folder, key.name.as_slice())?;
+    let path = path.as_str();
+    if let Err(error) = refuse_pipe(log.rt, path) {
+        return Err(fault_at(alloc, path, &error));
+    }
     let opened = open_in_folder(
         log.rt,
         alloc,
@@ -68,8 +89,8 @@ fn file_of<'r, R: Files<File = File> + Clock + Eprint>(
             repaired: opened.repaired,
         }),
         Err(fault) => {
-            let path = journal_in(alloc, folder, key.name.as_slice())?;
-            Err(open_fault(alloc, path.as_str(), &fault)?)
+            let why = why_of(log.rt, alloc, path, &fault)?;
+            Err(open_fault(alloc, path, &fault, why)?)
         }
     }
 }

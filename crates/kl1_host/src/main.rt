@@ -8,6 +8,7 @@ mod attending;
 mod check;
 mod control;
 mod fault;
+mod faulty_line;
 mod folder;
 mod init;
 mod journals;

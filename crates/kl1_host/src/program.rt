@@ -200,6 +200,7 @@ fn reason_of(alloc: Global, error: &LogError) -> Result<String, AllocError> {
         LogError::Failed(error) => format!(in alloc; "{error}"),
         LogError::Stopped => format!(in alloc; "it couldn't be written before"),
         LogError::NotNext => format!(in alloc; "the entries aren't the next"),
+        LogError::Memory => format!(in alloc; "memory was refused"),
     }
 }
 

@@ -23,7 +23,7 @@ pub fn word_of_now<R: Clock>(rt: &R, alloc: Global) -> Result<String, Fault> {
 }
 
 /// How many bytes of a text are before this line, the first being 1; those of all whole lines if there are fewer.
-fn bytes_before(text: &[u8], line: u64) -> usize
+pub(crate) fn bytes_before(text: &[u8], line: u64) -> usize
     ensures before { take result text.now ≡ lines_before text.now line }
     ensures within { result ≤ length text.now }
 {

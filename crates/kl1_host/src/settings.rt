@@ -1,7 +1,7 @@
 // The settings of a folder.
 
 use crate::fault::{BAD, Fault, fault_in_folder};
-use crate::folder::{SETTINGS, path_in};
+use crate::folder::{SETTINGS, path_in, refuse_pipe};
 use kl1_host_front::{BadSettings, Settings, settings_in};
 use std::alloc::Global;
 use std::fs;
@@ -34,6 +34,9 @@ fn bad_settings(alloc: Global, path: &str, bad: &BadSettings) -> Result<Fault, F
 pub fn settings_of<R: Files + AllocGlobal>(rt: &R, folder: &str) -> Result<Settings, Fault> {
     let alloc = rt.alloc();
     let path = path_in(alloc, folder, SETTINGS)?;
+    if let Err(error) = refuse_pipe(rt, path.as_str()) {
+        return Err(fault_in_folder(alloc, path.as_str(), &error));
+    }
     let text = match fs::read_to_string(rt, path.as_str()) {
         Ok(text) => text,
         Err(error) => return Err(fault_in_folder(alloc, path.as_str(), &error)),

@@ -1,6 +1,7 @@
 // What is told of a host that doesn't start.
 
 use crate::fault::{BAD, Fault, REFUSED};
+use crate::faulty_line::LineFault;
 use crate::folder::journal_in;
 use kl1_host_journals::{LinkFault, OpenFault};
 use kl1_host_work::StartFault;
@@ -17,13 +18,19 @@ fn path_of(alloc: Global, folder: &str, keys: &[Key], account: usize) -> Result<
     Ok(journal_in(alloc, folder, name)?)
 }
 
-/// The fault of a journal's file that can't be opened.
-pub fn open_fault(alloc: Global, path: &str, fault: &OpenFault) -> Result<Fault, Fault> {
+/// The fault of a journal's file that can't be opened, and why, if that is a line.
+pub fn open_fault(
+    alloc: Global,
+    path: &str,
+    fault: &OpenFault,
+    why: LineFault,
+) -> Result<Fault, Fault> {
     Ok(match fault {
         OpenFault::Line(line) => Fault::Words(
             REFUSED,
             format!(in alloc;
-                "{path}:{line}: no entry of a journal; kl1_host run DIR --repair keeps what is before it"
+                "{path}:{line}: {}; kl1_host run DIR --repair keeps what is before it",
+                why.words()
             )?,
         ),
         OpenFault::Failed(error) => Fault::Words(BAD, format!(in alloc; "{path}: {error}")?),
@@ -47,6 +54,7 @@ pub fn start_fault(
                 alloc,
                 path_of(alloc, folder, keys, account)?.as_str(),
                 &fault,
+                LineFault::NoEntry,
             )?
         }
         StartFault::Unaccepted { account, line } => {
@@ -59,7 +67,7 @@ pub fn start_fault(
             )
         }
         StartFault::Unlinked {
-            fault: LinkFault::Memory,
+            fault: LinkFault::Memory | LinkFault::Unwritten(LogError::Memory),
             ..
         }
         | StartFault::Memory => Fault::Memory,

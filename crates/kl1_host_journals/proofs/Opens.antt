@@ -5,7 +5,7 @@ use Rattle.kl1_model.specs.declared.rules.Rules.{Rules}
 use Rattle.kl1_model_server.specs.Journal.{Journal, new_journal}
 use Rattle.kl1_journal_entries.specs.Lined.{Rows}
 use Rattle.kl1_log.specs.Files.{content, Known, IfKnown}
-use Rattle.kl1_log.specs.Cuts.{whole_lines, opening_of, IsFault, IsFound}
+use Rattle.kl1_log.specs.Cuts.{file_lines, opening_of, IsFault, IsFound}
 use Rattle.kl1_log.specs.declared.recovery.Found.TheVariants.{Whole, Fault, Unopened}
 use Rattle.kl1_host_journals.specs.Openings.{IsOpened}
 use Rattle.kl1_host_journals.specs.declared.opening.OpenFault.{OpenFault}
@@ -29,23 +29,23 @@ pub fault_told : (k : Known) (line : ℕ) (before : Rows) (fault : OpenFault) �
 fault_told None line before fault h at = h
 fault_told (Some c) line before fault h at = told_line (content c.now.now) line before.journal fault h at
 
-pub still_unopened : (k l : Known) → l ≡ k → IfKnown k (λ s. IsFound (content s.now) Unopened) → IfKnown l (λ s. opening_of (whole_lines (content s.now)) ≡ None)
-still_unopened None l same h = subst (λ (x : Known). IfKnown x (λ s. opening_of (whole_lines (content s.now)) ≡ None)) (sym same) h
-still_unopened (Some c) l same h = subst (λ (x : Known). IfKnown x (λ s. opening_of (whole_lines (content s.now)) ≡ None)) (sym same) h
+pub still_unopened : (k l : Known) → l ≡ k → IfKnown k (λ s. IsFound (content s.now) Unopened) → IfKnown l (λ s. opening_of (file_lines (content s.now)) ≡ None)
+still_unopened None l same h = subst (λ (x : Known). IfKnown x (λ s. opening_of (file_lines (content s.now)) ≡ None)) (sym same) h
+still_unopened (Some c) l same h = subst (λ (x : Known). IfKnown x (λ s. opening_of (file_lines (content s.now)) ≡ None)) (sym same) h
 
 pub fresh_opened : (k : Known) (bytes : List ℕ) (rules : Rules) (repair : Bool) (j : Journal) → IfKnown k (λ s. bytes ≡ content s.now) → bytes ≡ [] → j ≡ new_journal rules [] 0 → IfKnown k (λ s. IsOpened (content s.now) rules repair j None)
 fresh_opened None bytes rules repair j is nil new = is
 fresh_opened (Some c) bytes rules repair j is nil new = inr (sym is ∙ nil, new)
 
-pub unopened_repaired : (k : Known) (rules : Rules) (repair : Bool) (i j : Rows) (told : Option ℕ) → IfKnown k (λ s. opening_of (whole_lines (content s.now)) ≡ None) → repair ≡ true → told ≡ Some 1 → j ≡ i → i.journal ≡ new_journal rules [] 0 → IfKnown k (λ s. IsOpened (content s.now) rules repair j.journal told)
+pub unopened_repaired : (k : Known) (rules : Rules) (repair : Bool) (i j : Rows) (told : Option ℕ) → IfKnown k (λ s. opening_of (file_lines (content s.now)) ≡ None) → repair ≡ true → told ≡ Some 1 → j ≡ i → i.journal ≡ new_journal rules [] 0 → IfKnown k (λ s. IsOpened (content s.now) rules repair j.journal told)
 unopened_repaired None rules repair i j told h asked is same new = h
 unopened_repaired (Some c) rules repair i j told h asked is same new =
     subst (λ (o : Option ℕ). IsOpened (content c.now.now) rules repair j.journal o) (sym is) (asked, inr (h, refl, ap (λ (x : Rows). x.journal) same ∙ new))
 
-told_opening : (text : List ℕ) (fault : OpenFault) → opening_of (whole_lines text) ≡ None → IsToldAt 1 fault → IsToldOf text fault
+told_opening : (text : List ℕ) (fault : OpenFault) → opening_of (file_lines text) ≡ None → IsToldAt 1 fault → IsToldOf text fault
 told_opening text (Line n) h at = inr (h, at)
 told_opening text (Failed e) h at = tt
 
-pub unopened_told : (k : Known) (fault : OpenFault) → IfKnown k (λ s. opening_of (whole_lines (content s.now)) ≡ None) → IsToldAt 1 fault → IfKnown k (λ s. IsToldOf (content s.now) fault)
+pub unopened_told : (k : Known) (fault : OpenFault) → IfKnown k (λ s. opening_of (file_lines (content s.now)) ≡ None) → IsToldAt 1 fault → IfKnown k (λ s. IsToldOf (content s.now) fault)
 unopened_told None fault h at = h
 unopened_told (Some c) fault h at = told_opening (content c.now.now) fault h at

@@ -2,7 +2,7 @@
 use Rattle.std.specs.Prelude.{⊤, ℕ, List, Option, Some, None}
 use Rattle.kl1_model_server.specs.Journal.{Journal}
 use Rattle.kl1_log.specs.Waits.{IsUpTo}
-use Rattle.kl1_log.specs.declared.log_error.LogError.TheVariants.{Stopped, NotNext, Failed}
+use Rattle.kl1_log.specs.declared.log_error.LogError.TheVariants.{Stopped, NotNext, Memory as NoRoom, Failed}
 use Rattle.kl1_log.specs.declared.waiting.Waiting.{Waiting}
 use Rattle.kl1_host_journals.specs.declared.linking.LinkFault.{LinkFault}
 use Rattle.kl1_host_journals.specs.declared.linking.LinkFault.TheVariants.{Unread, Unwritten, Memory}
@@ -17,5 +17,6 @@ abbrev pub IsOfFile : LinkFault → Type 0
 IsOfFile (Unread error) = ⊤
 IsOfFile (Unwritten Stopped) = ⊥
 IsOfFile (Unwritten NotNext) = ⊥
+IsOfFile (Unwritten NoRoom) = ⊤
 IsOfFile (Unwritten (Failed error)) = ⊤
 IsOfFile Memory = ⊤

@@ -2,7 +2,7 @@
 
 ghost use Rattle.std.specs.Prelude.{◌≡◌, None, Some, true, IfOk, IfErr, OnOk, IsTrue};
 ghost use Rattle.kl1_log.specs.Files.{IfKnown, content, is_at_rest};
-ghost use Rattle.kl1_log.specs.Cuts.{whole_lines, opening_of};
+ghost use Rattle.kl1_log.specs.Cuts.{file_lines, opening_of};
 ghost use Rattle.kl1_host_journals.specs.Openings.{IsOpened};
 ghost use Rattle.kl1_host_journals.specs.OpenFaults.{IsToldOf, IsToldAt};
 
@@ -92,7 +92,7 @@ fn unopened<D: Disk>(
 ) -> Result<Opened, OpenFault>
     requires usable { IsTrue (D.is_usable disk.old) }
     requires before { IfKnown (D.known disk.old) (λ s. s.before ≡ None) }
-    requires unopened { IfKnown (D.known disk.old) (λ s. opening_of (whole_lines (content s.now)) ≡ None) }
+    requires unopened { IfKnown (D.known disk.old) (λ s. opening_of (file_lines (content s.now)) ≡ None) }
     ensures opened { IfOk result (λ o. IfKnown (D.known disk.old) (λ s. IsOpened (content s.now) rules repair o.journal.journal o.repaired)) }
     ensures fault { IfErr result (λ fault. IfKnown (D.known disk.old) (λ s. IsToldOf (content s.now) fault)) }
     ensures at_rest { OnOk result (IsTrue (D.is_usable disk.new) × IsTrue (is_at_rest (D.known disk.new))) }

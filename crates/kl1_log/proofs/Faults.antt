@@ -1,18 +1,24 @@
 -- The first lines of a text, and where its fault is.
-use Rattle.std.proofs.Common.{◌≡◌, ℕ, suc, ◌+◌, ◌-◌, ◌≤◌, ◌==◌, true, false, if◌then◌else◌, List, [], ◌∷◌, ◌++◌, length, take, refl, sym, ap, ◌∙◌, arith, append_assoc}
+use Rattle.std.proofs.Common.{◌≡◌, ℕ, suc, ◌+◌, ◌-◌, ◌≤◌, ◌==◌, true, false, if◌then◌else◌, List, [], ◌∷◌, ◌++◌, length, take, refl, sym, ap, ◌∙◌, arith, append_assoc, subst, inl}
 use Rattle.std.specs.Prelude.{Option, Some, None, is_some, option_and_then}
 use Rattle.std.specs.List.{list_all}
 use Rattle.std.proofs.Math.Seq.{take-append_seam}
 use Rattle.std.proofs.lemmas.Bool.{and_parts, false≢true}
-use Rattle.std.proofs.lemmas.List.{append-nil, length-append, take_all}
+use Rattle.std.proofs.lemmas.List.{append-nil, length-append, length-take, take_all}
 use Rattle.std.proofs.lemmas.List.Folds.{list_all-append}
 use Rattle.kl1_model_server.specs.Command.{written_line, written_lines}
 use Rattle.kl1_model_server.specs.Journal.{Journal}
 use Rattle.kl1_model_server.specs.JournalText.{Lines, lines_of, Heading, heading_in, journal_of, journal_in}
 use Rattle.kl1_model_server.specs.laws.TextLaws.{is_unbroken}
 use Rattle.kl1_model_server.proofs.TextLines.{lines_of_lines, texts_are_lines}
-use Rattle.kl1_log.specs.Cuts.{whole_lines, whole_text, recovered, opening_of}
-use Rattle.kl1_log.proofs.LinesCut.{written_more, whole_read}
+use Rattle.kl1_sums.specs.Sums.{plain_lines, plain_text, last_sum, is_spoilt}
+use Rattle.kl1_sums.proofs.TextsOfLines.{written_more, lines_read}
+use Rattle.kl1_sums.proofs.SumTexts.{plain_read}
+use Rattle.kl1_sums.proofs.Rightness.{right_long}
+use Rattle.kl1_log.specs.declared.recovery.Found.{Found}
+use Rattle.kl1_log.specs.declared.recovery.Found.TheVariants.{Whole, Fault, Unopened}
+use Rattle.kl1_log.specs.Cuts.{whole_lines, whole_text, file_lines, recovered, opening_of, IsSpoilt, IsFoundIn, IsFound}
+use Rattle.kl1_log.proofs.LinesCut.{read_in}
 
 -- a text is these lines, `count` of them, and then its rest
 abbrev pub IsSplit : List ℕ → List ℕ → ℕ → Type 0
@@ -125,12 +131,61 @@ pub still_none : (o : Option Journal) → o ≡ None → is_some o ≡ false
 still_none o h = ap (λ (x : Option Journal). is_some x) h
 
 -- the lines of a text that isn't a journal are none, if they are all taken
-pub all_none : (text : List ℕ) (n : ℕ) → length text ≤ n → recovered text ≡ None → is_some (journal_of (take n (whole_lines text))) ≡ false
-all_none text n few none = ap (λ (ls : List (List ℕ)). is_some (journal_of ls)) (all_lines text n few) ∙ still_none (recovered text) none
+pub all_none : (text : List ℕ) (n : ℕ) → length text ≤ n → journal_of (whole_lines text) ≡ None → is_some (journal_of (take n (whole_lines text))) ≡ false
+all_none text n few none = ap (λ (ls : List (List ℕ)). is_some (journal_of ls)) (all_lines text n few) ∙ still_none (journal_of (whole_lines text)) none
 
--- what was read of the whole lines
-pub whole_found : (text front : List ℕ) (o : Option Journal) → front ≡ whole_text text → o ≡ journal_in front → recovered text ≡ o
-whole_found text front o is h = sym (whole_read text) ∙ ap journal_in (sym is) ∙ sym h
+-- ---- a file without its sums
+
+-- the lines of a file's whole lines without their sums
+pub plain_whole : (text front plain : List ℕ) → front ≡ whole_text text → plain ≡ plain_text front → lines_of plain ≡ record { whole = file_lines text; rest = [] }
+plain_whole text front plain is so =
+    let w = whole_lines text in
+    ap lines_of so
+    ∙ plain_read front
+    ∙ ap (λ (x : List ℕ). let ls : Lines = record { whole = plain_lines (lines_of x).whole; rest = (lines_of x).rest } in ls) is
+    ∙ ap (λ (ls : Lines). let ms : Lines = record { whole = plain_lines ls.whole; rest = ls.rest } in ms) (lines_read w (texts_are_lines text).1)
+
+pub plain_read_as : (text front plain : List ℕ) (o : Option Journal) → front ≡ whole_text text → plain ≡ plain_text front → o ≡ journal_in plain → recovered text ≡ o
+plain_read_as text front plain o is so h =
+    let p = plain_whole text front plain is so in
+    sym (h ∙ read_in plain (ap (λ (ls : Lines). ls.rest) p) ∙ ap (λ (ls : Lines). journal_of ls.whole) p)
+
+pub plain_none : (text front plain : List ℕ) (o : Option Journal) → front ≡ whole_text text → plain ≡ plain_text front → o ≡ journal_in plain → o ≡ None → journal_of (whole_lines plain) ≡ None
+plain_none text front plain o is so h none =
+    let p = plain_whole text front plain is so in
+    sym (read_in plain (ap (λ (ls : Lines). ls.rest) p)) ∙ sym h ∙ none
+
+found_by : (text : List ℕ) (lines : List (List ℕ)) (found : Found) → lines ≡ file_lines text → IsFoundIn lines found → IsFound text found
+found_by text lines (Whole journal bytes) is h = absurd h
+found_by text lines (Fault line before) is h = inl (subst (λ (ls : List (List ℕ)). IsFoundIn ls (Fault line before)) is h)
+found_by text lines Unopened is h = ap opening_of (sym is) ∙ h
+
+-- what was found in a file that is no journal
+pub plain_found : (text front plain : List ℕ) (found : Found) → front ≡ whole_text text → plain ≡ plain_text front → IsFoundIn (whole_lines plain) found → IsFound text found
+plain_found text front plain found is so h = found_by text (whole_lines plain) found (ap (λ (ls : Lines). ls.whole) (plain_whole text front plain is so)) h
+
+-- ---- a line whose line feed was another byte
+
+rest_some : (text : List ℕ) → is_spoilt text ≡ true → 1 ≤ length (lines_of text).rest
+rest_some text h =
+    let rest = (lines_of text).rest in
+    let long = right_long (last_sum text) (take (length rest - 1) rest) h in
+    omega (arith, long, length-take (length rest - 1) rest)
+
+pub spoilt_room : (text : List ℕ) → is_spoilt text ≡ true → length (whole_lines text) + 1 ≤ length text
+spoilt_room text h =
+    let some = rest_some text h in
+    let long = ap (length {A = ℕ}) (texts_are_lines text).0 in
+    omega (arith, some, long, lines_few (whole_lines text), length-append (whole_text text) (lines_of text).rest)
+
+pub spoilt_is : (text : List ℕ) (n line : ℕ) (j : Journal) → is_spoilt text ≡ true → recovered text ≡ Some j → n ≡ length (whole_lines text) → line ≡ n + 1 → IsSpoilt text line j
+spoilt_is text n line j h of at is = record { journal = of; spoilt = h; at = omega (arith, at, is) }
+
+-- a text has no more whole lines than bytes
+pub lines_within : (text : List ℕ) → length (whole_lines text) ≤ length text
+lines_within text =
+    let long = ap (length {A = ℕ}) (texts_are_lines text).0 in
+    omega (arith, long, lines_few (whole_lines text), length-append (whole_text text) (lines_of text).rest)
 
 -- a journal isn't none
 pub not_both : (o : Option Journal) (j : Journal) → Some j ≡ o → is_some o ≡ false → ⊥

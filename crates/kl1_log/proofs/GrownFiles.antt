@@ -15,9 +15,10 @@ use Rattle.kl1_model_server.proofs.TextJournals.{journals_read_back}
 use Rattle.kl1_model_server.proofs.TextLines.{lines_of_lines}
 use Rattle.kl1_model_server.proofs.TextUnbroken.{entry_unbroken}
 use Rattle.kl1_log.specs.declared.mark.Mark.{Mark}
-use Rattle.kl1_log.specs.Deeds.{deeds_of, deeds_of_entry, IsFile, shut_text}
+use Rattle.kl1_log.specs.Deeds.{deeds_of, deeds_of_entry, IsPlainFile, shut_text}
 use Rattle.kl1_log.specs.Later.{Grows, AreLater, IsLater, run_length, last_run, IsMark, run_if, run_of_line, run_of_lines, run_line}
-use Rattle.kl1_log.proofs.LinesCut.{lines_then, text_of_journal}
+use Rattle.kl1_sums.proofs.TextsOfLines.{lines_then}
+use Rattle.kl1_log.proofs.LinesCut.{text_of_journal}
 use Rattle.kl1_log.proofs.EntriesMore.{with_more, journal_then, entries_back}
 use Rattle.kl1_log.proofs.DeedsDone.{deeds_more}
 
@@ -101,7 +102,7 @@ all_unbroken [] h = refl
 all_unbroken (e ∷ es) h = and_from (is_unbroken (entry_line e)) (list_all is_unbroken (map entry_line es)) (entry_unbroken e h.0) (all_unbroken es h.1)
 
 -- the lines of more entries are put after a file
-pub file_grows : (text : List ℕ) (old j : Journal) (xs : List Entry) → IsFile text old → old.rules ≡ j.rules → old.names ≡ j.names → AllByRecursion HasLine xs → deeds_of old.entries ++ deeds_of xs ≡ deeds_of j.entries → IsFile (text ++ written_lines (map entry_line xs)) j
+pub file_grows : (text : List ℕ) (old j : Journal) (xs : List Entry) → IsPlainFile text old → old.rules ≡ j.rules → old.names ≡ j.names → AllByRecursion HasLine xs → deeds_of old.entries ++ deeds_of xs ≡ deeds_of j.entries → IsPlainFile (text ++ written_lines (map entry_line xs)) j
 file_grows text old j xs f rules names h deeds =
     let t = text_of_journal text f.read f.is in
     let lines = map entry_line xs in
@@ -308,10 +309,10 @@ page_all old j m page most mark is few =
     is ∙ take_all most left (omega (arith, was, few, long, lines_count old, length-take most left))
 
 -- the file of the journal that has grown
-pub grown_file : (old j : Journal) (m : Mark) (text last : List ℕ) (more : List (List ℕ)) (bytes : List ℕ) → IsWritten j → last ∷ more ≡ drop (m.lines - 1) (journal_lines j) → bytes ≡ run_line m.run (run_of_line last) ++ written_lines more → IsMark m old → IsLater old j → IsFile text old → IsFile (text ++ bytes) j
+pub grown_file : (old j : Journal) (m : Mark) (text last : List ℕ) (more : List (List ℕ)) (bytes : List ℕ) → IsWritten j → last ∷ more ≡ drop (m.lines - 1) (journal_lines j) → bytes ≡ run_line m.run (run_of_line last) ++ written_lines more → IsMark m old → IsLater old j → IsPlainFile text old → IsPlainFile (text ++ bytes) j
 grown_file old j m text last more bytes w page put mark l f =
     let p = page_read old j m last more w mark l page in
-    subst (λ (x : List ℕ). IsFile (text ++ x) j) (sym (put ∙ p.lines)) (file_grows text old j p.put f l.rules l.names p.lined p.deeds)
+    subst (λ (x : List ℕ). IsPlainFile (text ++ x) j) (sym (put ∙ p.lines)) (file_grows text old j p.put f l.rules l.names p.lined p.deeds)
 
 -- each line of a later journal
 later_count : (ds es : List Entry) → AreLater ds es → length ds ≤ length es
@@ -347,7 +348,7 @@ shut_written : (j : Journal) → IsWritten j → IsWritten (record j { sessions 
 shut_written j w = record { sessions = omega arith; names = w.names; entries = w.entries }
 
 -- the text of a journal is a file of it
-pub shut_file : (j : Journal) (bytes : List ℕ) → IsWritten j → bytes ≡ shut_text j → IsFile bytes j
+pub shut_file : (j : Journal) (bytes : List ℕ) → IsWritten j → bytes ≡ shut_text j → IsPlainFile bytes j
 shut_file j bytes w text =
     let shut = record j { sessions = 0 } in
     record { read = shut; is = ap journal_in text ∙ journals_read_back shut (shut_written j w); closed = refl; says = record { rules = refl; names = refl; deeds = refl } }

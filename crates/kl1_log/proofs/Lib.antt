@@ -12,3 +12,4 @@ pub mod Batching
 pub mod Faults
 pub mod Courses
 pub mod Waits
+pub mod LastSums

@@ -12,6 +12,10 @@ use Rattle.kl1_model_server.specs.Journal.{Journal}
 use Rattle.kl1_model_server.specs.JournalText.{Lines, lines_of, journal_of, journal_in}
 use Rattle.kl1_model_server.specs.laws.TextLaws.{is_unbroken}
 use Rattle.kl1_model_server.proofs.TextLines.{lines_of_lines, texts_are_lines}
+use Rattle.kl1_sums.specs.Sums.{plain_text}
+use Rattle.kl1_sums.proofs.TextsOfLines.{lines_then}
+use Rattle.kl1_sums.proofs.SumTexts.{plain_read}
+use Rattle.kl1_log.specs.Deeds.{file_in}
 use Rattle.kl1_log.specs.Cuts.{whole_lines, whole_text, recovered}
 
 -- the front of a line has no line feed either
@@ -21,21 +25,6 @@ front_unbroken (suc n) [] h = refl
 front_unbroken (suc n) (b ∷ bs) h =
     let both = and_parts (not (b == 10)) (is_unbroken bs) h in
     and_from (not (b == 10)) (is_unbroken (take n bs)) both.0 (front_unbroken n bs both.1)
-
--- lines after others, as they are written
-pub written_more : (ls ms : List (List ℕ)) → written_lines (ls ++ ms) ≡ written_lines ls ++ written_lines ms
-written_more [] ms = refl
-written_more (l ∷ ls) ms = ap (λ (x : List ℕ). written_line l ++ x) (written_more ls ms) ∙ sym (append_assoc (written_line l) (written_lines ls) (written_lines ms))
-
--- lines, and then a text: its lines follow, and its rest is left
-pub lines_then : (ls : List (List ℕ)) (text : List ℕ) → list_all is_unbroken ls ≡ true → lines_of (written_lines ls ++ text) ≡ record { whole = ls ++ (lines_of text).whole; rest = (lines_of text).rest }
-lines_then ls text h =
-    let ts = texts_are_lines text in
-    let ms = (lines_of text).whole in
-    let rest = (lines_of text).rest in
-    let split : written_lines ls ++ text ≡ written_lines (ls ++ ms) ++ rest =
-    ap (λ (x : List ℕ). written_lines ls ++ x) (sym ts.0) ∙ sym (append_assoc (written_lines ls) (written_lines ms) rest) ∙ ap (λ (x : List ℕ). x ++ rest) (sym (written_more ls ms)) in
-    ap lines_of split ∙ lines_of_lines (ls ++ ms) rest (list_all-append is_unbroken ls ms ∙ and_from (list_all is_unbroken ls) (list_all is_unbroken ms) h ts.1) ts.2
 
 -- lines as they are written are the lines of that text
 pub lines_back : (ls : List (List ℕ)) → list_all is_unbroken ls ≡ true → whole_lines (written_lines ls) ≡ ls
@@ -136,9 +125,25 @@ text_by true text j is h =
 pub text_of_journal : (text : List ℕ) (j : Journal) → journal_in text ≡ Some j → IsText text j
 text_of_journal text j h = text_by (length (lines_of text).rest == 0) text j refl h
 
--- the whole lines of a text, as they are written, are a journal if the text's whole lines are
-pub whole_read : (text : List ℕ) → journal_in (whole_text text) ≡ recovered text
-whole_read text =
+-- the text of a journal's file: its whole lines are the journal, and nothing is left
+pub record IsFileText (text : List ℕ) (j : Journal) : Type 0 where
+  pub of : recovered text ≡ Some j
+  pub none : (lines_of text).rest ≡ []
+  pub whole : text ≡ written_lines (whole_lines text)
+  pub unbroken : list_all is_unbroken (whole_lines text) ≡ true
+
+pub text_of_file : (text : List ℕ) (j : Journal) → file_in text ≡ Some j → IsFileText text j
+text_of_file text j h =
+    let t = text_of_journal (plain_text text) j h in
     let ts = texts_are_lines text in
-    ap journal_in (sym (append-nil (whole_text text)))
-    ∙ ap (λ (ls : Lines). if◌then◌else◌ {A = Option Journal} (length ls.rest == 0) (journal_of ls.whole) None) (lines_of_lines (whole_lines text) [] ts.1 refl)
+    let none : (lines_of text).rest ≡ [] = ap (λ (ls : Lines). ls.rest) (sym (plain_read text)) ∙ t.none in
+    record {
+      of = ap (λ (ls : Lines). journal_of ls.whole) (sym (plain_read text)) ∙ t.of;
+      none = none;
+      whole = sym ts.0 ∙ ap (λ (x : List ℕ). written_lines (whole_lines text) ++ x) none ∙ append-nil (written_lines (whole_lines text));
+      unbroken = ts.1;
+    }
+
+-- the journal of a text of which nothing is left after its whole lines
+pub read_in : (text : List ℕ) → (lines_of text).rest ≡ [] → journal_in text ≡ journal_of (whole_lines text)
+read_in text none = ap (λ (x : List ℕ). if◌then◌else◌ {A = Option Journal} (length x == 0) (journal_of (whole_lines text)) None) none

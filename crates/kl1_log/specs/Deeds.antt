@@ -1,9 +1,10 @@
 -- What the entries of a journal do, one deed after another, and which texts are files of a journal.
-use Rattle.std.specs.Prelude.{◌≡◌, ℕ, List, [], ◌∷◌, ◌++◌, take, replicate, fold, Some}
+use Rattle.std.specs.Prelude.{◌≡◌, ℕ, List, [], ◌∷◌, ◌++◌, take, replicate, fold, Option, Some}
 use Rattle.kl1_model.specs.State.{State, fresh_with}
 use Rattle.kl1_model_server.specs.Journal.{Entry, loads, starts, sends, steps, answers, runs, Journal, entry_step}
 use Rattle.kl1_model_server.specs.JournalText.{journal_in}
 use Rattle.kl1_model_server.specs.laws.TextLaws.{journal_text}
+use Rattle.kl1_sums.specs.Sums.{summed_text, plain_text}
 
 -- the deeds of an entry: a run of `n` reductions is `n` runs of one, and any other entry is one deed
 abbrev pub deeds_of_entry : Entry → List Entry
@@ -33,12 +34,25 @@ pub record SaysSame (j k : Journal) : Type 0 where
   pub names : j.names ≡ k.names
   pub deeds : deeds_of j.entries ≡ deeds_of k.entries
 
--- a text is a file of a journal: it is read as a journal that says the same, with no session open
-pub record IsFile (text : List ℕ) (j : Journal) : Type 0 where
+-- a text without sums is that of a journal's file: it is read as a journal that says the same, with no session open
+pub record IsPlainFile (text : List ℕ) (j : Journal) : Type 0 where
   pub read : Journal
   pub is : journal_in text ≡ Some read
   pub closed : read.sessions ≡ 0
   pub says : SaysSame read j
+
+-- each line of a text has its sum
+abbrev pub HasSums : List ℕ → Type 0
+HasSums text = text ≡ summed_text [] (plain_text text)
+
+-- a text is a file of a journal: each line has its sum, and without them it is read as a journal that says the same, with no session open
+pub record IsFile (text : List ℕ) (j : Journal) : Type 0 where
+  pub sums : HasSums text
+  pub plain : IsPlainFile (plain_text text) j
+
+-- the journal that a file is, if it is one: each line ends with a line feed, and if the first has its sum, each has it
+abbrev pub file_in : List ℕ → Option Journal
+file_in text = journal_in (plain_text text)
 
 -- the text of a journal, with no session open
 abbrev pub shut_text : Journal → List ℕ

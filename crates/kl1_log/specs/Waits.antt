@@ -1,10 +1,13 @@
 -- What waits for an account's file, and what was taken of it.
 use Rattle.std.specs.Prelude.{◌≡◌, ◌⊎◌, ℕ, suc, List, []}
 use Rattle.kl1_model_server.specs.Journal.{Journal}
-use Rattle.kl1_log.specs.Deeds.{IsFile}
+use Rattle.kl1_model_server.specs.JournalText.{lines_of}
+use Rattle.kl1_log.specs.Deeds.{HasSums, IsFile}
 use Rattle.kl1_log.specs.Later.{IsMark}
 use Rattle.kl1_log.specs.Batches.{text_after}
 use Rattle.kl1_log.specs.declared.batch.Batch.{Batch}
+use Rattle.kl1_log.specs.declared.change.Change.{Change}
+use Rattle.kl1_log.specs.declared.change.Change.TheVariants.{Appends, Begins}
 use Rattle.kl1_log.specs.declared.waiting.Waiting.{Waiting}
 
 -- the account that it is for
@@ -19,9 +22,15 @@ noted_of w = w.noted
 abbrev pub taken_of : Waiting → ℕ
 taken_of w = w.taken
 
+-- a change is of whole lines, and lines are put after others only if each of those has its sum
+abbrev pub Fits : List ℕ → Change → Type 0
+Fits text (Appends bytes) = HasSums text × ((lines_of bytes.items).rest ≡ [])
+Fits text (Begins bytes) = (lines_of bytes.items).rest ≡ []
+
 -- a file of this text is one of this journal once it has got what waits, and the mark is at the journal's end
 pub record IsUpTo (w : Waiting) (text : List ℕ) (j : Journal) : Type 0 where
   pub file : IsFile (text_after text w.change) j
+  pub fits : Fits text w.change
   pub mark : IsMark w.mark j
 
 -- a change by these bytes is counted, if there are any

@@ -1,24 +1,23 @@
 // What is done to a file.
 
-ghost use Rattle.std.specs.Prelude.{◌≡◌, ◌++◌, ℕ, List, OnOk, OnErr};
-ghost use Rattle.kl1_log.specs.Batches.{text_after};
+ghost use Rattle.std.specs.Prelude.{◌≡◌, ℕ, List, OnOk, OnErr};
+ghost use Rattle.kl1_log.specs.Batches.{text_after, IsExtended};
 
 use std::alloc::AllocError;
 
-/// What a file gets so that it is the file of a later journal.
+/// What a file gets so that it is the file of a later journal, in whole lines without their sums.
 #[derive(Drop)]
 pub enum Change {
-    /// Bytes after its own.
+    /// Lines after its own.
     Appends(Vec<u8>),
-    /// Other bytes in place of its own.
+    /// Other lines in place of its own.
     Begins(Vec<u8>),
 }
 
 impl Change {
-    /// Adds bytes that the file gets after it.
-    #[tactic(auto, using(crate::proofs::Waits::put_after))]
+    /// Adds lines that the file gets after it.
     pub(crate) fn extend(&mut self, bytes: &[u8]) -> Result<(), AllocError>
-        ensures ok { OnOk result ((text : List ℕ) → text_after text self.new ≡ text_after text self.old ++ bytes.now) }
+        ensures ok { OnOk result (IsExtended self.old bytes.now self.new) }
         ensures err { OnErr result ((text : List ℕ) → text_after text self.new ≡ text_after text self.old) }
     {
         match self {

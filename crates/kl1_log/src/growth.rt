@@ -5,7 +5,7 @@ ghost use Rattle.kl1_model_server.specs.Command.{written_line, written_lines};
 ghost use Rattle.kl1_model_server.specs.Journal as model;
 ghost use Rattle.kl1_model_server.specs.Journal.{runs};
 ghost use Rattle.kl1_model_server.specs.JournalText.{entry_line, heading_line, journal_lines, version};
-ghost use Rattle.kl1_log.specs.Deeds.{IsFile, shut_text};
+ghost use Rattle.kl1_log.specs.Deeds.{IsPlainFile, shut_text};
 ghost use Rattle.kl1_log.specs.Later.{IsLater, IsMark, run_of_line, run_of_lines, run_line};
 
 use crate::mark::Mark;
@@ -89,7 +89,7 @@ fn put_longer(out: &mut Vec<u8>, was: u64, is: u64) -> Result<(), AllocError>
 /// What the file of a journal gets after which the journal has grown to `journal`: the lines of the entries after `mark`, and, if the last
 /// entry before it was a run that is longer now, a run of the reductions that were added to it.
 pub fn grown(alloc: Global, journal: &Journal, mark: Mark) -> Result<Growth, AllocError>
-    ensures file { IfOk result (λ growth. (old : model.Journal) (text : List ℕ) → IsMark mark old → IsLater old journal.now.journal → IsFile text old → IsFile (text ++ growth.bytes.items) journal.now.journal) }
+    ensures file { IfOk result (λ growth. (old : model.Journal) (text : List ℕ) → IsMark mark old → IsLater old journal.now.journal → IsPlainFile text old → IsPlainFile (text ++ growth.bytes.items) journal.now.journal) }
     ensures mark { IfOk result (λ growth. (old : model.Journal) → IsMark mark old → IsLater old journal.now.journal → IsMark growth.mark journal.now.journal) }
 {
     // This is called for the fact that it proves: the journal has a text that reads back.
@@ -154,7 +154,7 @@ fn shut_text(alloc: Global, journal: &Journal, lines: &[Vec<u8>]) -> Result<Vec<
 #[tactic(auto, using(crate::proofs::GrownFiles::shut_file, crate::proofs::GrownFiles::begun_mark))]
 pub fn begun(alloc: Global, journal: &Journal) -> Result<Growth, AllocError>
     ensures text { IfOk result (λ growth. growth.bytes.items ≡ shut_text journal.now.journal) }
-    ensures file { IfOk result (λ growth. IsFile growth.bytes.items journal.now.journal) }
+    ensures file { IfOk result (λ growth. IsPlainFile growth.bytes.items journal.now.journal) }
     ensures mark { IfOk result (λ growth. IsMark growth.mark journal.now.journal) }
 {
     // This is called for the fact that it proves: the journal has a text that reads back.

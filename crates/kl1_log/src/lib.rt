@@ -1,4 +1,5 @@
-//! The journal of an account in a file: what is written so that a crash at any moment leaves a front of it, and what is read again.
+//! The journal of an account in a file, each line with its sum: what is written so that a crash at any moment leaves a front of it, and what
+//! is read again.
 #![tactic(auto)]
 
 ghost use Rattle.kl1_log.specs.laws.LogLaws.{CutsAreFronts, TornIsDropped, AppendsAreFronts, ReplaysOfFronts, EventsGrow, GrowthBegins, GrowthGoesOn};
@@ -34,7 +35,7 @@ pub use recovery::{Found, recover};
 pub use reopening::restore;
 pub use waiting::Waiting;
 
-/// Of a journal's text that is cut at any byte after its opening there is recovered a front of the journal, with each entry whose line is
+/// Of a journal's file that is cut at any byte after its opening there is recovered a front of the journal, with each entry whose line is
 /// whole; what is after the last line feed is never an entry, whatever it is; a file that is made longer loses nothing meanwhile; and the
 /// replay of a front is the account after so many deeds. It does nothing: its contract is this law.
 pub fn fronts_are_recovered()

@@ -9,6 +9,8 @@ pub enum LogError {
     Stopped,
     /// The batch is of another account, or isn't the next: nothing was written.
     NotNext,
+    /// Memory was refused for the sums of its lines: nothing was written.
+    Memory,
     /// A call of the file failed now.
     Failed(io::Error),
 }

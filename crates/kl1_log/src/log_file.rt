@@ -1,9 +1,12 @@
 // The file of an account's journal.
 
 ghost use Rattle.std.specs.Prelude.{IsTrue};
+ghost use Rattle.kl1_log.specs.Batches.{text_of};
 ghost use Rattle.kl1_log.specs.Files.{is_at_rest};
+ghost use Rattle.kl1_log.specs.LogFiles.{IsLastSum};
 
 use crate::disk::Disk;
+use kl1_sums::Sum;
 
 /// The file of an account's journal: all that was written is on disk, as long as no call of it has failed.
 pub struct LogFile<D: Disk> {
@@ -11,7 +14,10 @@ pub struct LogFile<D: Disk> {
     pub(crate) account: u32,
     /// How many changes are on disk.
     pub(crate) changes: u64,
+    /// The sum of its last line; `None` if it isn't known, and is to be read from the file.
+    pub(crate) last: Option<Sum>,
     ghost at_rest: { IsTrue (D.is_usable disk) → IsTrue (is_at_rest (D.known disk)) },
+    ghost sum: { IsTrue (D.is_usable disk) → IsLastSum last (text_of (D.known disk)) },
 }
 
 /// Not derived, so that crates above don't prove the drop of each part again.
@@ -21,6 +27,7 @@ impl<D: Disk + Drop> Drop for LogFile<D> {
             disk,
             account: _,
             changes: _,
+            last: _,
         } = self;
         let _ = disk;
     }

@@ -2,9 +2,10 @@
 
 ghost use Rattle.std.specs.Prelude.{◌≡◌, ◌<◌, ◌≤◌, ◌+◌, length, take, true, false, None, is_some, IfOk, IsNone, IfSome};
 ghost use Rattle.kl1_model_server.specs.JournalText.{journal_of, journal_in};
-ghost use Rattle.kl1_log.specs.Cuts.{whole_lines, whole_text, recovered, opening_of, IsFound};
+ghost use Rattle.kl1_log.specs.Cuts.{whole_lines, whole_text, opening_of, IsFound, IsFoundIn};
 
 use kl1_journal_entries::{Journal, heading_of, next_line};
+use kl1_sums::{is_spoilt, plain_text};
 use std::alloc::{AllocError, Global};
 
 /// What is found in the bytes of a file.
@@ -20,7 +21,7 @@ pub enum Found {
 
 /// How many bytes the whole lines of a text are.
 #[tactic(auto, using(crate::proofs::Faults::whole_count))]
-fn count_whole(text: &[u8]) -> usize
+pub(crate) fn count_whole(text: &[u8]) -> usize
     ensures count { result ≡ length (whole_text text.now) }
     ensures front { take result text.now ≡ whole_text text.now }
     ensures within { result ≤ length text.now }
@@ -32,16 +33,37 @@ fn count_whole(text: &[u8]) -> usize
     text.len() - rest.len()
 }
 
-/// What is found in the bytes of a file. What is after the last line feed is no line, whatever it is.
-#[tactic(auto, using(crate::proofs::Faults::whole_found))]
+/// How many whole lines a text has.
+fn count_lines(text: &[u8]) -> u64
+    ensures { result ≡ length (whole_lines text.now) }
+{
+    let mut rest = text;
+    let mut count = 0;
+    while let Some((_, after)) = next_line(rest) {
+        rest = after;
+        count += 1;
+    }
+    count
+}
+
+/// What is found in the bytes of a file. What is after the last line feed is no line, whatever it is; but if it is a line with its sum and one
+/// byte more, that byte was a line feed, and the line is at fault.
+#[tactic(auto, using(crate::proofs::Faults::plain_whole, crate::proofs::Faults::plain_read_as, crate::proofs::Faults::spoilt_found, crate::proofs::Faults::plain_found))]
 pub fn recover(alloc: Global, text: &[u8]) -> Result<Found, AllocError>
     ensures { IfOk result (λ found. IsFound text.now found) }
 {
     let bytes = count_whole(text);
-    match Journal::read(alloc, &text[..bytes])? {
-        Some(journal) => Ok(Found::Whole { journal, bytes }),
-        None => fault_in(alloc, text),
+    let plain = plain_text(alloc, &text[..bytes])?;
+    let Some(journal) = Journal::read(alloc, &plain)? else {
+        return fault_in(alloc, &plain);
+    };
+    if is_spoilt(text) {
+        return Ok(Found::Fault {
+            line: count_lines(text) + 1,
+            before: journal,
+        });
     }
+    Ok(Found::Whole { journal, bytes })
 }
 
 /// The first `lines` whole lines of a text, or all of them if there are fewer.
@@ -98,8 +120,8 @@ fn count_good(alloc: Global, text: &[u8], low: u64, high: u64) -> Result<u64, Al
 /// halves.
 #[tactic(auto, using(crate::proofs::Faults::all_none, crate::proofs::Faults::none_is))]
 fn fault_in(alloc: Global, text: &[u8]) -> Result<Found, AllocError>
-    requires { recovered text.now ≡ None }
-    ensures { IfOk result (λ found. IsFound text.now found) }
+    requires { journal_of (whole_lines text.now) ≡ None }
+    ensures { IfOk result (λ found. IsFoundIn (whole_lines text.now) found) }
 {
     let Some(opening) = count_opening(text) else {
         return Ok(Found::Unopened);

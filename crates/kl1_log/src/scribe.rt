@@ -25,6 +25,7 @@ impl<D: Disk> LogFile<D> {
             disk,
             account,
             changes: 0,
+            last: None,
         }
     }
 
@@ -35,7 +36,7 @@ impl<D: Disk> LogFile<D> {
         &self.disk
     }
 
-    /// Writes a batch, and has it on disk. On an error nothing that isn't on disk is told, and after one of a call the file gets nothing more.
+    /// Writes a batch, each line with its sum, and has it on disk. On an error nothing that isn't on disk is told, and after one of a call the file gets nothing more.
     pub fn write(&mut self, batch: Batch) -> Result<Receipt, LogError>
         ensures receipt { IfOk result (λ r. (receipts.account_of r ≡ batch.account) × (receipts.changes_of r ≡ batch.noted)) }
         ensures next { OnOk result ((batch.account ≡ account_of self.old) × (batch.taken ≡ changes_of self.old)) }
@@ -52,9 +53,7 @@ impl<D: Disk> LogFile<D> {
         if batch.account != self.account || batch.taken != self.changes {
             return Err(LogError::NotNext);
         }
-        if let Err(error) = make(&mut self.disk, &batch.change) {
-            return Err(LogError::Failed(error));
-        }
+        self.last = make(&mut self.disk, &self.last, &batch.change)?;
         self.changes = batch.noted;
         Ok(Receipt::new(self.account, self.changes))
     }

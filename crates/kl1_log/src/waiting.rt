@@ -1,8 +1,9 @@
 // What of a journal waits for its file.
 
-ghost use Rattle.std.specs.Prelude.{◌≡◌, ℕ, List, IfOk, OnOk, OnErr};
+ghost use Rattle.std.specs.Prelude.{◌≡◌, [], ℕ, List, IfOk, OnOk, OnErr};
 ghost use Rattle.kl1_model_server.specs.Journal as model;
-ghost use Rattle.kl1_log.specs.Deeds.{IsFile, shut_text};
+ghost use Rattle.kl1_sums.specs.Sums.{summed_text};
+ghost use Rattle.kl1_log.specs.Deeds.{shut_text};
 ghost use Rattle.kl1_log.specs.Later.{IsLater};
 ghost use Rattle.kl1_log.specs.Batches.{text_after};
 ghost use Rattle.kl1_log.specs.Waits.{account_of, taken_of, noted_of, IsCounted, IsUpTo, CountsOn, Keeps, IsTaken};
@@ -12,6 +13,7 @@ use crate::change::Change;
 use crate::growth::{Growth, begun, grown};
 use crate::mark::Mark;
 use kl1_journal_entries::Journal;
+use kl1_sums::{Sum, with_sums};
 use std::alloc::{AllocError, Global};
 use std::mem;
 
@@ -38,9 +40,9 @@ fn noted_after(noted: u64, bytes: &[u8]) -> Result<u64, AllocError>
 }
 
 impl Waiting {
-    /// What waits for a file of this account that has the bytes `text`: nothing, if they are the text of the journal with no session open,
-    /// and otherwise that the file is begun anew.
-    #[tactic(auto, using(crate::proofs::Waits::text_waits))]
+    /// What waits for a file of this account that has the bytes `text`: nothing, if they are the text of the journal with no session open, each
+    /// line with its sum, and otherwise that the file is begun anew.
+    #[tactic(auto, using(crate::proofs::Waits::text_waits, crate::proofs::Waits::anew_waits))]
     pub fn over(
         alloc: Global,
         account: u32,
@@ -48,11 +50,11 @@ impl Waiting {
         journal: &Journal,
     ) -> Result<Self, AllocError>
         ensures file { IfOk result (λ w. IsUpTo w text.now journal.now.journal) }
-        ensures same { IfOk result (λ w. text.now ≡ shut_text journal.now.journal → noted_of w ≡ 0) }
+        ensures same { IfOk result (λ w. text.now ≡ summed_text [] (shut_text journal.now.journal) → noted_of w ≡ 0) }
         ensures account { IfOk result (λ w. (account_of w ≡ account) × (taken_of w ≡ 0)) }
     {
         let Growth { bytes, mark } = begun(alloc, journal)?;
-        if text == bytes.as_slice() {
+        if text == with_sums(alloc, Sum::none(), &bytes)?.bytes.as_slice() {
             return Ok(Waiting {
                 account,
                 mark,
@@ -73,7 +75,7 @@ impl Waiting {
     }
 
     /// Notes what has come to the journal by events that are no reset. If nothing has, no change is counted.
-    #[tactic(auto, using(crate::proofs::Waits::counted_on))]
+    #[tactic(auto, using(crate::proofs::Waits::counted_on, crate::proofs::Waits::grown_waits))]
     pub fn note(&mut self, journal: &Journal) -> Result<(), AllocError>
         ensures ok { OnOk result ((text : List ℕ) (old : model.Journal) → IsUpTo self.old text old → IsLater old journal.now.journal → IsUpTo self.new text journal.now.journal) }
         ensures count { OnOk result (CountsOn self.old self.new) }
@@ -88,6 +90,7 @@ impl Waiting {
     }
 
     /// Notes that the journal has begun anew.
+    #[tactic(auto, using(crate::proofs::Waits::anew_waits))]
     pub fn note_reset(&mut self, journal: &Journal) -> Result<(), AllocError>
         ensures ok { OnOk result ((text : List ℕ) → IsUpTo self.new text journal.now.journal) }
         ensures count { OnOk result (CountsOn self.old self.new) }
@@ -101,6 +104,7 @@ impl Waiting {
     }
 
     /// Takes what waits, after which nothing does.
+    #[tactic(auto, using(crate::proofs::Waits::taken_waits))]
     pub fn take(&mut self) -> Batch
         ensures file { (text : List ℕ) (j : model.Journal) → IsUpTo self.old text j → IsUpTo self.new (text_after text result.change) j }
         ensures taken { IsTaken self.old self.new result }

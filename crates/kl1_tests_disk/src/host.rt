@@ -30,7 +30,7 @@ where
     );
     report.put(
         b"cut_file_is_restored_to_its_whole_lines",
-        Ok(cut_file_is_restored_to_its_whole_lines(rt, alloc)),
+        cut_file_is_restored_to_its_whole_lines(rt, alloc),
     );
     report.put(
         b"refused_entry_ends_the_start",

@@ -10,7 +10,7 @@ use crate::journals::failing::{
 };
 use crate::journals::opened::{
     fault_is_told_or_repaired, file_without_bytes_begins_an_account,
-    same_text_is_not_written_again, torn_line_is_cut,
+    file_without_sums_is_written_again, same_text_is_not_written_again, torn_line_is_cut,
 };
 use crate::journals::waiting::{
     reply_waits_for_its_lines, reset_begins_the_file_anew, writer_waits_for_the_scribe,
@@ -31,6 +31,10 @@ fn put_starts(report: &mut Report, alloc: Global) {
     report.put(
         b"fault_is_told_or_repaired",
         fault_is_told_or_repaired(alloc),
+    );
+    report.put(
+        b"file_without_sums_is_written_again",
+        file_without_sums_is_written_again(alloc),
     );
     report.put(
         b"same_text_is_not_written_again",

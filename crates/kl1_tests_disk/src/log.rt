@@ -12,7 +12,7 @@ use crate::log::folder::{
     file_cut_at_each_byte_goes_on, folder_without_files_stops_a_file, full_disk_stops_a_file,
     missing_folder_is_told,
 };
-use crate::log::turned::turned_bit_is_told_with_its_line;
+use crate::log::turned::{moved_line_is_told, turned_bit_is_told_with_its_line};
 use crate::report::Report;
 use std::alloc::Global;
 use std::io;
@@ -54,8 +54,12 @@ pub(crate) fn put_checks<R: Files>(report: &mut Report, rt: &R, alloc: Global) {
         cut_at_each_byte_leaves_the_whole_lines(alloc),
     );
     report.put(
-        b"bit_turned_in_a_word_is_told_with_its_line",
+        b"turned_bit_is_told_with_its_line",
         turned_bit_is_told_with_its_line(alloc),
+    );
+    report.put(
+        b"line_that_is_exchanged_or_left_out_is_told",
+        moved_line_is_told(alloc),
     );
     report.put(
         b"file_that_fails_at_each_byte_loses_no_acknowledged_line",

@@ -6,6 +6,7 @@ mod host;
 mod journals;
 mod log;
 mod report;
+mod sums;
 
 use crate::report::Report;
 use std::io;

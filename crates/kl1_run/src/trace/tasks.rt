@@ -9,6 +9,7 @@ use crate::world::fresh_world;
 use kl1_journal_entries::{Heading, heading_of, next_line};
 use kl1_model::limits::{MOST_SCRIPT_BYTES, MOST_SOURCE_BYTES};
 use kl1_run_work::SourceFile;
+use kl1_sums::plain_text;
 use kl1_trace_work::{Texts, Viewer};
 use kl1_watch::Names;
 use kl1_words::{Fault, named_line, put_named_line, read_up_to};
@@ -28,13 +29,14 @@ fn read_file(rt: &HostRuntime, name: &str, most: usize) -> Result<Vec<u8>, Fault
     }
 }
 
-/// Reads a journal, which has no more bytes than one that is replayed.
+/// Reads a journal, which has no more bytes than one that is replayed, or a host's file, in which each line has a sum: a line without it,
+/// and each after it, is empty then.
 fn read_journal(rt: &HostRuntime, name: &str) -> Result<Vec<u8>, Fault> {
     let text = read_file(rt, name, MOST_SCRIPT_BYTES.saturating_add(1))?;
     if MOST_SCRIPT_BYTES < text.len() {
         return Err(named_line(rt.alloc(), &TRACE, name, "too long"));
     }
-    Ok(text)
+    Ok(plain_text(rt.alloc(), text.as_slice())?)
 }
 
 /// Reads the files of sources, in order.

@@ -6,6 +6,7 @@ ghost use Rattle.kl1_host_work.specs.AccountFiles.{names_of};
 ghost use Rattle.kl1_host_work.specs.Fronts.{names_in};
 
 use crate::host::guest::{Guest, Visit, keys};
+use crate::sums::text_in;
 use kl1_host_journals::{OpenFault, open_file};
 use kl1_host_work::{AccountFile, Limits, Listeners, Setup, StartFault, Syncing, run_host};
 use kl1_log::{LogFile, Memory};
@@ -35,7 +36,7 @@ pub(crate) fn setup() -> Setup {
     }
 }
 
-/// What came of a host: what it replied, and what is surely on disk.
+/// What came of a host: what it replied, and the texts of the journals that are surely on disk.
 #[derive(Drop)]
 pub(crate) struct Outcome {
     pub(crate) replies: Vec<u8>,
@@ -73,12 +74,12 @@ fn accounts_of(
     Ok(accounts)
 }
 
-/// The bytes that are surely on the disks of files.
+/// The texts of the journals that are surely on the disks of files, if each of their lines has its sum.
 fn on_disk(alloc: Global, files: &[LogFile<Memory>]) -> Result<Vec<Vec<u8>>, AllocError> {
     let mut all = Vec::new(alloc);
     for file in files {
         match file.disk().left_by_crash(0, false)? {
-            Some(bytes) => all.push(bytes)?,
+            Some(bytes) => all.push(text_in(alloc, bytes)?)?,
             None => return Err(AllocError),
         }
     }

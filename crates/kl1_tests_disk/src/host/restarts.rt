@@ -1,8 +1,9 @@
 // Hosts that are started again.
 
 use crate::host::hosted::{Outcome, hosted};
+use crate::sums::{file_of, text_in};
 use kl1_host_work::StartFault;
-use std::alloc::Global;
+use std::alloc::{AllocError, Global};
 use std::net::{Net, TcpListener, TcpStream};
 use std::sync::Wait;
 use std::thread::Threads;
@@ -90,24 +91,30 @@ fn whole_lines(text: &[u8]) -> &[u8] {
 }
 
 /// A file that is cut at any byte after its heading, and before the line that was written twice, is restored to its whole lines.
-pub(crate) fn cut_file_is_restored_to_its_whole_lines<R>(rt: &R, alloc: Global) -> bool
+pub(crate) fn cut_file_is_restored_to_its_whole_lines<R>(
+    rt: &R,
+    alloc: Global,
+) -> Result<bool, AllocError>
 where
     R: Net<Listener = TcpListener, Stream = TcpStream> + Threads + Wait + Clock + Sync,
 {
-    for count in FRESH.len()..TEXT.len() + 1 {
-        let text = TEXT.get(..count).unwrap_or(TEXT);
+    let file = file_of(alloc, TEXT)?;
+    let fresh = file_of(alloc, FRESH)?;
+    for count in fresh.len()..file.len() + 1 {
+        let cut = file.get(..count).unwrap_or(file.as_slice());
+        let text = text_in(alloc, Vec::from_slice(alloc, whole_lines(cut))?)?;
         if !leaves(
             rt,
             alloc,
-            [text, FRESH],
+            [cut, fresh.as_slice()],
             b"",
             b"",
-            [whole_lines(text), FRESH],
+            [text.as_slice(), FRESH],
         ) {
-            return false;
+            return Ok(false);
         }
     }
-    true
+    Ok(true)
 }
 
 /// An entry that isn't accepted ends the start, and its line is told.
@@ -164,7 +171,7 @@ where
     R: Net<Listener = TcpListener, Stream = TcpStream> + Threads + Wait + Clock + Sync,
 {
     let mut whole = 0usize;
-    for left in (0..200usize).step_by(7) {
+    for left in (0..400usize).step_by(13) {
         // A file that fails at once ends the start.
         if let Ok(outcome) = hosted(rt, alloc, &[FRESH, FRESH], left, LINES) {
             if !is_kept(&outcome) {

@@ -17,7 +17,7 @@ const TEXTS: &[(u64, &[u8])] = &[
 ];
 
 /// The most that these cost.
-const MOST: usize = 80;
+const MOST: usize = 200;
 
 /// The text of a file after the first `count` of the texts: a run that grew stands in pieces.
 fn file_after(count: usize) -> &'static [u8] {
@@ -68,7 +68,7 @@ fn told_of<R: Wait>(rt: &R, alloc: Global, left: usize) -> Result<Option<usize>,
             told = told.saturating_add(1);
         }
     }
-    let bytes = on_disk(scribe.file())?;
+    let bytes = on_disk(alloc, scribe.file())?;
     // What isn't told may be on disk all the same, as a whole change.
     let has_told = bytes.as_slice() == file_after(told)
         || bytes.as_slice() == file_after(told.saturating_add(1));
@@ -95,7 +95,7 @@ pub(crate) fn failed_file_stops_its_account_alone<R: Wait>(
     rt: &R,
     alloc: Global,
 ) -> Result<bool, AllocError> {
-    let Some(Shelf { mut files, keepers }) = Shelf::new(alloc, &[ENOUGH, 6])? else {
+    let Some(Shelf { mut files, keepers }) = Shelf::new(alloc, &[ENOUGH, 7])? else {
         return Ok(false);
     };
     let faults = Faults::new();

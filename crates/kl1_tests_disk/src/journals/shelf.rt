@@ -1,5 +1,6 @@
 // Files in memory with their keepers.
 
+use crate::sums::{file_of, text_in};
 use kl1_host_journals::{FaultTeller, Keeper, LinkFault, Linked, Scribe, link, open_file};
 use kl1_journal_entries::Journal;
 use kl1_log::{LogError, LogFile, Memory};
@@ -79,6 +80,7 @@ impl Shelf {
         let mut files = Vec::new(alloc);
         let mut keepers = Vec::new(alloc);
         let mut account = 0u32;
+        let fresh = file_of(alloc, FRESH)?;
         for left in lefts {
             let Some(
                 Linked {
@@ -86,7 +88,7 @@ impl Shelf {
                     notes,
                     receipt,
                 },
-            ) = linked(alloc, account, FRESH, *left)?
+            ) = linked(alloc, account, fresh.as_slice(), *left)?
             else {
                 return Ok(None);
             };
@@ -109,10 +111,10 @@ pub(crate) fn only_scribe(
     Some(Scribe::new(0, keeper, file))
 }
 
-/// The bytes that are surely on the disk of a file.
-pub(crate) fn on_disk(file: &LogFile<Memory>) -> Result<Vec<u8>, AllocError> {
+/// The text of the journal that is surely on the disk of a file, if each of its lines has its sum; else the bytes there.
+pub(crate) fn on_disk(alloc: Global, file: &LogFile<Memory>) -> Result<Vec<u8>, AllocError> {
     match file.disk().left_by_crash(0, false)? {
-        Some(bytes) => Ok(bytes),
+        Some(bytes) => text_in(alloc, bytes),
         None => Err(AllocError),
     }
 }

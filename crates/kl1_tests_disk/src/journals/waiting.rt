@@ -46,7 +46,7 @@ pub(crate) fn reply_waits_for_its_lines<R: Wait>(
     let is_sent = is_free(rt, keeper, &reply);
     let again = keeper.note_for(rt, &longer, 0, 0, Outgoing::new());
     let again_waits = !is_free(rt, keeper, &again);
-    let bytes = on_disk(scribe.file())?;
+    let bytes = on_disk(alloc, scribe.file())?;
     let is_right = bytes.as_slice() == b"journal 4 0 0\nrun 3\nrun 4\nstop 1\n".as_slice();
     Ok(!reading_waits && waits && is_sent && !again_waits && is_right && faults.told() == 0)
 }
@@ -74,7 +74,7 @@ pub(crate) fn reset_begins_the_file_anew<R: Wait>(
     let reply = keeper.note_for(rt, &later, 3, 0, reply);
     scribe.write(rt, &faults);
     let is_sent = is_free(rt, keeper, &reply);
-    let bytes = on_disk(scribe.file())?;
+    let bytes = on_disk(alloc, scribe.file())?;
     Ok(is_sent && bytes.as_slice() == b"journal 4 0 1\nname f\nrun 1\nstop 1\n".as_slice())
 }
 
@@ -117,6 +117,6 @@ pub(crate) fn writer_waits_for_the_scribe<R: Threads + Wait + Clock + Sync>(
         scribe.work(rt, Duration::from_secs(3_600), &faults);
         writing.join(rt)
     });
-    let bytes = on_disk(scribe.file())?;
+    let bytes = on_disk(alloc, scribe.file())?;
     Ok(is_written && bytes.as_slice() == b"journal 4 0 0\nrun 3\n".as_slice())
 }

@@ -1,5 +1,6 @@
 // A file in memory that fails.
 
+use crate::sums::file_of;
 use kl1_log::{Batch, Change, Found, LogFile, Memory, recover};
 use std::alloc::{AllocError, Global};
 
@@ -12,13 +13,13 @@ const CHANGES: &[(bool, &[u8])] = &[
 ];
 
 /// The most that the changes cost.
-const MOST: usize = 70;
+const MOST: usize = 170;
 
 /// No change has more bytes.
-const MOST_BYTES: usize = 22;
+const MOST_BYTES: usize = 56;
 
-/// The text of a file after the first `count` changes.
-fn text_after(alloc: Global, count: usize) -> Result<Vec<u8>, AllocError> {
+/// A file after the first `count` changes.
+fn file_after(alloc: Global, count: usize) -> Result<Vec<u8>, AllocError> {
     let mut text = Vec::new(alloc);
     for (begins, bytes) in CHANGES.iter().take(count) {
         if *begins {
@@ -26,7 +27,7 @@ fn text_after(alloc: Global, count: usize) -> Result<Vec<u8>, AllocError> {
         }
         text.extend_from_slice(bytes)?;
     }
-    Ok(text)
+    file_of(alloc, text.as_slice())
 }
 
 /// How many changes a file of this cost acknowledges, and the file.
@@ -53,10 +54,10 @@ fn written(alloc: Global, left: usize) -> Result<(usize, LogFile<Memory>), Alloc
     Ok((done, file))
 }
 
-/// Whether what a crash left is a front of the text after one change more than were acknowledged, and has all of those.
+/// Whether what a crash left is a front of the file after one change more than were acknowledged, and has all of those.
 fn is_kept(alloc: Global, left: &[u8], done: usize) -> Result<bool, AllocError> {
-    let acknowledged = text_after(alloc, done)?;
-    let next = text_after(alloc, done.saturating_add(1))?;
+    let acknowledged = file_after(alloc, done)?;
+    let next = file_after(alloc, done.saturating_add(1))?;
     let longer = next.as_slice().starts_with(left) && left.len() >= acknowledged.len();
     if left != acknowledged.as_slice() && left != next.as_slice() && !longer {
         return Ok(false);

@@ -1,5 +1,6 @@
 // A journal that is cut.
 
+use crate::sums::file_of;
 use kl1_log::{Found, recover};
 use std::alloc::{AllocError, Global};
 
@@ -36,12 +37,18 @@ fn is_found(alloc: Global, bytes: &[u8]) -> Result<bool, AllocError> {
     }
 }
 
-/// Cuts a journal at each of its bytes.
-pub(crate) fn cut_at_each_byte_leaves_the_whole_lines(alloc: Global) -> Result<bool, AllocError> {
-    for count in 0..TEXT.len() + 1 {
-        if !is_found(alloc, &TEXT[..count])? {
+/// Whether of each front of these bytes the whole lines are found.
+fn are_found(alloc: Global, bytes: &[u8]) -> Result<bool, AllocError> {
+    for count in 0..bytes.len() + 1 {
+        if !is_found(alloc, &bytes[..count])? {
             return Ok(false);
         }
     }
     Ok(true)
+}
+
+/// Cuts a journal and a file with sums at each byte.
+pub(crate) fn cut_at_each_byte_leaves_the_whole_lines(alloc: Global) -> Result<bool, AllocError> {
+    let file = file_of(alloc, TEXT)?;
+    Ok(are_found(alloc, TEXT)? && are_found(alloc, file.as_slice())?)
 }

@@ -1,6 +1,7 @@
 // Files in a folder of the system.
 
 use crate::log::cut::{OPENING, TEXT, counted};
+use crate::sums::{file_of, text_in};
 use kl1_log::{Batch, Change, Disk, FolderFile, Found, LogError, LogFile, restore};
 use std::alloc::Global;
 use std::os::unix::fs::symlink;
@@ -23,13 +24,13 @@ fn first_batch(change: Change) -> Batch {
     }
 }
 
-/// Whether the file `cut.journal` has these bytes, one part after the other.
-fn has_bytes<R: Files>(rt: &R, alloc: Global, front: &[u8], last: &[u8]) -> io::Result<bool> {
-    let mut wanted = Vec::from_slice(alloc, front)?;
+/// Whether the journal in the file `cut.journal` has the text of a file of these bytes, and then this one.
+fn has_text<R: Files>(rt: &R, alloc: Global, front: &[u8], last: &[u8]) -> io::Result<bool> {
+    let mut wanted = text_in(alloc, Vec::from_slice(alloc, front)?)?;
     wanted.extend_from_slice(last)?;
     let mut disk = FolderFile::open(rt, alloc, ".", "cut")?;
-    let bytes = disk.read(alloc)?;
-    Ok(bytes.as_slice() == wanted.as_slice())
+    let text = text_in(alloc, disk.read(alloc)?)?;
+    Ok(text.as_slice() == wanted.as_slice())
 }
 
 /// Whether a file of these bytes is restored to its whole lines, and goes on; or is begun anew if its opening isn't whole.
@@ -57,13 +58,14 @@ fn is_restored<R: Files>(rt: &R, alloc: Global, bytes: &[u8]) -> io::Result<bool
     if file.write(first_batch(change)).is_err() {
         return Ok(false);
     }
-    has_bytes(rt, alloc, front, last)
+    has_text(rt, alloc, front, last)
 }
 
 /// Cuts a file at each of its bytes.
 pub(crate) fn file_cut_at_each_byte_goes_on<R: Files>(rt: &R, alloc: Global) -> io::Result<bool> {
-    for count in 0..TEXT.len() + 1 {
-        if !is_restored(rt, alloc, &TEXT[..count])? {
+    let file = file_of(alloc, TEXT)?;
+    for count in 0..file.len() + 1 {
+        if !is_restored(rt, alloc, &file[..count])? {
             return Ok(false);
         }
     }

@@ -1,0 +1,5 @@
+pub mod Digits
+pub mod TextsOfLines
+pub mod SumsOff
+pub mod SumTexts
+pub mod Rightness
