@@ -47,7 +47,7 @@ impl From<AllocError> for LinkFault {
 }
 
 /// The file of this account with what waits for it, which is nothing: it is one of `journal`, in this generation. If its bytes aren't the
-/// text of the journal, it is begun anew.
+/// text of the journal, each line with its sum, it is begun anew.
 #[tactic(auto, using(crate::proofs::LinkedFiles::read_up_to, crate::proofs::LinkedFiles::taken_up_to, crate::proofs::Resting::same_rests))]
 pub fn link<D: Disk + Drop>(
     alloc: Global,
@@ -69,7 +69,7 @@ pub fn link<D: Disk + Drop>(
     };
     let mut waiting = Waiting::over(alloc, account, bytes.as_slice(), journal)?;
     let mut file = LogFile::new(disk, account);
-    match file.write(waiting.take()) {
+    match file.write(&waiting.take()) {
         Ok(receipt) => Ok(Linked {
             file,
             notes: Notes::new(waiting, generation),

@@ -1,7 +1,7 @@
 // Who writes to the file of an account.
 
 use crate::keeper::Keeper;
-use kl1_log::{Disk, LogError, LogFile};
+use kl1_log::{Batch, Disk, LogError, LogFile};
 use std::sync::Wait;
 use std::time::{Clock, Duration};
 
@@ -16,6 +16,8 @@ pub struct Scribe<'k, D: Disk> {
     account: usize,
     keeper: &'k Keeper,
     file: LogFile<D>,
+    /// What was taken and isn't written, since memory was refused.
+    unwritten: Option<Batch>,
 }
 
 impl<'k, D: Disk + Drop> Scribe<'k, D> {
@@ -25,6 +27,7 @@ impl<'k, D: Disk + Drop> Scribe<'k, D> {
             account,
             keeper,
             file,
+            unwritten: None,
         }
     }
 
@@ -38,22 +41,42 @@ impl<'k, D: Disk + Drop> Scribe<'k, D> {
         self.file
     }
 
-    /// Writes what waits, if something does, and tells those who wait for it. If that fails, the account is stopped, and `faults` is told.
+    /// Writes a batch, and tells those who wait for it; whether it is written. If memory is refused it is kept, and nobody is told. If a call of
+    /// the file fails, the account is stopped, and `faults` is told.
+    fn put<W: Wait, F: FaultTeller>(&mut self, rt: &W, faults: &F, batch: Batch) -> bool {
+        match self.file.write(&batch) {
+            Ok(receipt) => {
+                self.keeper.on_disk().publish(rt, receipt);
+                true
+            }
+            Err(LogError::Memory) => {
+                self.unwritten = Some(batch);
+                false
+            }
+            Err(error) => {
+                self.keeper.on_disk().stop(rt);
+                faults.tell(self.account, error);
+                false
+            }
+        }
+    }
+
+    /// Writes what waits, if something does, and tells those who wait for it. If that fails, the account is stopped, and `faults` is told. What
+    /// memory was refused for is written first, and until it is, nothing else is taken.
     pub fn write<W: Wait, F: FaultTeller>(&mut self, rt: &W, faults: &F) {
         if self.keeper.on_disk().is_stopped() {
+            return;
+        }
+        if let Some(batch) = self.unwritten.take()
+            && !self.put(rt, faults, batch)
+        {
             return;
         }
         let batch = self.keeper.take(rt);
         if batch.taken == batch.noted {
             return;
         }
-        match self.file.write(batch) {
-            Ok(receipt) => self.keeper.on_disk().publish(rt, receipt),
-            Err(error) => {
-                self.keeper.on_disk().stop(rt);
-                faults.tell(self.account, error);
-            }
-        }
+        self.put(rt, faults, batch);
     }
 
     /// Writes what waits whenever the account's bell rings, and after each `period`, when it also asks who commands the account next to note

@@ -5,7 +5,8 @@ use Rattle.std.proofs.Math.Seq.{take-append-add}
 use Rattle.std.proofs.lemmas.List.{append-nil, take-append-drop, length-take, length-append}
 use Rattle.kl1_model_server.specs.JournalText.{lines_of}
 use Rattle.kl1_model_server.proofs.TextLines.{texts_are_lines}
-use Rattle.kl1_log.specs.Cuts.{whole_text}
+use Rattle.kl1_log.specs.declared.recovery.Found.{Found}
+use Rattle.kl1_log.specs.Cuts.{whole_text, IsFound}
 use Rattle.kl1_log.specs.Files.{Bytes, content, settled, loosened, FileState, IsLeftOf, IsBroughtBack, MayLeave, Loosened, CutTo, Cuts, Known, MayDo, IfKnown, Leaves, AtAnyMoment, is_at_rest}
 use Rattle.kl1_log.specs.Batches.{text_of, IsLeftOfCut}
 use Rattle.kl1_log.proofs.Moments.{rest_test, left_settled}
@@ -101,3 +102,13 @@ stayed (Some c) m P same = subst (λ (x : Known). AtAnyMoment (Some c) x P) (sym
 -- the same from what was known before a read
 pub cut_from : (k l m : Known) → l ≡ k → AtAnyMoment l m (IsLeftOfCut l) → AtAnyMoment k m (IsLeftOfCut k)
 cut_from k l m same so = subst (λ (x : Known). AtAnyMoment x m (IsLeftOfCut x)) same so
+
+-- what was read, after the read
+pub still_text : (k l : Known) (bytes shown : List ℕ) → l ≡ k → shown ≡ bytes → IfKnown k (λ s. bytes ≡ content s.now) → IfKnown l (λ s. shown ≡ content s.now)
+still_text None l bytes shown same is h = subst (λ (x : Known). IfKnown x (λ s. shown ≡ content s.now)) (sym same) tt
+still_text (Some c) l bytes shown same is h = subst (λ (x : Known). IfKnown x (λ s. shown ≡ content s.now)) (sym same) (is ∙ h)
+
+-- what is found in what was read
+pub found_of : (k : Known) (bytes shown : List ℕ) (found : Found) → IfKnown k (λ s. bytes ≡ content s.now) → shown ≡ bytes → IsFound shown found → IfKnown k (λ s. IsFound (content s.now) found)
+found_of None bytes shown found h is f = tt
+found_of (Some c) bytes shown found h is f = subst (λ (x : List ℕ). IsFound x found) (is ∙ h) f

@@ -7,5 +7,6 @@ pub mod Memories
 pub mod FolderFiles
 pub mod Waits
 pub mod Receipts
+pub mod LastSums
 pub mod LogFiles
 pub mod laws

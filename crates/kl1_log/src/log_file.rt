@@ -3,7 +3,7 @@
 ghost use Rattle.std.specs.Prelude.{IsTrue};
 ghost use Rattle.kl1_log.specs.Batches.{text_of};
 ghost use Rattle.kl1_log.specs.Files.{is_at_rest};
-ghost use Rattle.kl1_log.specs.LogFiles.{IsLastSum};
+ghost use Rattle.kl1_log.specs.LastSums.{is_last_sum};
 
 use crate::disk::Disk;
 use kl1_sums::Sum;
@@ -17,7 +17,7 @@ pub struct LogFile<D: Disk> {
     /// The sum of its last line; `None` if it isn't known, and is to be read from the file.
     pub(crate) last: Option<Sum>,
     ghost at_rest: { IsTrue (D.is_usable disk) → IsTrue (is_at_rest (D.known disk)) },
-    ghost sum: { IsTrue (D.is_usable disk) → IsLastSum last (text_of (D.known disk)) },
+    ghost sum: { IsTrue (D.is_usable disk) → IsTrue (is_last_sum last (text_of (D.known disk))) },
 }
 
 /// Not derived, so that crates above don't prove the drop of each part again.

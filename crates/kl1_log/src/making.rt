@@ -5,7 +5,7 @@ ghost use Rattle.kl1_sums.specs.Sums.{summed_text, last_sum};
 ghost use Rattle.kl1_sums.specs.SumValues.{digits_of};
 ghost use Rattle.kl1_log.specs.Files.{AtAnyMoment, is_at_rest};
 ghost use Rattle.kl1_log.specs.Batches.{text_after, text_of, IsLeftOfKnown, IsAppendedInPart, IsSummedInPart, IsOldOrNew};
-ghost use Rattle.kl1_log.specs.LogFiles.{IsLastOf, IsLastSum, IsUnmade};
+ghost use Rattle.kl1_log.specs.LastSums.{IsLastOf, is_last_sum, IsUnmade};
 
 use crate::change::Change;
 use crate::disk::Disk;
@@ -70,9 +70,10 @@ fn read_last<D: Disk>(disk: &mut D, alloc: Global) -> io::Result<Last>
 }
 
 /// The last sum of a file: this one, or if it isn't known, the one that is read.
+#[tactic(auto, using(crate::proofs::LastSums::known_last))]
 fn last_of<D: Disk>(disk: &mut D, last: &Option<Sum>, alloc: Global) -> io::Result<Last>
     requires usable { IsTrue (D.is_usable disk.old) }
-    requires last { IsLastSum last.now (text_of (D.known disk.old)) }
+    requires last { IsTrue (is_last_sum last.now (text_of (D.known disk.old))) }
     ensures last { IfOk result (λ l. IsLastOf (digits_of l.sum) l.is_whole (text_of (D.known disk.old))) }
     ensures known { D.known disk.new ≡ D.known disk.old }
     ensures usable { D.is_usable disk.new ≡ is_ok result }
@@ -88,6 +89,7 @@ fn last_of<D: Disk>(disk: &mut D, last: &Option<Sum>, alloc: Global) -> io::Resu
 
 /// Puts lines, each with its sum, after those of a file that is at rest, and has them on disk. The last sum is known then if the file was of
 /// whole lines.
+#[tactic(auto, using(crate::proofs::LastSums::append_text, crate::proofs::Restoring::stayed))]
 fn append_lines<D: Disk>(
     disk: &mut D,
     last: &Option<Sum>,
@@ -95,11 +97,11 @@ fn append_lines<D: Disk>(
 ) -> Result<Option<Sum>, LogError>
     requires usable { IsTrue (D.is_usable disk.old) }
     requires at_rest { IsTrue (is_at_rest (D.known disk.old)) }
-    requires last { IsLastSum last.now (text_of (D.known disk.old)) }
+    requires last { IsTrue (is_last_sum last.now (text_of (D.known disk.old))) }
     ensures at_rest { OnOk result (IsTrue (is_at_rest (D.known disk.new)) × IsTrue (D.is_usable disk.new)) }
     ensures text { OnOk result (text_of (D.known disk.new) ≡ option_map (λ text. text ++ summed_text (last_sum text) lines.now.items) (text_of (D.known disk.old))) }
     ensures any_moment { AtAnyMoment (D.known disk.old) (D.known disk.new) (IsSummedInPart (D.known disk.old) lines.now.items) }
-    ensures last { IfOk result (λ l. IsLastSum l (text_of (D.known disk.new))) }
+    ensures last { IfOk result (λ l. IsTrue (is_last_sum l (text_of (D.known disk.new)))) }
     ensures err { IfErr result (λ e. IsUnmade e (D.is_usable disk.new) (D.known disk.new ≡ D.known disk.old)) }
 {
     let alloc = *lines.allocator();
@@ -110,29 +112,32 @@ fn append_lines<D: Disk>(
     let Ok(put) = with_sums(alloc, last.sum, lines) else {
         return Err(LogError::Memory);
     };
+    let sum = put.last;
     if let Err(error) = append(disk, &put.bytes) {
         return Err(LogError::Failed(error));
     }
-    Ok(if last.is_whole { Some(put.last) } else { None })
+    Ok(if last.is_whole { Some(sum) } else { None })
 }
 
 /// Puts other lines, each with its sum, in place of those of a file that is at rest, and has them on disk.
+#[tactic(auto, using(crate::proofs::LastSums::begin_text, crate::proofs::LastSums::begin_so, crate::proofs::Restoring::stayed))]
 fn begin_lines<D: Disk>(disk: &mut D, lines: &Vec<u8>) -> Result<Option<Sum>, LogError>
     requires usable { IsTrue (D.is_usable disk.old) }
     requires at_rest { IsTrue (is_at_rest (D.known disk.old)) }
     ensures at_rest { OnOk result (IsTrue (is_at_rest (D.known disk.new)) × IsTrue (D.is_usable disk.new)) }
     ensures text { OnOk result (text_of (D.known disk.new) ≡ option_map (λ _. summed_text [] lines.now.items) (text_of (D.known disk.old))) }
     ensures any_moment { AtAnyMoment (D.known disk.old) (D.known disk.new) (IsOldOrNew (D.known disk.old) (summed_text [] lines.now.items)) }
-    ensures last { IfOk result (λ l. IsLastSum l (text_of (D.known disk.new))) }
+    ensures last { IfOk result (λ l. IsTrue (is_last_sum l (text_of (D.known disk.new)))) }
     ensures err { IfErr result (λ e. IsUnmade e (D.is_usable disk.new) (D.known disk.new ≡ D.known disk.old)) }
 {
     let Ok(put) = with_sums(*lines.allocator(), Sum::none(), lines) else {
         return Err(LogError::Memory);
     };
+    let sum = put.last;
     if let Err(error) = begin(disk, &put.bytes) {
         return Err(LogError::Failed(error));
     }
-    Ok(Some(put.last))
+    Ok(Some(sum))
 }
 
 /// Makes a change to a file that is at rest, each line with its sum, and has it on disk. Gives the sum of the last line, if it is known.
@@ -144,11 +149,11 @@ pub(crate) fn make<D: Disk>(
 ) -> Result<Option<Sum>, LogError>
     requires usable { IsTrue (D.is_usable disk.old) }
     requires at_rest { IsTrue (is_at_rest (D.known disk.old)) }
-    requires last { IsLastSum last.now (text_of (D.known disk.old)) }
+    requires last { IsTrue (is_last_sum last.now (text_of (D.known disk.old))) }
     ensures at_rest { OnOk result (IsTrue (is_at_rest (D.known disk.new)) × IsTrue (D.is_usable disk.new)) }
     ensures text { OnOk result (text_of (D.known disk.new) ≡ option_map (λ text. text_after text change.now) (text_of (D.known disk.old))) }
     ensures any_moment { AtAnyMoment (D.known disk.old) (D.known disk.new) (IsLeftOfKnown (D.known disk.old) change.now) }
-    ensures last { IfOk result (λ l. IsLastSum l (text_of (D.known disk.new))) }
+    ensures last { IfOk result (λ l. IsTrue (is_last_sum l (text_of (D.known disk.new)))) }
     ensures err { IfErr result (λ e. IsUnmade e (D.is_usable disk.new) (D.known disk.new ≡ D.known disk.old)) }
 {
     match change {

@@ -34,6 +34,7 @@ pub(crate) fn count_whole(text: &[u8]) -> usize
 }
 
 /// How many whole lines a text has.
+#[tactic(auto, using(crate::proofs::Faults::lines_within))]
 fn count_lines(text: &[u8]) -> u64
     ensures { result ≡ length (whole_lines text.now) }
 {
@@ -48,7 +49,7 @@ fn count_lines(text: &[u8]) -> u64
 
 /// What is found in the bytes of a file. What is after the last line feed is no line, whatever it is; but if it is a line with its sum and one
 /// byte more, that byte was a line feed, and the line is at fault.
-#[tactic(auto, using(crate::proofs::Faults::plain_whole, crate::proofs::Faults::plain_read_as, crate::proofs::Faults::spoilt_found, crate::proofs::Faults::plain_found))]
+#[tactic(auto, using(crate::proofs::Faults::plain_read_as, crate::proofs::Faults::plain_none, crate::proofs::Faults::plain_found, crate::proofs::Faults::spoilt_is, crate::proofs::Faults::spoilt_room))]
 pub fn recover(alloc: Global, text: &[u8]) -> Result<Found, AllocError>
     ensures { IfOk result (λ found. IsFound text.now found) }
 {

@@ -1,9 +1,9 @@
 // What the scribe does to the file of an account's journal.
 
-ghost use Rattle.std.specs.Prelude.{◌≡◌, IfOk, IfErr, OnOk, IsErr, IsTrue, false, option_map, MatchResult};
+ghost use Rattle.std.specs.Prelude.{◌≡◌, IfOk, IfErr, OnOk, IsErr, IsTrue, true, false, option_map, MatchResult};
 ghost use Rattle.kl1_log.specs.Files.{AtAnyMoment, is_at_rest};
 ghost use Rattle.kl1_log.specs.Batches.{text_after, text_of, IsLeftOfKnown};
-ghost use Rattle.kl1_log.specs.LogFiles.{account_of, changes_of, disk_of, IsCause, IsFailed};
+ghost use Rattle.kl1_log.specs.LogFiles.{account_of, changes_of, disk_of, IsCause, IsKept, IsFailed};
 ghost use Rattle.kl1_log.specs.Receipts as receipts;
 
 use crate::batch::Batch;
@@ -36,14 +36,17 @@ impl<D: Disk> LogFile<D> {
         &self.disk
     }
 
-    /// Writes a batch, each line with its sum, and has it on disk. On an error nothing that isn't on disk is told, and after one of a call the file gets nothing more.
-    pub fn write(&mut self, batch: Batch) -> Result<Receipt, LogError>
-        ensures receipt { IfOk result (λ r. (receipts.account_of r ≡ batch.account) × (receipts.changes_of r ≡ batch.noted)) }
-        ensures next { OnOk result ((batch.account ≡ account_of self.old) × (batch.taken ≡ changes_of self.old)) }
-        ensures on_disk { OnOk result (IsTrue (is_at_rest (D.known (disk_of self.new))) × (text_of (D.known (disk_of self.new)) ≡ option_map (λ text. text_after text batch.change) (text_of (D.known (disk_of self.old))))) }
-        ensures any_moment { AtAnyMoment (D.known (disk_of self.old)) (D.known (disk_of self.new)) (IsLeftOfKnown (D.known (disk_of self.old)) batch.change) }
+    /// Writes a batch, each line with its sum, and has it on disk. On an error nothing that isn't on disk is
+    /// told; after one of a call the file gets nothing more, and after one of memory the batch may be written again.
+    #[tactic(auto, using(crate::proofs::LastSums::unmade_rests, crate::proofs::LastSums::unmade_last, crate::proofs::LastSums::unmade_cause, crate::proofs::LastSums::unmade_kept, crate::proofs::LastSums::unmade_failed))]
+    pub fn write(&mut self, batch: &Batch) -> Result<Receipt, LogError>
+        ensures receipt { IfOk result (λ r. (receipts.account_of r ≡ batch.now.account) × (receipts.changes_of r ≡ batch.now.noted)) }
+        ensures next { OnOk result ((batch.now.account ≡ account_of self.old) × (batch.now.taken ≡ changes_of self.old)) }
+        ensures on_disk { OnOk result (IsTrue (is_at_rest (D.known (disk_of self.new))) × (text_of (D.known (disk_of self.new)) ≡ option_map (λ text. text_after text batch.now.change) (text_of (D.known (disk_of self.old))))) }
+        ensures any_moment { AtAnyMoment (D.known (disk_of self.old)) (D.known (disk_of self.new)) (IsLeftOfKnown (D.known (disk_of self.old)) batch.now.change) }
         ensures stopped { D.is_usable (disk_of self.old) ≡ false → IsErr result × (D.known (disk_of self.new) ≡ D.known (disk_of self.old)) × (D.is_usable (disk_of self.new) ≡ false) }
-        ensures cause { IfErr result (IsCause (D.is_usable (disk_of self.old)) ((batch.account ≡ account_of self.old) × (batch.taken ≡ changes_of self.old))) }
+        ensures cause { IfErr result (IsCause (D.is_usable (disk_of self.old)) ((batch.now.account ≡ account_of self.old) × (batch.now.taken ≡ changes_of self.old))) }
+        ensures kept { IfErr result (λ e. IsKept e ((D.known (disk_of self.new) ≡ D.known (disk_of self.old)) × (D.is_usable (disk_of self.new) ≡ true))) }
         ensures failed { IsFailed result → D.is_usable (disk_of self.new) ≡ false }
         ensures count { (account_of self.new ≡ account_of self.old) × MatchResult result (λ r. changes_of self.new ≡ receipts.changes_of r) (λ _. changes_of self.new ≡ changes_of self.old) }
     {

@@ -42,7 +42,6 @@ fn noted_after(noted: u64, bytes: &[u8]) -> Result<u64, AllocError>
 impl Waiting {
     /// What waits for a file of this account that has the bytes `text`: nothing, if they are the text of the journal with no session open, each
     /// line with its sum, and otherwise that the file is begun anew.
-    #[tactic(auto, using(crate::proofs::Waits::text_waits, crate::proofs::Waits::anew_waits))]
     pub fn over(
         alloc: Global,
         account: u32,
@@ -75,7 +74,7 @@ impl Waiting {
     }
 
     /// Notes what has come to the journal by events that are no reset. If nothing has, no change is counted.
-    #[tactic(auto, using(crate::proofs::Waits::counted_on, crate::proofs::Waits::grown_waits))]
+    #[tactic(auto, using(crate::proofs::Waits::counted_on))]
     pub fn note(&mut self, journal: &Journal) -> Result<(), AllocError>
         ensures ok { OnOk result ((text : List ℕ) (old : model.Journal) → IsUpTo self.old text old → IsLater old journal.now.journal → IsUpTo self.new text journal.now.journal) }
         ensures count { OnOk result (CountsOn self.old self.new) }
@@ -90,7 +89,6 @@ impl Waiting {
     }
 
     /// Notes that the journal has begun anew.
-    #[tactic(auto, using(crate::proofs::Waits::anew_waits))]
     pub fn note_reset(&mut self, journal: &Journal) -> Result<(), AllocError>
         ensures ok { OnOk result ((text : List ℕ) → IsUpTo self.new text journal.now.journal) }
         ensures count { OnOk result (CountsOn self.old self.new) }
@@ -104,7 +102,7 @@ impl Waiting {
     }
 
     /// Takes what waits, after which nothing does.
-    #[tactic(auto, using(crate::proofs::Waits::taken_waits))]
+    #[tactic(auto, using(crate::proofs::Waits::taken_file, crate::proofs::Waits::taken_fits))]
     pub fn take(&mut self) -> Batch
         ensures file { (text : List ℕ) (j : model.Journal) → IsUpTo self.old text j → IsUpTo self.new (text_after text result.change) j }
         ensures taken { IsTaken self.old self.new result }

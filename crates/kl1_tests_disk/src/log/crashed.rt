@@ -47,7 +47,7 @@ fn written(alloc: Global, left: usize) -> Result<(usize, LogFile<Memory>), Alloc
             noted: (done as u64).saturating_add(1),
             change,
         };
-        if file.write(batch).is_ok() {
+        if file.write(&batch).is_ok() {
             done = done.saturating_add(1);
         }
     }

@@ -55,7 +55,7 @@ fn is_restored<R: Files>(rt: &R, alloc: Global, bytes: &[u8]) -> io::Result<bool
         _ => return Ok(false),
     };
     let mut file = LogFile::new(disk, 7);
-    if file.write(first_batch(change)).is_err() {
+    if file.write(&first_batch(change)).is_err() {
         return Ok(false);
     }
     has_text(rt, alloc, front, last)
@@ -87,9 +87,9 @@ fn is_stopped<R: Files>(
     } else {
         Change::Appends(bytes)
     };
-    let has_failed = matches!(file.write(first_batch(change)), Err(LogError::Failed(_)));
+    let has_failed = matches!(file.write(&first_batch(change)), Err(LogError::Failed(_)));
     let more = Change::Appends(Vec::from_slice(alloc, ENTRY)?);
-    let is_stopped = matches!(file.write(first_batch(more)), Err(LogError::Stopped));
+    let is_stopped = matches!(file.write(&first_batch(more)), Err(LogError::Stopped));
     Ok(has_failed && is_stopped)
 }
 

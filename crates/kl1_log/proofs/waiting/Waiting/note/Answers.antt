@@ -1,15 +1,18 @@
-use Rattle.std.proofs.Common.{ℕ, List, ◌++◌, ap, ◌∙◌}
+use Rattle.std.proofs.Common.{ℕ, List, ◌++◌, ap, ◌∙◌, sym, subst}
+use Rattle.kl1_sums.specs.Sums.{plain_text}
+use Rattle.kl1_log.specs.Deeds.{IsPlainFile}
 use Rattle.kl1_log.specs.Batches.{text_after}
-use Rattle.kl1_log.proofs.Waits.{same_file}
+use Rattle.kl1_log.proofs.Waits.{grown_file_waits, grown_fits}
 use Rattle.kl1_log.proofs.waiting.Waiting.note.Goals as goal
 
 pub returns-clause-ok : goal.returns-clause-ok
 returns-clause-ok c = λ text old up later.
-    let front = text_after text c.args.self.now.change in
+    let front = plain_text (text_after text c.args.self.now.change) in
+    let j = c.args.journal.now.journal in
+    let bytes = c.deref.result.now in
+    let more : IsPlainFile (front ++ bytes) j = subst (λ (x : List ℕ). IsPlainFile (front ++ x) j) (sym c.deref.ensures.value) (c.in_ok-bytes.ensures.file old front up.mark later up.file.plain) in
     record {
-      file =
-          same_file (front ++ c.in_ok-bytes.field-0.bytes.items) (text_after text c.extend.new.self) c.args.journal.now.journal
-          (c.in_ok-extend.ensures.ok text ∙ ap (λ (x : List ℕ). front ++ x) c.deref.ensures.value)
-          (c.in_ok-bytes.ensures.file old front up.mark later up.file);
+      file = grown_file_waits text bytes j c.args.self.now.change c.extend.new.self up.fits c.in_ok-extend.ensures.ok more;
+      fits = grown_fits text bytes old j c.args.self.now.change c.extend.new.self up.fits c.in_ok-extend.ensures.ok up.file more;
       mark = c.in_ok-bytes.ensures.mark old up.mark later;
     }
