@@ -4,7 +4,7 @@ use crate::control::Attendant;
 use crate::program::Program;
 use crate::web::disk_of;
 use kl1_host_front::{Number, put_account_status, put_host};
-use kl1_host_web::Machine;
+use kl1_host_web::{LoginKeys, Machine};
 use kl1_host_work::{HostView, Performer};
 use kl1_session::Key;
 use std::alloc::AllocError;
@@ -15,11 +15,11 @@ use std::time::Clock;
 
 /// The program with what can be seen of its host, and what does commands for it.
 #[derive(Drop)]
-pub struct Attending<'p, 'f, R, P: Performer, V: HostView>
+pub struct Attending<'p, 'f, R, K: LoginKeys, P: Performer, V: HostView>
 where
     R: Wait + Clock + Eprint + Files + RandomSource,
 {
-    pub program: &'p Program<'f, R>,
+    pub program: &'p Program<'f, R, K>,
     pub performer: &'p mut P,
     pub host: &'p V,
     /// The second in which sessions of browsers were looked at last.
@@ -31,7 +31,7 @@ fn number(name: &'static [u8], number: u64) -> Number<'static> {
     Number { name, number }
 }
 
-impl<R, P: Performer, V: HostView> Attending<'_, '_, R, P, V>
+impl<R, K: LoginKeys, P: Performer, V: HostView> Attending<'_, '_, R, K, P, V>
 where
     R: Wait + Clock + Eprint + Files + RandomSource,
 {
@@ -58,7 +58,7 @@ where
     }
 }
 
-impl<R, P: Performer, V: HostView> Attendant for Attending<'_, '_, R, P, V>
+impl<R, K: LoginKeys, P: Performer, V: HostView> Attendant for Attending<'_, '_, R, K, P, V>
 where
     R: Wait + Clock + Eprint + Files + RandomSource,
 {

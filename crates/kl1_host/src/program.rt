@@ -2,6 +2,7 @@
 
 ghost use Rattle.std.specs.Prelude.{◌≡◌};
 ghost use Rattle.kl1_session.specs.Views.{entries_view};
+ghost use Rattle.kl1_host_front.specs.Sums.{opened_by_sum};
 ghost use Rattle.kl1_host_work.specs.Fronts.{names_in};
 ghost use Rattle.kl1_host.specs.Ends.{end_word};
 
@@ -12,7 +13,7 @@ use crate::logins::LoginLog;
 use crate::machine::ThisMachine;
 use crate::web::{WebAccounts, is_local};
 use kl1_host_front::{Field, Number, Pauses, PausingDoor, address_number};
-use kl1_host_web::{AskedRecord, Page, Service, SessionBook, Site};
+use kl1_host_web::{AskedRecord, LoginKeys, Page, Service, SessionBook, Site};
 use kl1_host_work::{Front, HostEvent, HostView, Listeners, Performer};
 use kl1_lines::{Sink, Source};
 use kl1_log::LogError;
@@ -27,7 +28,7 @@ use std::time::{Clock, Instant};
 
 /// The program around a host.
 #[derive(Drop)]
-pub struct Program<'f, R: Wait + Clock + Eprint + Files + RandomSource> {
+pub struct Program<'f, R: Wait + Clock + Eprint + Files + RandomSource, K: LoginKeys> {
     pub rt: &'f R,
     pub alloc: Global,
     pub folder: &'f str,
@@ -36,7 +37,7 @@ pub struct Program<'f, R: Wait + Clock + Eprint + Files + RandomSource> {
     pub memory_each: u64,
     pub pauses: &'f Mutex<Pauses>,
     /// The sessions of browsers.
-    pub sessions: &'f Mutex<SessionBook>,
+    pub sessions: &'f Mutex<SessionBook<K>>,
     /// The names by which browsers know the host.
     pub sites: &'f [Site],
     /// After how many seconds without a request a browser's session ends.
@@ -49,6 +50,8 @@ pub struct Program<'f, R: Wait + Clock + Eprint + Files + RandomSource> {
     pub begun: Instant,
     /// Who asked it to stop, and waits for its end.
     pub asker: &'f Mutex<Option<UnixStream>>,
+    /// The sessions are opened by these keys.
+    pub ghost are_keys: { opened_by_sum (entries_view keys.now) ≡ K.opens },
 }
 
 /// The word for how a connection ended.
@@ -62,7 +65,7 @@ fn end_of(ended: Disconnect) -> &'static [u8]
     }
 }
 
-impl<'f, R: Wait + Clock + Eprint + Files + RandomSource> Program<'f, R> {
+impl<'f, R: Wait + Clock + Eprint + Files + RandomSource, K: LoginKeys> Program<'f, R, K> {
     /// Who lets in whoever connects from this address.
     fn door_of(&self, address: SocketAddr) -> PausingDoor<'f, R, LoginLog<'f, R>>
         ensures { result.keys.now ≡ self.now.keys.now }
@@ -85,7 +88,9 @@ impl<'f, R: Wait + Clock + Eprint + Files + RandomSource> Program<'f, R> {
         address: SocketAddr,
         performer: &'p mut P,
         host: &'w V,
-    ) -> WebAccounts<'p, 'w, 'f, R, P, V> {
+    ) -> WebAccounts<'p, 'w, 'f, R, P, V>
+        ensures { result.door.keys.now ≡ self.now.keys.now }
+    {
         WebAccounts {
             rt: self.rt,
             alloc: self.alloc,
@@ -99,7 +104,7 @@ impl<'f, R: Wait + Clock + Eprint + Files + RandomSource> Program<'f, R> {
     }
 
     /// What browsers are served by.
-    pub fn service(&self, is_local: bool) -> Service<'_, R, ThisMachine<'f, R>> {
+    pub fn service(&self, is_local: bool) -> Service<'_, R, ThisMachine<'f, R>, K> {
         Service {
             rt: self.rt,
             alloc: self.alloc,
@@ -212,7 +217,11 @@ fn local_of(alloc: Global, listener: &TcpListener) -> Result<String, AllocError>
     }
 }
 
-impl<'f, R: Wait + Clock + Eprint + Files + RandomSource + Sync> Front for Program<'f, R> {
+impl<'f, R, K> Front for Program<'f, R, K>
+where
+    R: Wait + Clock + Eprint + Files + RandomSource + Sync,
+    K: LoginKeys + Send + Sync,
+{
     type Entrance = PausingDoor<'f, R, LoginLog<'f, R>>;
 
     ghost names = { λ p. names_in (entries_view p.keys.now) };

@@ -1,5 +1,8 @@
 // A host runs.
 
+ghost use Rattle.std.specs.Prelude.{◌≡◌, true};
+ghost use Rattle.kl1_session.specs.Views.{entries_view};
+ghost use Rattle.kl1_host_front.specs.Sums.{opened_by_sum};
 ghost use Rattle.kl1_host.specs.Setups.{IsSynced, IsSetUp};
 
 use crate::accounts::{Accounts, accounts_in};
@@ -16,10 +19,11 @@ use crate::sockets::{bind, socket_of};
 use crate::start_words::start_fault;
 use crate::web::sites_of;
 use kl1_host_front::{Field, Pauses, Settings, Sync as Syncs};
-use kl1_host_web::SessionBook;
+use kl1_host_web::{LoginKeys, SessionBook};
 use kl1_host_work::{Limits, Listeners, Setup, StartFault, Syncing, run_host};
 use std::alloc::Global;
 use std::fs::{self, File};
+use std::marker::Brand;
 use std::net::{Net, TcpListener, TcpStream};
 use std::os::unix::net::{UnixListener, UnixStream};
 use std::random::RandomSource;
@@ -72,7 +76,11 @@ fn setup_of(settings: &Settings, accounts: usize) -> Setup
 }
 
 /// Runs a host until it is asked to stop. With `repairs` a journal with a fault goes on from what is before it.
-fn serve<R>(program: &Program<'_, R>, settings: &Settings, repairs: bool) -> Result<(), Fault>
+fn serve<R, K: LoginKeys + Send + Sync>(
+    program: &Program<'_, R, K>,
+    settings: &Settings,
+    repairs: bool,
+) -> Result<(), Fault>
 where
     R: Net<Listener = TcpListener, Stream = TcpStream>
         + Files<File = File>
@@ -136,8 +144,8 @@ where
     })
 }
 
-/// Runs a host with what is opened until it is asked to stop.
-fn run_opened<R>(
+/// Runs a host with what is opened until it is asked to stop. `K` stands for the keys of its accounts, by which sessions of browsers are opened.
+fn run_opened<R, K: LoginKeys + Send + Sync>(
     log: &Log<'_, R>,
     folder: &str,
     opened: &HostFolder,
@@ -154,10 +162,12 @@ where
         + Eprint
         + Sync,
     R::Dir: Send + Sync,
+    requires keys { opened_by_sum (entries_view opened.now.accounts.keys.items) ≡ K.opens }
+    requires begins { K.begins ≡ true }
 {
     let (rt, alloc, settings) = (log.rt, log.alloc, &opened.settings);
     let pauses = Mutex::new(Pauses::new(alloc));
-    let sessions = Mutex::new(SessionBook::new(alloc)?);
+    let sessions = Mutex::new(SessionBook::<K>::new(alloc)?);
     let sites = sites_of(alloc, settings, opened.browsers.as_ref())?;
     let program = Program {
         rt,
@@ -210,7 +220,7 @@ where
         value: folder.as_bytes(),
     };
     log.tell(b"start", &[folder_field]);
-    let ended = run_opened(&log, folder, &opened, repairs, asker);
+    let ended = run_opened::<R, Brand>(&log, folder, &opened, repairs, asker);
     let _ = fs::remove_file(rt, path_in(alloc, folder, SOCKET)?.as_str());
     if ended.is_ok() {
         log.tell(b"end", &[]);

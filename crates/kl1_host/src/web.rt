@@ -6,7 +6,9 @@ use crate::folder::journal_in;
 use crate::logins::LoginLog;
 use kl1_command::{Command, Performed};
 use kl1_host_front::{PausingDoor, Settings, host_of};
-use kl1_host_web::{Accounts, AskedRecord, Measures, SessionBook, Site, Stop, Sums, Viewer};
+use kl1_host_web::{
+    Accounts, AskedRecord, BookChange, LoginKeys, Measures, Site, Stop, Sums, Viewer,
+};
 use kl1_host_work::{HostView, Performer};
 use kl1_session::Door;
 use kl1_user_events::{Extent, GoalNo, GoalView, Presence, ShoenNo, ShoenView, Usage};
@@ -57,8 +59,20 @@ pub fn sites_of(
     if let Some(page) = &settings.page
         && let Some(host) = host_of(page.as_bytes())
     {
+        let port: &[u8] = if page.as_bytes().starts_with(b"https:") {
+            b":443"
+        } else {
+            b":80"
+        };
+        let mut with_port = Vec::from_slice(alloc, host)?;
+        with_port.extend_from_slice(port)?;
         sites.push(Site {
             host: Vec::from_slice(alloc, host)?,
+            origin: Vec::from_slice(alloc, page.as_bytes())?,
+        })?;
+        // A proxy may tell the port that browsers leave out.
+        sites.push(Site {
+            host: with_port,
             origin: Vec::from_slice(alloc, page.as_bytes())?,
         })?;
     }
@@ -185,8 +199,8 @@ impl<'w, R: Wait + Clock + Eprint + Files, P: Performer, V: HostView> Accounts
         }
     }
 
-    fn note_search(&mut self, before: Snapshot<u64>, book: Snapshot<SessionBook>) {
-        self.record.sought(before, book);
+    fn note_change<K: LoginKeys>(&mut self, change: BookChange<K>) {
+        self.record.changed(change);
     }
 
     fn measures(&self, account: usize) -> Measures {

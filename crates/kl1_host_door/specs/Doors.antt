@@ -15,7 +15,7 @@ use Rattle.kl1_host_door.specs.declared.door.Right.{Right}
 use Rattle.kl1_host_door.specs.declared.door.Right.TheVariants as right
 use Rattle.kl1_host_door.specs.Fields.{value_of, are_single}
 use Rattle.kl1_host_door.specs.Asks.{method_in, ask_of}
-use Rattle.kl1_host_door.specs.Sessions.{session_of, has_token}
+use Rattle.kl1_host_door.specs.Sessions.{session_of, owner_of}
 
 -- whether the host is known by this name
 abbrev pub is_host : List Site → List ℕ → Bool
@@ -55,9 +55,9 @@ right_of Health = right.Machine
 -- who has the cookie of a session and its token is let in to its account. A browser sends the cookie to each port of a host's name, and the
 -- token only to who asks as the page does: so a cookie alone lets in to nothing.
 abbrev pub by_owner : Ask → List Field → List WebSession → Result Allowed Refusal
-by_owner ask fields sessions = elim (session_of fields sessions) [
-  | None ↦ Err refusal.Nobody
-  | Some session ↦ if has_token fields session then Ok (allowed.Owner session.id session.account ask) else Err refusal.Token
+by_owner ask fields sessions = elim (owner_of fields sessions) [
+  | None ↦ elim (session_of fields sessions) [ None ↦ Err refusal.Nobody | Some session ↦ Err refusal.Token ]
+  | Some session ↦ Ok (allowed.Owner session.id session.account ask)
 ]
 
 -- by the right that is wanted

@@ -1,13 +1,20 @@
 // How long the body of a request is.
 
 ghost use Rattle.std.specs.Prelude.{◌≡◌};
-ghost use Rattle.kl1_host_door.specs.Bodies.{by_length, body_bytes};
+ghost use Rattle.kl1_host_door.specs.Bodies.{by_length, needs_no_body, body_bytes};
 
 use crate::field::{is_single, value_of};
 use crate::head::Head;
 use crate::limits::MOST_BODY_BYTES;
 use crate::refusal::Refusal;
 use kl1_lines::number_in;
+
+/// Whether a request by this method may come without a body and without its length.
+fn needs_no_body(method: &[u8]) -> bool
+    ensures { result ≡ needs_no_body method.now }
+{
+    method == b"GET".as_slice() || method == b"HEAD".as_slice()
+}
 
 /// How many bytes of a body come after a head.
 pub fn body_bytes(head: &Head) -> Result<u64, Refusal>
@@ -23,7 +30,7 @@ pub fn body_bytes(head: &Head) -> Result<u64, Refusal>
     match value_of(fields, b"content-length") {
         Some(text) => by_length(text),
         None => {
-            if head.method.as_slice() == b"GET".as_slice() {
+            if needs_no_body(head.method.as_slice()) {
                 Ok(0)
             } else {
                 Err(Refusal::NoLength)

@@ -9,7 +9,7 @@ use crate::field::{Field, is_single, value_of};
 use crate::head::Head;
 use crate::limits::SECRET_BYTES;
 use crate::refusal::Refusal;
-use crate::session::{WebSession, has_token, session_of};
+use crate::session::{WebSession, owner_of, session_of};
 
 /// A name by which a host is known, as a browser tells it, and where its page comes from: as `localhost:7480` and
 /// `http://localhost:7480`.
@@ -101,17 +101,20 @@ fn right_of(ask: Ask) -> Right
 fn by_owner(ask: Ask, fields: &[Field], sessions: &[WebSession]) -> Result<Allowed, Refusal>
     ensures { result ≡ by_owner ask fields.now sessions.now }
 {
-    let Some(session) = session_of(fields, sessions) else {
-        return Err(Refusal::Nobody);
-    };
-    if !has_token(fields, &session) {
-        return Err(Refusal::Token);
+    match owner_of(fields, sessions) {
+        Some(session) => {
+            let id = session.id;
+            Ok(Allowed::Owner {
+                id,
+                account: session.account,
+                ask,
+            })
+        }
+        None => match session_of(fields, sessions) {
+            None => Err(Refusal::Nobody),
+            Some(_) => Err(Refusal::Token),
+        },
     }
-    Ok(Allowed::Owner {
-        id: session.id,
-        account: session.account,
-        ask,
-    })
 }
 
 /// Lets in who may have what is asked for.

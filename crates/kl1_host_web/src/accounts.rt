@@ -2,13 +2,12 @@
 
 ghost use Rattle.std.specs.Prelude.{◌≡◌, ◌<◌, ◌++◌, ◌∷◌, [], List, IfSome};
 ghost use Rattle.kl1_command.specs.Commands.{command_view};
-ghost use Rattle.kl1_host_web.specs.Asking.{Asked, did, looked, sought, House};
+ghost use Rattle.kl1_host_web.specs.Asking.{Asked, did, looked, changed, House};
 
 use kl1_command::{Command, Performed};
-use kl1_host_door::SessionBook;
+use kl1_host_door::{BookChange, LoginKeys};
 use kl1_user_events::{Extent, GoalNo, GoalView, Presence, ShoenNo, ShoenView, Usage};
 use std::alloc::AllocError;
-use std::snapshot::Snapshot;
 
 /// Why an account does no more.
 #[derive(Clone, Copy)]
@@ -98,11 +97,10 @@ pub trait Accounts {
         ensures house { house self.new ≡ house self.old }
         ensures asked { asked self.new ≡ asked self.old ++ looked account ∷ [] };
 
-    /// Notes that the book of sessions was searched for one whose last request was before this second, and which it had. It is there for
-    /// contracts: no account is asked.
-    fn note_search(&mut self, before: Snapshot<u64>, book: Snapshot<SessionBook>)
+    /// Notes what was done to the book of sessions. It is there for contracts: no account is asked.
+    fn note_change<K: LoginKeys>(&mut self, change: BookChange<K>)
         ensures house { house self.new ≡ house self.old }
-        ensures asked { asked self.new ≡ asked self.old ++ sought before.value book.value ∷ [] };
+        ensures asked { asked self.new ≡ asked self.old ++ changed change.step.value change.before.value.items ∷ [] };
 
     /// What an account has done.
     fn measures(&self, account: usize) -> Measures

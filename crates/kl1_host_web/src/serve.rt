@@ -4,12 +4,16 @@ ghost use Rattle.std.specs.Prelude.{◌≡◌, ◌<◌, ◌++◌, ◌∷◌, [],
 ghost use Rattle.std.specs.declared.option.Option.{Option};
 ghost use Rattle.std.specs.Io.KnownBytes.{Appends, prepend_known};
 ghost use Rattle.kl1_host_door.specs.Answers.{answer_text};
-ghost use Rattle.kl1_host_door.specs.Doors.{authorized};
 ghost use Rattle.kl1_host_door.specs.declared.session.WebSession.{WebSession};
+ghost use Rattle.kl1_host_door.specs.declared.book.BookStep.TheVariants.{Adds, Takes};
+ghost use Rattle.kl1_host_door.specs.declared.book.SessionTest.TheVariants.{IsCalled};
+ghost use Rattle.kl1_host_door.specs.Sessions.{LetsIn, IsOpened};
+ghost use Rattle.kl1_host_door.specs.Books.{has_room};
 ghost use Rattle.kl1_command.specs.declared.performed.Performed.{Performed};
-ghost use Rattle.kl1_host_web.specs.Asking.{Asked};
+ghost use Rattle.kl1_host_web.specs.Asking.{Asked, changed};
 ghost use Rattle.kl1_host_web.specs.Telling.{IsOpenedIn};
-ghost use Rattle.kl1_host_web.specs.Serving.{Seeks, logout_of, EndsIdle, Begun, Ends, is_within, AnswersWithin, Attends, Exchange, Serves, Steps};
+ghost use Rattle.kl1_host_web.specs.Beginning.{Begun};
+ghost use Rattle.kl1_host_web.specs.Serving.{Seeks, logout_of, EndsIdle, Admits, closing, Ends, is_within, AnswersWithin, Attends, Exchange, Serves, Steps};
 
 use crate::accounts::Accounts;
 use crate::granting::grant;
@@ -22,22 +26,21 @@ use crate::wish::wish_of;
 use kl1_command::Command;
 use kl1_host_door::limits::SECRET_BYTES;
 use kl1_host_door::{
-    Allowed, Answer, Head, Refusal, SessionTest, WebSession, authorize, body_bytes, put_answer,
+    Allowed, Answer, Head, LoginKeys, Refusal, SessionTest, WebSession, body_bytes, put_answer,
     value_of,
 };
 use kl1_lines::{Sink, Source, finish};
 use kl1_user_events::Event;
 use std::alloc::{AllocError, Global};
-use std::snapshot::Snapshot;
 use std::sync::Wait;
 
 /// What a connection is served by, and whether it comes from the machine of the host.
 #[derive(Drop)]
-pub struct Service<'p, R: Wait, M: Machine> {
+pub struct Service<'p, R: Wait, M: Machine, K: LoginKeys> {
     pub rt: &'p R,
     pub alloc: Global,
     pub machine: &'p M,
-    pub page: Page<'p>,
+    pub page: Page<'p, K>,
     pub is_local: bool,
 }
 
@@ -73,8 +76,12 @@ fn is_within(accounts: usize, allowed: &Allowed) -> bool
     }
 }
 
-/// Whether the connection goes on after an answer to this head.
+/// Whether the connection goes on after an answer to this head. It doesn't after a HEAD: who asks so takes what comes after the answer's head
+/// for the next answer.
 fn goes_on(head: &Head) -> bool {
+    if head.method.as_slice() == b"HEAD".as_slice() {
+        return false;
+    }
     let is_later = head.minor == 1;
     match value_of(head.fields.as_slice(), b"connection") {
         None => is_later,
@@ -88,12 +95,16 @@ fn goes_on(head: &Head) -> bool {
     }
 }
 
-impl<'p, R: Wait, M: Machine> Service<'p, R, M> {
+impl<'p, R: Wait, M: Machine, K: LoginKeys> Service<'p, R, M, K> {
     /// Takes the session with this name out of the book.
-    fn forget(&self, id: [u8; SECRET_BYTES]) {
+    fn forget<A: Accounts>(&self, accounts: &mut A, id: [u8; SECRET_BYTES])
+        ensures house { A.house accounts.new ≡ A.house accounts.old }
+        ensures asked { (sessions : List WebSession) × (A.asked accounts.new ≡ A.asked accounts.old ++ changed (Takes (IsCalled id)) sessions ∷ []) }
+    {
         let mut guard = self.page.sessions.lock(self.rt);
         let book = &mut *guard;
-        let _ = book.take(SessionTest::IsCalled(id));
+        let (_session, change) = book.take(SessionTest::IsCalled(id));
+        accounts.note_change(change);
     }
 
     /// Takes the first session out of the book whose browser made no request for too long; `None` if there is none.
@@ -104,27 +115,34 @@ impl<'p, R: Wait, M: Machine> Service<'p, R, M> {
         let before = self.machine.seconds().saturating_sub(self.page.idle);
         let mut guard = self.page.sessions.lock(self.rt);
         let book = &mut *guard;
-        accounts.note_search(Snapshot::of(&before), Snapshot::of(book));
-        book.take(SessionTest::IsIdle(before))
+        let (session, change) = book.take(SessionTest::IsIdle(before));
+        accounts.note_change(change);
+        session
     }
 
     /// Adds a session of a browser, and tells whether there was room for it.
-    fn add(&self, session: WebSession) -> bool {
-        let mut guard = self.page.sessions.lock(self.rt);
-        let book = &mut *guard;
-        book.add(session)
-    }
-
-    /// What a request may have, by the sessions that are open now.
-    fn allowed(&self, head: &Head) -> Result<Allowed, Refusal>
-        ensures { (sessions : List WebSession) × (result ≡ authorized head.now sessions self.now.page.sites.now self.now.is_local) }
+    fn add<A: Accounts>(&self, accounts: &mut A, session: WebSession) -> bool
+        requires { IsOpened K.opens session }
+        ensures house { A.house accounts.new ≡ A.house accounts.old }
+        ensures asked { (others : List WebSession) × (result ≡ has_room others) × (A.asked accounts.new ≡ A.asked accounts.old ++ changed (Adds session) others ∷ []) }
     {
         let mut guard = self.page.sessions.lock(self.rt);
         let book = &mut *guard;
-        let allowed = authorize(head, book.sessions(), self.page.sites, self.is_local);
-        if let Ok(Allowed::Owner { id, .. }) = &allowed {
-            book.touch(*id, self.machine.seconds());
-        }
+        let (is_added, change) = book.add(session);
+        accounts.note_change(change);
+        is_added
+    }
+
+    /// What a request may have, by the sessions that are open now.
+    fn allowed<A: Accounts>(&self, accounts: &mut A, head: &Head) -> Result<Allowed, Refusal>
+        ensures house { A.house accounts.new ≡ A.house accounts.old }
+        ensures admits { Admits (M.tells self.now.machine.now) K.opens self.now.page.sites.now self.now.is_local head.now (A.asked accounts.old) (A.asked accounts.new) result }
+    {
+        let now = self.machine.seconds();
+        let mut guard = self.page.sessions.lock(self.rt);
+        let book = &mut *guard;
+        let (allowed, change) = book.admit(head, self.page.sites, self.is_local, now);
+        accounts.note_change(change);
         allowed
     }
 
@@ -141,21 +159,30 @@ impl<'p, R: Wait, M: Machine> Service<'p, R, M> {
         }
     }
 
-    /// Begins the session of a browser to which a session of its account is open. Without room for it that is closed again.
+    /// Begins the session of a browser to which a session of its account is open. If it can't begin, or can't be told, that is closed again,
+    /// so that a login that fails leaves nothing open.
     fn begin<A: Accounts>(&self, accounts: &mut A, account: usize) -> Result<Answer, AllocError>
-        requires { account < (A.house accounts.old).accounts }
+        requires within { account < (A.house accounts.old).accounts }
+        requires opened { LetsIn K.opens account }
         ensures house { A.house accounts.new ≡ A.house accounts.old }
-        ensures asked { Begun account (A.asked accounts.old) (A.asked accounts.new) result }
+        ensures asked { Begun (M.gives self.now.machine.now) account (A.asked accounts.old) (A.asked accounts.new) result }
     {
         let Some(session) = new_session(self.machine, account) else {
             let _ = accounts.act(account, &Command::Does(Event::Logout));
             return refused(self.alloc, Refusal::Memory);
         };
-        if !self.add(session) {
+        let answer = match told_session(self.alloc, accounts, &session) {
+            Ok(answer) => answer,
+            Err(error) => {
+                let _ = accounts.act(account, &Command::Does(Event::Logout));
+                return Err(error);
+            }
+        };
+        if !self.add(accounts, session) {
             let _ = accounts.act(account, &Command::Does(Event::Logout));
             return refused(self.alloc, Refusal::ManySessions);
         }
-        told_session(self.alloc, accounts, &session)
+        Ok(answer)
     }
 
     /// The answer to a request that ended so.
@@ -165,16 +192,17 @@ impl<'p, R: Wait, M: Machine> Service<'p, R, M> {
         allowed: &Allowed,
         outcome: Outcome,
     ) -> Result<Answer, AllocError>
-        requires { IsOpenedIn (A.house accounts.old).accounts outcome }
+        requires keys { (A.house accounts.old).opens ≡ K.opens }
+        requires opened { IsOpenedIn (A.house accounts.old) outcome }
         ensures house { A.house accounts.new ≡ A.house accounts.old }
-        ensures ends { Ends (Ok outcome) (A.asked accounts.old) (A.asked accounts.new) result }
+        ensures ends { Ends (M.gives self.now.machine.now) allowed.now (Ok outcome) (A.asked accounts.old) (A.asked accounts.new) result }
     {
         match outcome {
             Outcome::Told(answer) => Ok(answer),
             Outcome::Opens(account) => self.begin(accounts, account),
             Outcome::Closes(answer) => {
                 if let Allowed::Owner { id, .. } = allowed {
-                    self.forget(*id);
+                    self.forget(accounts, *id);
                 }
                 Ok(answer)
             }
@@ -189,8 +217,9 @@ impl<'p, R: Wait, M: Machine> Service<'p, R, M> {
         allowed: &Allowed,
         body: &[u8],
     ) -> Result<Answer, AllocError>
+        requires { (A.house accounts.old).opens ≡ K.opens }
         ensures house { A.house accounts.new ≡ A.house accounts.old }
-        ensures answers { AnswersWithin (is_within (A.house accounts.old).accounts allowed.now) (A.house accounts.old) allowed.now head.now.target.items body.now (A.asked accounts.old) (A.asked accounts.new) result }
+        ensures answers { AnswersWithin (M.gives self.now.machine.now) (is_within (A.house accounts.old).accounts allowed.now) (A.house accounts.old) allowed.now head.now.target.items body.now (A.asked accounts.old) (A.asked accounts.new) result }
     {
         if !is_within(accounts.count(), allowed) {
             return refused(self.alloc, Refusal::Nobody);
@@ -207,11 +236,12 @@ impl<'p, R: Wait, M: Machine> Service<'p, R, M> {
         head: &Head,
         body: &[u8],
     ) -> Result<Answer, AllocError>
+        requires { (A.house accounts.old).opens ≡ K.opens }
         ensures house { A.house accounts.new ≡ A.house accounts.old }
-        ensures answers { Attends (M.tells self.now.machine.now) self.now.page.idle (A.house accounts.old) self.now.page.sites.now self.now.is_local head.now body.now (A.asked accounts.old) (A.asked accounts.new) result }
+        ensures answers { Attends (M.tells self.now.machine.now) (M.gives self.now.machine.now) self.now.page.idle (A.house accounts.old) self.now.page.sites.now self.now.is_local head.now body.now (A.asked accounts.old) (A.asked accounts.new) result }
     {
         self.end_idle(accounts);
-        match self.allowed(head) {
+        match self.allowed(accounts, head) {
             Err(refusal) => refused(self.alloc, refusal),
             Ok(allowed) => self.answer(accounts, head, &allowed, body),
         }
@@ -224,8 +254,9 @@ impl<'p, R: Wait, M: Machine> Service<'p, R, M> {
         inbox: &mut Inbox,
         accounts: &mut A,
     ) -> Result<Served, AllocError>
+        requires { (A.house accounts.old).opens ≡ K.opens }
         ensures house { A.house accounts.new ≡ A.house accounts.old }
-        ensures steps { Steps (M.tells self.now.machine.now) self.now.page.idle (A.house accounts.old) self.now.page.sites.now self.now.is_local (prepend_known inbox.old.kept.items (S.remaining source.old)) (prepend_known inbox.new.kept.items (S.remaining source.new)) (A.asked accounts.old) (A.asked accounts.new) result }
+        ensures steps { Steps (M.tells self.now.machine.now) (M.gives self.now.machine.now) self.now.page.idle (A.house accounts.old) self.now.page.sites.now self.now.is_local (prepend_known inbox.old.kept.items (S.remaining source.old)) (prepend_known inbox.new.kept.items (S.remaining source.new)) (A.asked accounts.old) (A.asked accounts.new) result }
     {
         let head = match inbox.head(self.alloc, source)? {
             Incoming::Head(head) => head,
@@ -266,8 +297,9 @@ impl<'p, R: Wait, M: Machine> Service<'p, R, M> {
         sink: &mut T,
         accounts: &mut A,
     )
+        requires { (A.house accounts.old).opens ≡ K.opens }
         ensures house { A.house accounts.new ≡ A.house accounts.old }
-        ensures served { (served : List Exchange) × (left : Option (List ℕ)) × Serves (M.tells self.now.machine.now) self.now.page.idle (A.house accounts.old) self.now.page.sites.now self.now.is_local served (S.remaining source.old) left (A.asked accounts.old) (A.asked accounts.new) }
+        ensures served { (served : List Exchange) × (left : Option (List ℕ)) × Serves (M.tells self.now.machine.now) (M.gives self.now.machine.now) self.now.page.idle (A.house accounts.old) self.now.page.sites.now self.now.is_local served (S.remaining source.old) left (A.asked accounts.old) (A.asked accounts.new) }
     {
         let mut inbox = Inbox::new(self.alloc);
         for _ in 0..u64::MAX {

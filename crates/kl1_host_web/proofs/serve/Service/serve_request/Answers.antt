@@ -25,8 +25,8 @@ returns-in_err-answer-clause-steps g c =
     let new : Option (List ℕ) = prepend_known c.body.new.self.kept.items (remaining c.body.new.source) in
     let comes : HasHead c.in-Head.head old middle = subst (λ (x : Incoming). ComesIn old middle x) c.in-Head.is c.in_ok-head.ensures in
     let follows : HasBody c.in-Ok.count c.in-Some.body.items middle new = body_is c.in-Ok.count middle new c.in_ok-body.field-0 c.in-Some.body c.in-Some.is c.in_ok-body.ensures in
-    failed (g.M.Machine.tells c.args.self.now.machine.now) c.args.self.now.page.idle house page.sites.now c.args.self.now.is_local old new (asked c.args.accounts.now) (asked c.attend.new.accounts) c.in-Head.head c.in-Some.body.items c.in_err-answer.field-0.0 c.from_residual-in_err-answer.result c.from_residual-in_err-answer.ensures.1
-    (exchanges (g.M.Machine.tells c.args.self.now.machine.now) c.args.self.now.page.idle house page.sites.now c.args.self.now.is_local c.in-Head.head c.in-Some.body.items c.in-Ok.count (Err c.in_err-answer.field-0.0) old middle new (asked c.args.accounts.now) (asked c.attend.new.accounts) comes (sym c.in-Ok.ensures) follows (rw c.as_slice.ensures.value at c.in_err-answer.ensures.answers))
+    failed (g.M.Machine.tells c.args.self.now.machine.now) (g.M.Machine.gives c.args.self.now.machine.now) c.args.self.now.page.idle house page.sites.now c.args.self.now.is_local old new (asked c.args.accounts.now) (asked c.attend.new.accounts) c.in-Head.head c.in-Some.body.items c.in_err-answer.field-0.0 c.from_residual-in_err-answer.result c.from_residual-in_err-answer.ensures.1
+    (exchanges (g.M.Machine.tells c.args.self.now.machine.now) (g.M.Machine.gives c.args.self.now.machine.now) c.args.self.now.page.idle house page.sites.now c.args.self.now.is_local c.in-Head.head c.in-Some.body.items c.in-Ok.count (Err c.in_err-answer.field-0.0) old middle new (asked c.args.accounts.now) (asked c.attend.new.accounts) comes (sym c.in-Ok.ensures) follows (rw c.as_slice.ensures.value at c.in_err-answer.ensures.answers))
 
 pub returns-clause-steps : goal.returns-clause-steps
 returns-clause-steps g c =
@@ -39,4 +39,4 @@ returns-clause-steps g c =
     let new : Option (List ℕ) = prepend_known c.body.new.self.kept.items (remaining c.body.new.source) in
     let comes : HasHead c.in-Head.head old middle = subst (λ (x : Incoming). ComesIn old middle x) c.in-Head.is c.in_ok-head.ensures in
     let follows : HasBody c.in-Ok.count c.in-Some.body.items middle new = body_is c.in-Ok.count middle new c.in_ok-body.field-0 c.in-Some.body c.in-Some.is c.in_ok-body.ensures in
-    (c.in-Head.head, c.in-Some.body.items, exchanges (g.M.Machine.tells c.args.self.now.machine.now) c.args.self.now.page.idle house page.sites.now c.args.self.now.is_local c.in-Head.head c.in-Some.body.items c.in-Ok.count (Ok c.in_ok-answer.answer) old middle new (asked c.args.accounts.now) (asked c.attend.new.accounts) comes (sym c.in-Ok.ensures) follows (rw c.as_slice.ensures.value at c.in_ok-answer.ensures.answers))
+    (c.in-Head.head, c.in-Some.body.items, exchanges (g.M.Machine.tells c.args.self.now.machine.now) (g.M.Machine.gives c.args.self.now.machine.now) c.args.self.now.page.idle house page.sites.now c.args.self.now.is_local c.in-Head.head c.in-Some.body.items c.in-Ok.count (Ok c.in_ok-answer.answer) old middle new (asked c.args.accounts.now) (asked c.attend.new.accounts) comes (sym c.in-Ok.ensures) follows (rw c.as_slice.ensures.value at c.in_ok-answer.ensures.answers))
