@@ -1,5 +1,5 @@
 -- What waits for a file whose text is known.
-use Rattle.std.proofs.Common.{◌≡◌, ℕ, List, sym, subst}
+use Rattle.std.proofs.Common.{◌≡◌, ℕ, List, sym, ap, subst}
 use Rattle.std.specs.Prelude.{Option, Some, None, option_map}
 use Rattle.kl1_model_server.specs.Journal.{Journal}
 use Rattle.kl1_log.specs.Files.{content, Known, IfKnown}
@@ -18,3 +18,7 @@ read_up_to (Some c) w bytes j is h = subst (λ (t : List ℕ). IsUpTo w t j) is 
 pub taken_up_to : (v w : Waiting) (change : Change) (t u : Option (List ℕ)) (j : Journal) → ((text : List ℕ) (k : Journal) → IsUpTo v text k → IsUpTo w (text_after text change) k) → u ≡ option_map (λ text. text_after text change) t → IsUpToIf v t j → IsUpToIf w u j
 taken_up_to v w change None u j goes is h = subst (λ (x : Option (List ℕ)). IsUpToIf w x j) (sym is) h
 taken_up_to v w change (Some text) u j goes is h = subst (λ (x : Option (List ℕ)). IsUpToIf w x j) (sym is) (goes text j h)
+
+-- the text of the same file
+pub same_text : {D : Type 0} (known : D → Known) (d e : D) → d ≡ e → text_of (known d) ≡ text_of (known e)
+same_text known d e is = ap (λ x. text_of (known x)) is

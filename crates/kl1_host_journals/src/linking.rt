@@ -48,7 +48,7 @@ impl From<AllocError> for LinkFault {
 
 /// The file of this account with what waits for it, which is nothing: it is one of `journal`, in this generation. If its bytes aren't the
 /// text of the journal, each line with its sum, it is begun anew.
-#[tactic(auto, using(crate::proofs::LinkedFiles::read_up_to, crate::proofs::LinkedFiles::taken_up_to, crate::proofs::Resting::same_rests))]
+#[tactic(auto, using(crate::proofs::Resting::same_rests))]
 pub fn link<D: Disk + Drop>(
     alloc: Global,
     resting: RestingFile<D>,

@@ -9,8 +9,8 @@ mod turned;
 use crate::log::crashed::no_acknowledged_line_is_lost;
 use crate::log::cut::cut_at_each_byte_leaves_the_whole_lines;
 use crate::log::folder::{
-    file_cut_at_each_byte_goes_on, folder_without_files_stops_a_file, full_disk_stops_a_file,
-    missing_folder_is_told,
+    file_cut_at_each_byte_goes_on, folder_without_files_stops_a_file, missing_folder_is_told,
+    refused_bytes_stop_a_file,
 };
 use crate::log::turned::{moved_line_is_told, turned_bit_is_told_with_its_line};
 use crate::report::Report;
@@ -32,8 +32,8 @@ fn put_file_checks<R: Files>(report: &mut Report, rt: &R, alloc: Global) {
     );
     put_file_check(
         report,
-        b"full_disk_stops_a_file",
-        full_disk_stops_a_file(rt, alloc),
+        b"refused_bytes_stop_a_file",
+        refused_bytes_stop_a_file(rt, alloc),
     );
     put_file_check(
         report,

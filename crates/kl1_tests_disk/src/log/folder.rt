@@ -93,11 +93,11 @@ fn is_stopped<R: Files>(
     Ok(has_failed && is_stopped)
 }
 
-/// Writes to a device that is always full.
-pub(crate) fn full_disk_stops_a_file<R: Files>(rt: &R, alloc: Global) -> io::Result<bool> {
-    let _gone = fs::remove_file(rt, "full.journal");
-    symlink(rt, "/dev/full", "full.journal")?;
-    is_stopped(rt, alloc, ".", "full", false)
+/// Writes to a file that takes nothing but a number: it can be read to its end, as a device that is full can't.
+pub(crate) fn refused_bytes_stop_a_file<R: Files>(rt: &R, alloc: Global) -> io::Result<bool> {
+    let _gone = fs::remove_file(rt, "number.journal");
+    symlink(rt, "/proc/self/oom_score_adj", "number.journal")?;
+    is_stopped(rt, alloc, ".", "number", false)
 }
 
 /// Writes to a folder in which no file can be made.
