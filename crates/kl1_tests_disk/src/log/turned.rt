@@ -62,7 +62,9 @@ pub(crate) fn moved_line_is_told(alloc: Global) -> Result<bool, AllocError> {
     for first in 0..lines.len() {
         for second in first + 1..lines.len() {
             let mut moved = lines_in(alloc, file.as_slice())?;
-            moved.as_mut_slice().swap(first, second);
+            if second < moved.len() {
+                moved.as_mut_slice().swap(first, second);
+            }
             if !is_told(
                 alloc,
                 joined(alloc, moved.as_slice())?.as_slice(),
@@ -72,7 +74,9 @@ pub(crate) fn moved_line_is_told(alloc: Global) -> Result<bool, AllocError> {
             }
         }
         let mut fewer = lines_in(alloc, file.as_slice())?;
-        let _left_out = fewer.remove(first);
+        if first < fewer.len() {
+            let _left_out = fewer.remove(first);
+        }
         if first + 1 < lines.len()
             && !is_told(
                 alloc,
