@@ -35,24 +35,44 @@ impl<R, K: LoginKeys, P: Performer, V: HostView> Attending<'_, '_, R, K, P, V>
 where
     R: Wait + Clock + Eprint + Files + RandomSource,
 {
+    /// Whether some account is in the midst of a reduction for long.
+    fn is_some_busy(&self) -> bool {
+        self.host.ask_all();
+        for account in 0..self.program.keys.len() {
+            if self.host.is_busy(account) {
+                return true;
+            }
+        }
+        false
+    }
+
     /// Puts the line of an account after others.
     fn put_account(&self, out: &mut Vec<u8>, account: usize, key: &Key) -> Result<(), AllocError> {
         let program = self.program;
         let name = key.name.as_slice();
-        let usage = self.host.usage(account)?;
-        let counted = self.host.counted(account)?;
+        let (sight, age) = self.host.sight(account);
+        let Some(sight) = sight else {
+            // It was in the midst of a reduction since the start.
+            let numbers = [number(b"age", age)];
+            return put_account_status(out, name, &numbers, self.host.is_stopped(account));
+        };
+        let usage = sight.usage;
         let disk = disk_of(program.rt, program.alloc, program.folder, name)?;
+        let out_of_codes = u64::from(self.host.is_out_of_codes(account));
         let numbers = [
-            number(b"sessions", self.host.sessions(account)?),
+            number(b"age", age),
+            number(b"sessions", sight.sessions),
             number(b"entries", usage.entries.count),
-            number(b"events", counted.events),
-            number(b"steps", counted.steps),
+            number(b"events", sight.counted.events),
+            number(b"steps", sight.counted.steps),
             number(b"disk", disk),
-            number(b"memory", self.host.bytes(account)?),
+            number(b"memory", sight.bytes),
             number(b"goals", usage.goals.count),
             number(b"shoens", usage.shoens.count),
             number(b"variables", usage.variables.count),
             number(b"structures", usage.structures.count),
+            number(b"codes_left", self.host.codes_left(account)),
+            number(b"codes_full", out_of_codes),
         ];
         put_account_status(out, name, &numbers, self.host.is_stopped(account))
     }
@@ -72,6 +92,7 @@ where
             number(b"connections", self.host.connections() as u64),
         ];
         put_host(out, &numbers)?;
+        self.host.ask_all();
         for (account, key) in self.program.keys.iter().enumerate() {
             self.put_account(out, account, key)?;
         }
@@ -83,7 +104,10 @@ where
         let second = self.program.machine.seconds();
         if second != self.last {
             self.last = second;
-            self.program.end_idle(self.performer, self.host);
+            // A logout waits for its account, and who asks isn't to wait for that: they are ended later.
+            if !self.is_some_busy() {
+                self.program.end_idle(self.performer, self.host);
+            }
         }
     }
 }

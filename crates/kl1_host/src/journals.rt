@@ -17,7 +17,7 @@ use kl1_model::limits::MOST_ACCOUNTS;
 use kl1_pool::{AccountName, Rules};
 use kl1_session::Key;
 use std::alloc::{AllocError, Global};
-use std::fs::File;
+use std::fs::{self, File};
 use std::rt::Files;
 use std::thread;
 use std::thread::Threads;
@@ -174,4 +174,19 @@ where
     );
     tell_repairs(log, openings.as_slice());
     gathered(log.alloc, keys, openings)
+}
+
+/// Removes the new files that are kept beside the journals of accounts for resets.
+pub fn remove_spares<'r, R: Files<File = File> + Clock + Eprint>(
+    log: &Log<'r, R>,
+    folder: &str,
+    keys: &[Key],
+) {
+    for key in keys {
+        if let Ok(path) = journal_in(log.alloc, folder, key.name.as_slice())
+            && let Ok(path) = format!(in log.alloc; "{path}.new")
+        {
+            let _ = fs::remove_file(log.rt, path.as_str());
+        }
+    }
 }

@@ -11,6 +11,8 @@ use crate::control::answer_until_stop;
 use crate::log::Log;
 use crate::logins::LoginLog;
 use crate::machine::ThisMachine;
+use crate::paces::{PacedLine, Paces};
+use crate::started::note_started;
 use crate::web::{WebAccounts, is_local};
 use kl1_host_front::{Field, Number, Pauses, PausingDoor, address_number};
 use kl1_host_web::{AskedRecord, LoginKeys, Page, Service, SessionBook, Site};
@@ -19,6 +21,7 @@ use kl1_lines::{Sink, Source};
 use kl1_log::LogError;
 use kl1_session::{Disconnect, Key};
 use std::alloc::{AllocError, Global};
+use std::io::Write;
 use std::net::{Ipv4Addr, SocketAddr, SocketAddrV4, TcpListener};
 use std::os::unix::net::{UnixListener, UnixStream};
 use std::random::RandomSource;
@@ -33,8 +36,10 @@ pub struct Program<'f, R: Wait + Clock + Eprint + Files + RandomSource, K: Login
     pub alloc: Global,
     pub folder: &'f str,
     pub keys: &'f [Key],
-    /// How many bytes an account may take.
+    /// How many bytes an account may take in memory, its journal may have on disk, and its sources may have.
     pub memory_each: u64,
+    pub disk_each: u64,
+    pub codes_each: u64,
     pub pauses: &'f Mutex<Pauses>,
     /// The sessions of browsers.
     pub sessions: &'f Mutex<SessionBook<K>>,
@@ -43,6 +48,7 @@ pub struct Program<'f, R: Wait + Clock + Eprint + Files + RandomSource, K: Login
     /// After how many seconds without a request a browser's session ends.
     pub idle: u64,
     pub machine: ThisMachine<'f, R>,
+    pub paces: &'f Paces,
     pub log: &'f Log<'f, R>,
     pub listeners: Listeners<'f>,
     /// Where it is asked how it goes, and to stop.
@@ -77,6 +83,7 @@ impl<'f, R: Wait + Clock + Eprint + Files + RandomSource, K: LoginKeys> Program<
             address: address_number(address.ip()),
             teller: LoginLog {
                 log: self.log,
+                accounts: self.keys,
                 address,
             },
         }
@@ -177,6 +184,60 @@ impl<'f, R: Wait + Clock + Eprint + Files + RandomSource, K: LoginKeys> Program<
             .tell_account(event, self.name_of(account), &[taken, most]);
     }
 
+    /// Tells an event of who connects from this address, once a second at most, with how many like it were left out before.
+    fn tell_paced(&self, line: PacedLine, event: &[u8], address: SocketAddr) {
+        let Some(left_out) = self.paces.told(self.rt, line) else {
+            return;
+        };
+        // Without memory the line has its address alone.
+        match format!(in self.alloc; "{left_out}") {
+            Ok(words) => {
+                let others = Field {
+                    name: b"left_out",
+                    value: words.as_bytes(),
+                };
+                self.log.tell_of(event, address, &[others]);
+            }
+            Err(_) => self.log.tell_of(event, address, &[]),
+        }
+    }
+
+    /// Tells an event of an account.
+    fn tell_of(&self, event: &[u8], account: usize) {
+        self.log.tell_account(event, self.name_of(account), &[]);
+    }
+
+    /// Tells that the file of an account has as many bytes as it may, or fewer again.
+    fn tell_disk(&self, event: &[u8], account: usize) {
+        let most = Number {
+            name: b"disk_each",
+            number: self.disk_each,
+        };
+        self.log.tell_account(event, self.name_of(account), &[most]);
+    }
+
+    /// Tells that an account was refused a source.
+    fn tell_codes(&self, account: usize) {
+        let most = Number {
+            name: b"codes_each",
+            number: self.codes_each,
+        };
+        self.log
+            .tell_account(b"codes_full", self.name_of(account), &[most]);
+    }
+
+    /// Tells for which account a host waits that was asked to stop: also who asked.
+    fn tell_awaited(&self, account: usize) {
+        self.tell_of(b"stop_waits", account);
+        let mut guard = self.asker.lock(self.rt);
+        if let Some(asker) = &mut *guard {
+            let name = self.name_of(account);
+            let _ = asker.write_all(b"waits for ");
+            let _ = asker.write_all(name);
+            let _ = asker.write_all(b", which is in the midst of a reduction\n");
+        }
+    }
+
     /// Tells that a host is ready, and where.
     fn tell_ready(&self) -> Result<(), AllocError> {
         let listen = local_of(self.alloc, self.listeners.clients)?;
@@ -236,6 +297,12 @@ where
             HostEvent::Restored { account, entries } => self.tell_restored(account, entries),
             HostEvent::Opened(_) => {}
             HostEvent::TurnedAway(address) => self.log.tell_of(b"turned_away", address, &[]),
+            HostEvent::Unserved(address) => {
+                self.tell_paced(PacedLine::Unserved, b"no_thread", address)
+            }
+            HostEvent::GaveWay(address) => {
+                self.tell_paced(PacedLine::GaveWay, b"gave_way", address)
+            }
             HostEvent::Closed(address, ended) => {
                 let how = Field {
                     name: b"by",
@@ -250,6 +317,12 @@ where
             HostEvent::Freed { account, bytes } => {
                 self.tell_memory(b"memory_free", account, bytes)
             }
+            HostEvent::Waits { account } => self.tell_of(b"no_room", account),
+            HostEvent::Written { account } => self.tell_of(b"room", account),
+            HostEvent::DiskFull { account } => self.tell_disk(b"disk_full", account),
+            HostEvent::DiskFreed { account } => self.tell_disk(b"disk_free", account),
+            HostEvent::CodesFull { account } => self.tell_codes(account),
+            HostEvent::AwaitsEnd { account } => self.tell_awaited(account),
         }
     }
 
@@ -267,6 +340,8 @@ where
     }
 
     fn attend<P: Performer, V: HostView>(&self, performer: &mut P, host: &V) {
+        // Each has a journal on the disk now, if only its heading. If that can't be noted, a later start doesn't miss one.
+        let _ = note_started(self.rt, self.alloc, self.folder, self.keys);
         let _ = self.tell_ready();
         let mut attending = Attending {
             program: self,

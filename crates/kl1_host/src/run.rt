@@ -8,15 +8,18 @@ ghost use Rattle.kl1_host.specs.Setups.{IsSynced, IsSetUp};
 use crate::accounts::{Accounts, accounts_in};
 use crate::fault::Fault;
 use crate::folder::{SOCKET, path_in};
-use crate::journals::files_of;
+use crate::journals::{files_of, remove_spares};
 use crate::lock::lock_folder;
 use crate::log::Log;
 use crate::machine::ThisMachine;
+use crate::open_files::fit_connections;
+use crate::paces::Paces;
 use crate::program::Program;
 use crate::repair::{cut_journal, word_of_now};
 use crate::settings::settings_of;
 use crate::sockets::{bind, socket_of};
 use crate::start_words::start_fault;
+use crate::started::refuse_missing;
 use crate::web::sites_of;
 use kl1_host_front::{Field, Pauses, Settings, Sync as Syncs};
 use kl1_host_web::{LoginKeys, SessionBook};
@@ -32,7 +35,7 @@ use std::sync::{Mutex, Wait};
 use std::thread::Threads;
 use std::time::{Clock, Duration, Instant};
 
-/// How long after a change it is written if no reply waits for it, in milliseconds.
+/// How long after a change it is written at the latest, in milliseconds: who ends a host by a signal loses no more.
 const WRITTEN_AFTER: u64 = 100;
 
 /// When journals are written, and whether replies wait for it.
@@ -46,11 +49,11 @@ fn syncing_of(sync: Syncs) -> Syncing
         },
         Syncs::Every(period) => Syncing {
             replies_wait: false,
-            period: Duration::from_millis(period),
+            period: Duration::from_millis(period.min(WRITTEN_AFTER)),
         },
         Syncs::Never => Syncing {
             replies_wait: false,
-            period: Duration::from_secs(1),
+            period: Duration::from_millis(WRITTEN_AFTER),
         },
     }
 }
@@ -67,11 +70,14 @@ fn setup_of(settings: &Settings, accounts: usize) -> Setup
         connections: settings.connections as usize,
         limits: Limits {
             each: settings.connections_each as usize,
+            waiting_each: settings.waiting_each as usize,
             idle: Duration::from_millis(settings.idle),
+            idle_login: Duration::from_millis(settings.idle_login),
         },
         syncing: syncing_of(settings.sync),
         codes_each: settings.codes_each,
         memory_each: settings.memory_each,
+        disk_each: settings.disk_each,
     }
 }
 
@@ -100,7 +106,11 @@ where
     for _ in 0..keys.len().saturating_add(1) {
         let files = files_of(program.log, program.folder, keys, repair)?;
         match run_host(rt, alloc, program.listeners, program, files, setup) {
-            Ok(_files) => return Ok(()),
+            Ok(files) => {
+                drop(files);
+                remove_spares(program.log, program.folder, keys);
+                return Ok(());
+            }
             Err(StartFault::Unaccepted { account, line }) if repairs => {
                 let name = program.name_of(account);
                 cut_journal(rt, alloc, program.folder, name, line, word.as_str())?;
@@ -129,6 +139,7 @@ where
 {
     let settings = settings_of(rt, folder)?;
     let accounts = accounts_in(rt, folder)?;
+    refuse_missing(rt, folder, accounts.keys.as_slice())?;
     let clients = bind(rt, alloc, settings.listen.as_str())?;
     let browsers = match &settings.web {
         Some(address) => Some(bind(rt, alloc, address.as_str())?),
@@ -168,6 +179,7 @@ where
     let (rt, alloc, settings) = (log.rt, log.alloc, &opened.settings);
     let pauses = Mutex::new(Pauses::new(alloc)?);
     let sessions = Mutex::new(SessionBook::<K>::new(alloc)?);
+    let paces = Paces::new();
     let sites = sites_of(alloc, settings, opened.browsers.as_ref())?;
     let program = Program {
         rt,
@@ -175,11 +187,14 @@ where
         folder,
         keys: opened.accounts.keys.as_slice(),
         memory_each: settings.memory_each,
+        disk_each: settings.disk_each,
+        codes_each: opened.settings.codes_each,
         pauses: &pauses,
         sessions: &sessions,
         sites: sites.as_slice(),
         idle: settings.idle.div_ceil(1_000),
         machine: ThisMachine { rt },
+        paces: &paces,
         log,
         listeners: Listeners {
             clients: &opened.clients,
@@ -213,14 +228,19 @@ where
 {
     let alloc = rt.alloc();
     let _lock = lock_folder(rt, alloc, folder, "one host at a time")?;
-    let opened = opened(rt, alloc, folder)?;
+    let mut opened = opened(rt, alloc, folder)?;
     let log = Log { rt, alloc };
     let folder_field = Field {
         name: b"folder",
         value: folder.as_bytes(),
     };
     log.tell(b"start", &[folder_field]);
-    let ended = run_opened::<R, Brand>(&log, folder, &opened, repairs, asker);
+    let accounts = opened.accounts.keys.len();
+    let fitted = fit_connections(&log, &mut opened.settings, accounts);
+    let ended = match fitted {
+        Ok(()) => run_opened::<R, Brand>(&log, folder, &opened, repairs, asker),
+        Err(fault) => Err(fault),
+    };
     let _ = fs::remove_file(rt, path_in(alloc, folder, SOCKET)?.as_str());
     if ended.is_ok() {
         log.tell(b"end", &[]);

@@ -11,7 +11,7 @@ use kl1_host_web::{
 };
 use kl1_host_work::{HostView, Performer};
 use kl1_session::Door;
-use kl1_user_events::{Extent, GoalNo, GoalView, Presence, ShoenNo, ShoenView, Usage};
+use kl1_user_events::{Event, Extent, GoalNo, GoalView, Presence, ShoenNo, ShoenView, Usage};
 use std::alloc::{AllocError, Global};
 use std::fs;
 use std::net::{SocketAddr, TcpListener};
@@ -90,30 +90,49 @@ pub struct AccountViewer<'w, V: HostView> {
     host: &'w V,
     account: usize,
     most_bytes: u64,
+    /// Whether an answer may be made.
+    may_answer: bool,
+}
+
+impl<V: HostView> AccountViewer<'_, V> {
+    /// Refuses memory if no answer may be made.
+    fn refuse_more(&self) -> Result<(), AllocError> {
+        if self.may_answer {
+            Ok(())
+        } else {
+            Err(AllocError)
+        }
+    }
 }
 
 impl<V: HostView> Viewer for AccountViewer<'_, V> {
     fn shoens_from(&mut self, from: ShoenNo, count: usize) -> Result<Vec<ShoenView>, AllocError> {
+        self.refuse_more()?;
         self.host.shoens_from(self.account, from, count)
     }
 
     fn goals_from(&mut self, from: GoalNo, count: usize) -> Result<Vec<GoalView>, AllocError> {
+        self.refuse_more()?;
         self.host.goals_from(self.account, from, count)
     }
 
     fn goal_text(&mut self, goal: GoalNo, extent: Extent) -> Result<Option<Vec<u8>>, AllocError> {
+        self.refuse_more()?;
         self.host.goal_text(self.account, goal, extent)
     }
 
     fn awaited(&mut self, goal: GoalNo) -> Result<Option<Vec<u32>>, AllocError> {
+        self.refuse_more()?;
         self.host.awaited(self.account, goal)
     }
 
     fn presence(&mut self, goal: GoalNo, variable: u64, most: u64) -> Result<Presence, AllocError> {
+        self.refuse_more()?;
         self.host.presence(self.account, goal, variable, most)
     }
 
     fn usage(&mut self) -> Result<Usage, AllocError> {
+        self.refuse_more()?;
         self.host.usage(self.account)
     }
 
@@ -140,6 +159,11 @@ pub fn disk_of<R: Files>(
         Ok(attributes) => attributes.len(),
         Err(_) => 0,
     })
+}
+
+/// Whether a command closes a session.
+fn is_logout(command: &Command) -> bool {
+    matches!(command, Command::Does(Event::Logout))
 }
 
 /// The accounts of a host, for one connection of a browser.
@@ -173,7 +197,11 @@ impl<'w, R: Wait + Clock + Eprint + Files, P: Performer, V: HostView> Accounts
     }
 
     fn open(&mut self, name: &[u8], key: &[u8]) -> Option<usize> {
-        self.door.open(name, key)
+        let found = self.door.open(name, key);
+        if found.is_some() {
+            self.host.let_in();
+        }
+        found
     }
 
     fn put_name(&self, account: usize, out: &mut Vec<u8>) -> Result<(), AllocError> {
@@ -184,18 +212,27 @@ impl<'w, R: Wait + Clock + Eprint + Files, P: Performer, V: HostView> Accounts
     }
 
     fn act(&mut self, account: usize, command: &Command) -> Performed {
-        let performed = self.performer.perform(account, command);
+        // A session is closed whoever reads.
+        let may_answer = is_logout(command) || self.host.begin_answer(account);
+        let performed = if may_answer {
+            self.performer.perform(account, command)
+        } else {
+            Performed::Memory
+        };
         self.record
             .did(Snapshot::of(&account), Snapshot::of(command), &performed);
         performed
     }
 
     fn look(&mut self, account: usize) -> AccountViewer<'w, V> {
+        // The door of the page lets none look at an account but who has the cookie and the token of its session.
+        self.host.let_in();
         self.record.looked(account);
         AccountViewer {
             host: self.host,
             account,
             most_bytes: self.most_bytes,
+            may_answer: self.host.begin_answer(account),
         }
     }
 
@@ -209,9 +246,9 @@ impl<'w, R: Wait + Clock + Eprint + Files, P: Performer, V: HostView> Accounts
             None => Ok(0),
         };
         Measures {
-            entries: match self.host.usage(account) {
-                Ok(usage) => usage.entries.count,
-                Err(_) => 0,
+            entries: match self.host.sight(account) {
+                (Some(sight), _) => sight.usage.entries.count,
+                (None, _) => 0,
             },
             bytes: bytes.unwrap_or(0),
         }
@@ -224,12 +261,12 @@ impl<'w, R: Wait + Clock + Eprint + Files, P: Performer, V: HostView> Accounts
             events: 0,
             steps: 0,
         };
+        self.host.ask_all();
         for account in 0..self.door.keys.len() {
-            let sessions = self.host.sessions(account).unwrap_or(0);
-            sums.sessions = sums.sessions.saturating_add(sessions);
-            if let Ok(counted) = self.host.counted(account) {
-                sums.events = sums.events.saturating_add(counted.events);
-                sums.steps = sums.steps.saturating_add(counted.steps);
+            if let (Some(sight), _) = self.host.sight(account) {
+                sums.sessions = sums.sessions.saturating_add(sight.sessions);
+                sums.events = sums.events.saturating_add(sight.counted.events);
+                sums.steps = sums.steps.saturating_add(sight.counted.steps);
             }
         }
         sums

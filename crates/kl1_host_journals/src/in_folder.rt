@@ -9,6 +9,7 @@ use std::fs::{self, File, OpenFile, OpenOptions};
 use std::io::{self, Read, Write};
 use std::os::unix::fs::OpenOptionsExt;
 use std::rt::Files;
+use std::time::Clock;
 
 /// A new file is for its owner alone.
 const FILE_MODE: u32 = 0o600;
@@ -37,7 +38,7 @@ fn keep_aside<R: Files>(
 
 /// Opens the file of the journal of `name` in a folder. A fault is repaired if `repair` is a word for the name of the file in which what
 /// was there is kept: it is written before anything is changed.
-pub fn open_in_folder<'r, R: Files>(
+pub fn open_in_folder<'r, R: Files + Clock>(
     rt: &'r R,
     alloc: Global,
     folder: &str,

@@ -85,6 +85,11 @@ impl Keeper {
         notes.note_for(journal, generation, number, outgoing)
     }
 
+    /// How many bytes wait.
+    pub fn waiting_bytes<W: Wait>(&self, rt: &W) -> usize {
+        self.notes.lock(rt).bytes()
+    }
+
     /// Takes what waits.
     pub(crate) fn take<W: Wait>(&self, rt: &W) -> Batch {
         self.notes.lock(rt).take()

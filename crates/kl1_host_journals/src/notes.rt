@@ -44,6 +44,11 @@ impl Notes {
         Ok(())
     }
 
+    /// How many bytes wait.
+    pub fn bytes(&self) -> usize {
+        self.waiting.bytes()
+    }
+
     /// Takes what waits, after which nothing does.
     pub fn take(&mut self) -> Batch
         ensures taken { IsTaken (waiting_of self.old) (waiting_of self.new) result }

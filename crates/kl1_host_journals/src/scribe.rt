@@ -82,12 +82,14 @@ impl<'k, D: Disk + Drop> Scribe<'k, D> {
     /// Writes what waits whenever the account's bell rings, and after each `period`, when it also asks who commands the account next to note
     /// it. Ends when the bell says so, after one more turn.
     pub fn work<W: Wait + Clock, F: FaultTeller>(&mut self, rt: &W, period: Duration, faults: &F) {
+        self.file.make_ready();
         for _ in rt.forever() {
             let is_ending = self.keeper.bell().wait(rt, period);
             self.write(rt, faults);
             if is_ending {
                 return;
             }
+            self.file.make_ready();
             self.keeper.call_for_notes();
         }
     }

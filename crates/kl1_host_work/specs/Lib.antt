@@ -1,4 +1,5 @@
 pub mod AccountFiles
+pub mod Filling
 pub mod Fronts
 pub mod Linkages
 pub mod Overruns
@@ -6,3 +7,4 @@ pub mod Restarts
 pub mod Standings
 pub mod Refusals
 pub mod Stages
+pub mod Strangers

@@ -10,7 +10,9 @@ use crate::connections::Desk;
 use crate::front::Front;
 use crate::handler::HostHandler;
 use crate::host::Host;
+use crate::lobby::Limits;
 use crate::view::View;
+use crate::visit::{Visit, VisitReader, WatchedDoor};
 use kl1_host_journals::{Outgoing, SyncedWriter};
 use kl1_lines::{FailureCounter, Sink, Source};
 use kl1_pool::{Pool, PoolIds, Share};
@@ -18,9 +20,9 @@ use kl1_pool_history::History;
 use kl1_session::{Disconnect, Door};
 use std::alloc::Global;
 use std::cell::Cell;
-use std::net::{SocketAddr, TcpStream};
+use std::net::SocketAddr;
 use std::sync::Wait;
-use std::time::Duration;
+use std::time::Clock;
 
 /// The bytes of one read. They bound what one connection may have read and not yet answered.
 pub(crate) const PIECE: usize = 4_096;
@@ -55,31 +57,24 @@ pub fn serve<'p, 't, S: Source, T: Sink, W: Wait, R: Wait, K: PoolIds, D: Door>(
     (served, history.into_share())
 }
 
-/// Lets replies go out at once, and a peer that is gone hold no session for good. A socket that can't do this serves all the same.
-fn set_up(stream: &TcpStream, idle: Duration) {
-    let _ = stream.set_nodelay(true);
-    let _ = stream.set_read_timeout(Some(idle));
-    let _ = stream.set_write_timeout(Some(idle));
-}
-
-/// Serves one connection over a socket, closes it if it is silent for `idle`, and gives the share back.
-pub(crate) fn serve_lines<'t, W: Wait, R: Wait, K: PoolIds, D: Door>(
+/// Serves one connection over a socket, closes it if it is silent for too long or if no key lets in soon, and gives the share back.
+pub(crate) fn serve_lines<'t, W: Wait + Clock, R: Wait, K: PoolIds, D: Door + Drop>(
     rt: &W,
     alloc: Global,
-    stream: &TcpStream,
+    visit: &Visit,
     pool: &Pool<'t, R, K>,
     host: Host<'_>,
-    idle: Duration,
-    door: &mut D,
+    limits: Limits,
+    door: D,
     share: Share<K>,
 ) -> (Disconnect, Share<K>)
-    requires { D.accounts door.old ≤ K.accounts }
+    requires { D.accounts door ≤ K.accounts }
 {
-    set_up(stream, idle);
     let outgoing = Cell::new(Outgoing::new());
-    let mut source = FailureCounter::new(stream);
-    let writer = SyncedWriter::new(stream, rt, host.keepers, &outgoing);
+    let mut source = FailureCounter::new(VisitReader::new(rt, visit, limits, &[]));
+    let writer = SyncedWriter::new(visit.stream(), rt, host.keepers, &outgoing);
     let mut sink = FailureCounter::new(writer);
+    let mut door = WatchedDoor { door, visit };
     serve(
         rt,
         alloc,
@@ -88,20 +83,19 @@ pub(crate) fn serve_lines<'t, W: Wait, R: Wait, K: PoolIds, D: Door>(
         pool,
         host,
         &outgoing,
-        door,
+        &mut door,
         share,
     )
 }
 
 /// Serves one connection of a browser over a socket, closes it if it is silent for too long, and gives the share back.
-pub(crate) fn serve_pages<'p, 't, F: Front, W: Wait, R: Wait, K: PoolIds>(
+pub(crate) fn serve_pages<'p, 't, F: Front, W: Wait + Clock, R: Wait, K: PoolIds>(
     rt: &'p W,
     desk: &'p Desk<'p, 't, F, R, K>,
-    stream: &TcpStream,
+    visit: &Visit,
     address: SocketAddr,
     share: Share<K>,
 ) -> Share<K> {
-    set_up(stream, desk.limits.idle);
     let outgoing = Cell::new(Outgoing::new());
     let mut performer = HostHandler {
         rt,
@@ -114,12 +108,15 @@ pub(crate) fn serve_pages<'p, 't, F: Front, W: Wait, R: Wait, K: PoolIds>(
         rt,
         desk,
         outgoing: Some(&outgoing),
+        visit: Some(visit),
     };
-    let mut source = FailureCounter::new(stream);
-    let writer = SyncedWriter::new(stream, rt, desk.host.keepers, &outgoing);
+    let answers = desk.board.answers();
+    let mut source = FailureCounter::new(VisitReader::new(rt, visit, desk.limits, answers));
+    let writer = SyncedWriter::new(visit.stream(), rt, desk.host.keepers, &outgoing);
     let mut sink = FailureCounter::new(writer);
     desk.front
         .serve_pages(address, &mut source, &mut sink, &mut performer, &view);
+    visit.end_answer(answers);
     let HostHandler { history, .. } = performer;
     history.into_share()
 }

@@ -3,10 +3,12 @@
 ghost use Rattle.std.specs.Prelude.{◌≡◌};
 ghost use Rattle.kl1_host_work.specs.Fronts.{AreAccountsOf};
 
+use crate::board::Board;
 use crate::connection::{serve_lines, serve_pages};
 use crate::front::{Front, HostEvent};
 use crate::host::Host;
-use crate::lobby::{Limits, Lobby};
+use crate::lobby::{Admission, Limits, Lobby};
+use crate::visit::Visit;
 use kl1_pool::{Pool, PoolIds, Share};
 use std::alloc::Global;
 use std::net::{Net, SocketAddr, TcpListener, TcpStream};
@@ -33,6 +35,7 @@ pub(crate) struct Desk<'d, 't, F: Front, R: Wait, K: PoolIds> {
     pub(crate) front: &'d F,
     pub(crate) pool: &'d Pool<'t, R, K>,
     pub(crate) lobby: &'d Lobby<K>,
+    pub(crate) board: &'d Board,
     pub(crate) host: Host<'d>,
     pub(crate) limits: Limits,
     pub(crate) alloc: Global,
@@ -44,6 +47,7 @@ impl<'d, 't, F: Front, R: Wait, K: PoolIds> Desk<'d, 't, F, R, K> {
         front: &'d F,
         pool: &'d Pool<'t, R, K>,
         lobby: &'d Lobby<K>,
+        board: &'d Board,
         host: Host<'d>,
         limits: Limits,
         alloc: Global,
@@ -54,6 +58,7 @@ impl<'d, 't, F: Front, R: Wait, K: PoolIds> Desk<'d, 't, F, R, K> {
             front,
             pool,
             lobby,
+            board,
             host,
             limits,
             alloc,
@@ -62,54 +67,140 @@ impl<'d, 't, F: Front, R: Wait, K: PoolIds> Desk<'d, 't, F, R, K> {
 }
 
 /// Serves a connection of a client, and gives the share back.
-fn serve_client<'t, F: Front, W: Wait, R: Wait, K: PoolIds>(
+fn serve_client<'t, F: Front, W: Wait + Clock, R: Wait, K: PoolIds>(
     rt: &W,
     desk: &Desk<'_, 't, F, R, K>,
-    stream: &TcpStream,
+    visit: &Visit,
     address: SocketAddr,
     share: Share<K>,
 ) -> Share<K>
     requires { AreAccountsOf (F.names desk.now.front.now) K.names K.accounts }
 {
     desk.front.tell(HostEvent::Opened(address));
-    let mut door = desk.front.door(address);
+    let door = desk.front.door(address);
     let (served, share) = serve_lines(
         rt,
         desk.alloc,
-        stream,
+        visit,
         desk.pool,
         desk.host,
-        desk.limits.idle,
-        &mut door,
+        desk.limits,
+        door,
         share,
     );
     desk.front.tell(HostEvent::Closed(address, served));
     share
 }
 
-/// Serves a connection that was let in by this number, and gives the share back.
-fn serve_visitor<'t, F: Front, W: Wait, R: Wait, K: PoolIds>(
+/// Serves a connection that was let in by this number, with the share that is kept for it, and gives that back.
+fn serve_visitor<'t, F: Front, W: Wait + Clock, R: Wait, K: PoolIds>(
     rt: &W,
     desk: &Desk<'_, 't, F, R, K>,
-    stream: Arc<TcpStream, Global>,
+    visit: Arc<Visit, Global>,
     address: SocketAddr,
     peers: Peers,
     number: u64,
-    share: Share<K>,
 )
     requires { AreAccountsOf (F.names desk.now.front.now) K.names K.accounts }
 {
-    let share = match peers {
-        Peers::Clients => serve_client(&*rt, &*desk, &*stream, address, share),
-        Peers::Browsers => serve_pages(&*rt, &*desk, &*stream, address, share),
-    };
-    drop(stream);
-    desk.lobby.give_back(rt, share);
+    if let Some(share) = desk.lobby.take_share(rt, number) {
+        let share = match peers {
+            Peers::Clients => serve_client(&*rt, &*desk, &*visit, address, share),
+            Peers::Browsers => serve_pages(&*rt, &*desk, &*visit, address, share),
+        };
+        desk.lobby.give_back(rt, share);
+    }
+    drop(visit);
     desk.lobby.leave(rt, number);
 }
 
-/// Accepts connections until the host closes, and serves each in a thread of its own, or in this one if no thread can be made. When all
-/// have ended, it returns.
+/// A connection that came in and is open.
+#[derive(Drop)]
+struct Arrival {
+    visit: Arc<Visit, Global>,
+    address: SocketAddr,
+    number: u64,
+}
+
+/// What came in.
+#[derive(Drop)]
+enum Received {
+    /// A connection that is open.
+    Open(Arrival),
+    /// Nothing that is served.
+    Nothing,
+    /// Nothing, since the host is closing.
+    Closing,
+}
+
+/// Lets a connection in as soon as there is a share for it, if it may. Others that have shown no key give way to it.
+fn arrival_of<'t, F: Front, N: Wait + Clock, R: Wait, K: PoolIds>(
+    rt: &N,
+    desk: &Desk<'_, 't, F, R, K>,
+    visit: Arc<Visit, Global>,
+    address: SocketAddr,
+) -> Received {
+    for _ in rt.forever() {
+        match desk.lobby.admit(rt, &visit, address, desk.limits) {
+            Admission::Open(number) => {
+                return Received::Open(Arrival {
+                    visit,
+                    address,
+                    number,
+                });
+            }
+            Admission::TurnedAway => {
+                desk.front.tell(HostEvent::TurnedAway(address));
+                return Received::Nothing;
+            }
+            // A host that is closing wakes this accept by a connection of its own.
+            Admission::Closing => return Received::Closing,
+            Admission::Awaits(oldest) => {
+                desk.front.tell(HostEvent::GaveWay(oldest));
+                desk.lobby.wait_for_share(rt, true);
+            }
+            Admission::Waits => desk.lobby.wait_for_share(rt, false),
+        }
+    }
+    Received::Nothing
+}
+
+/// Waits for the next connection, and lets it in if it may.
+fn receive<'t, F: Front, N: Wait + Clock, R: Wait, K: PoolIds>(
+    rt: &N,
+    listener: &TcpListener,
+    desk: &Desk<'_, 't, F, R, K>,
+) -> Received {
+    let Ok((stream, address)) = listener.accept() else {
+        if desk.lobby.is_closing(rt) {
+            return Received::Closing;
+        }
+        thread::sleep(rt, Duration::from_millis(PAUSE_MILLISECONDS));
+        return Received::Nothing;
+    };
+    match Arc::new(desk.alloc, Visit::new(stream)) {
+        Ok(visit) => arrival_of(rt, desk, visit, address),
+        Err(_) => Received::Nothing,
+    }
+}
+
+/// Takes in that no thread can be made for the connection of this number: the oldest that has shown no key is told to end, and it is waited
+/// a short time for that.
+fn make_room<'t, F: Front, N: Wait + Clock, R: Wait, K: PoolIds>(
+    rt: &N,
+    desk: &Desk<'_, 't, F, R, K>,
+    number: u64,
+) {
+    if let Some(oldest) = desk.lobby.make_room(rt, number) {
+        desk.front.tell(HostEvent::GaveWay(oldest));
+        desk.lobby.wait_for_leave(rt);
+        // Its thread has a last step to go.
+        thread::sleep(rt, Duration::from_millis(PAUSE_MILLISECONDS));
+    }
+}
+
+/// Accepts connections until the host closes, and serves each in a thread of its own; one for which no thread can be made is closed. When
+/// all have ended, it returns.
 pub(crate) fn serve_each<'t, F: Front + Sync, N, R: Wait + Sync, K: PoolIds + Send + Sync>(
     rt: &N,
     listener: &TcpListener,
@@ -128,38 +219,28 @@ where
             requires { AreAccountsOf (F.names desk.now.front.now) K.names K.accounts }
         {
             for _ in rt.forever() {
-                let Some(share) = desk.lobby.share(rt) else {
-                    return;
+                let arrival = match receive(rt, listener, desk) {
+                    Received::Open(arrival) => arrival,
+                    Received::Nothing => continue,
+                    Received::Closing => return,
                 };
-                let Ok((stream, address)) = listener.accept() else {
-                    desk.lobby.give_back(rt, share);
-                    thread::sleep(rt, Duration::from_millis(PAUSE_MILLISECONDS));
+                let Arrival {
+                    visit,
+                    address,
+                    number,
+                } = arrival;
+                let job = move || serve_visitor(rt, desk, visit, address, peers, number);
+                // A thread whose handle is dropped leaves nothing when it ends, and the scope waits for it all the same.
+                let Err(failed) = scope.spawn(job) else {
                     continue;
                 };
-                let Ok(stream) = Arc::new(desk.alloc, stream) else {
-                    desk.lobby.give_back(rt, share);
-                    continue;
-                };
-                let Some(number) = desk
-                    .lobby
-                    .admit(rt, &stream, address.ip(), desk.limits.each)
-                else {
-                    desk.lobby.give_back(rt, share);
-                    // A host that is closing wakes this accept by a connection of its own.
-                    if !desk.lobby.is_closing(rt) {
-                        desk.front.tell(HostEvent::TurnedAway(address));
-                    }
-                    continue;
-                };
-                match scope.spawn(move || {
-                    serve_visitor(rt, desk, stream, address, peers, number, share)
-                }) {
-                    // A thread whose handle is dropped leaves nothing when it ends, and the scope waits for it all the same.
-                    Ok(handle) => drop(handle),
-                    Err(failed) => {
-                        let thread::SpawnError { value: here, .. } = failed;
-                        here();
-                    }
+                let thread::SpawnError { value: job, .. } = failed;
+                make_room(rt, desk, number);
+                if let Err(failed) = scope.spawn(job) {
+                    // It isn't served here: this thread would then wait for who has connected. With what it was to do it is closed.
+                    drop(failed);
+                    desk.lobby.leave(rt, number);
+                    desk.front.tell(HostEvent::Unserved(address));
                 }
             }
         },

@@ -4,6 +4,7 @@ ghost use Rattle.std.specs.Prelude.{◌≡◌};
 ghost use Rattle.kl1_command.specs.Commands.{command_view};
 ghost use Rattle.kl1_host_work.specs.Refusals.{is_logout, is_refused, source_bytes};
 
+use crate::filling::{has_no_room, is_of_sessions, is_short, note_done};
 use crate::front::Performer;
 use crate::host::Host;
 use crate::noting::note_told;
@@ -36,6 +37,14 @@ fn source_bytes(command: &Command) -> usize
     }
 }
 
+/// The source that a command loads; `None` if it is no load.
+fn source_of(command: &Command) -> Option<&[u8]> {
+    match command {
+        Command::Does(Event::Load { source }) => Some(source.as_slice()),
+        _ => None,
+    }
+}
+
 /// Whether a command is a logout, which each account answers.
 fn is_logout(command: &Command) -> bool
     ensures { result ≡ is_logout (command_view command.now) }
@@ -62,18 +71,42 @@ impl<'p, 't, W: Wait, R: Wait, K: PoolIds> HostHandler<'p, 't, W, R, K> {
             Some(keeper) => keeper.on_disk().is_stopped(),
             None => true,
         };
+        let left = self.left(account, command);
+        if left < source_bytes(command) as u64
+            && let Some(sources) = self.host.sources.get(account)
+        {
+            sources.refuse();
+        }
+        is_refused(command, is_stopped, left)
+    }
+
+    /// How many bytes of sources an account may still load, without end if it has loaded just this one before.
+    fn left(&self, account: usize, command: &Command) -> u64 {
         match self.host.budgets.get(account) {
-            Some(budget) => is_refused(command, is_stopped, budget.left()),
-            None => is_refused(command, true, 0),
+            Some(_) if self.is_known(account, command) => u64::MAX,
+            Some(budget) => budget.left(),
+            None => 0,
         }
     }
 
-    /// Counts a source that was loaded.
-    fn count(&self, account: usize, bytes: usize, performed: &Performed) {
+    /// Whether a command loads a source that its account has loaded before.
+    fn is_known(&self, account: usize, command: &Command) -> bool {
+        match (source_of(command), self.host.sources.get(account)) {
+            (Some(source), Some(sources)) => sources.knows(self.rt, source),
+            _ => false,
+        }
+    }
+
+    /// Counts a source that was loaded, unless it was loaded before.
+    fn count(&self, account: usize, command: &Command, performed: &Performed) {
         if is_loaded(performed)
+            && !self.is_known(account, command)
+            && let Some(source) = source_of(command)
             && let Some(budget) = self.host.budgets.get(account)
+            && let Some(sources) = self.host.sources.get(account)
         {
-            budget.spend(bytes);
+            budget.spend(source.len());
+            sources.add(self.rt, source);
         }
     }
 }
@@ -90,12 +123,16 @@ impl<'p, 't, W: Wait, R: Wait, K: PoolIds> CommandHandler for HostHandler<'p, 't
     ghost beside = { λ handler. handler.history.begun };
 
     fn act(&mut self, account: usize, command: &Command) -> Performed {
-        if self.is_refused(account, command) {
+        if self.is_refused(account, command) || has_no_room(self.rt, self.host, account, command) {
             return self.history.refuse(account, command);
         }
         let performed = self.history.act(self.rt, self.pool, account, command);
-        note_told(self.rt, self.pool, self.host, self.outgoing, account);
-        self.count(account, source_bytes(command), &performed);
+        note_done(self.host, account, command);
+        // A session that is opened while the disk is full tells nothing of the account, so its reply waits for nothing: a reset may follow.
+        if !(is_of_sessions(command) && is_short(self.host, account)) {
+            note_told(self.rt, self.pool, self.host, self.outgoing, account);
+        }
+        self.count(account, command, &performed);
         performed
     }
 }

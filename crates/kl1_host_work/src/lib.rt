@@ -2,9 +2,12 @@
 //! is told to clients is on disk.
 #![tactic(auto)]
 
+mod answers;
+mod board;
 mod budget;
 mod connection;
 mod connections;
+mod filling;
 mod front;
 mod handler;
 mod host;
@@ -14,13 +17,16 @@ mod noting;
 mod overruns;
 mod restoring;
 mod running;
+mod sources;
 mod start_fault;
 mod starting;
 mod view;
+mod visit;
+mod watching;
 
 pub use budget::Budget;
 pub use connection::serve;
-pub use front::{Front, HostEvent, HostView, Performer};
+pub use front::{Front, HostEvent, HostView, Performer, Sight};
 pub use handler::HostHandler;
 pub use host::{Host, Syncing};
 pub use kl1_host_journals::{Keeper, OpenFault, Outgoing};

@@ -7,7 +7,9 @@ ghost use Rattle.kl1_host_work.specs.Stages.{AreWaiting, AreStanding};
 
 use crate::budget::Budget;
 use crate::front::{Front, HostEvent};
+use crate::host::FileRoom;
 use crate::linking::link_account;
+use crate::sources::Sources;
 use crate::start_fault::StartFault;
 use kl1_host_journals::{Keeper, Linked, OpenedFile};
 use kl1_journal_entries::Journal;
@@ -31,6 +33,9 @@ pub(crate) struct Shelf<D: Disk> {
     pub(crate) files: Vec<LogFile<D>>,
     pub(crate) keepers: Vec<Keeper>,
     pub(crate) budgets: Vec<Budget>,
+    pub(crate) rooms: Vec<FileRoom>,
+    pub(crate) sources: Vec<Sources>,
+    alloc: Global,
 }
 
 /// Does the entries of a journal to an account in which nothing has happened; answers how many they are.
@@ -69,6 +74,9 @@ impl<D: Disk + Drop> Shelf<D> {
             files: Vec::with_capacity(alloc, accounts)?,
             keepers: Vec::with_capacity(alloc, accounts)?,
             budgets: Vec::with_capacity(alloc, accounts)?,
+            rooms: Vec::with_capacity(alloc, accounts)?,
+            sources: Vec::with_capacity(alloc, accounts)?,
+            alloc,
         })
     }
 
@@ -81,9 +89,11 @@ impl<D: Disk + Drop> Shelf<D> {
             notes,
             receipt,
         } = linked;
+        self.rooms.push(file.disk().room())?;
         self.files.push(file)?;
         self.keepers.push(Keeper::new(notes, receipt))?;
         self.budgets.push(Budget::new(bytes))?;
+        self.sources.push(Sources::new(self.alloc))?;
         Ok(())
     }
 }

@@ -3,16 +3,16 @@
 ghost use Rattle.kl1_host_work.specs.Fronts.{AreAccountsOf};
 
 use crate::connections::{Desk, Peers, serve_each};
+use crate::filling::close_rooms;
 use crate::front::{Front, HostEvent};
 use crate::handler::HostHandler;
 use crate::host::Host;
 use crate::noting::note;
-use crate::overruns::change_of;
 use crate::start_fault::StartFault;
 use crate::view::View;
+use crate::watching::{tell_waits, watch};
 use kl1_host_journals::{Bell, FaultTeller, Keeper, Outgoing, Scribe};
 use kl1_log::{Disk, LogError, LogFile};
-use kl1_model::limits::MOST_ACCOUNTS;
 use kl1_pool::{Gate, Pool, PoolIds, Share, worker};
 use kl1_pool_history::History;
 use std::alloc::{AllocError, Global};
@@ -20,11 +20,8 @@ use std::cell::Cell;
 use std::net::{Net, TcpListener, TcpStream};
 use std::sync::Wait;
 use std::thread;
-use std::thread::Threads;
+use std::thread::{JoinHandle, Threads};
 use std::time::{Clock, Duration};
-
-/// After how many milliseconds accounts are looked at again at the latest, for the bytes that they take.
-const LOOKED_AT_AFTER: u64 = 1_000;
 
 /// The gate of the host's workers, which holds nobody.
 #[derive(Clone, Copy)]
@@ -69,47 +66,6 @@ fn note_all<'t, W: Wait, R: Wait, K: PoolIds>(rt: &W, pool: &Pool<'t, R, K>, hos
     }
 }
 
-/// Tells the front which accounts have come to take more bytes than they may since they were looked at last, and which no longer do.
-fn tell_changes<'t, F: Front, W: Wait, R: Wait, K: PoolIds>(
-    rt: &W,
-    desk: &Desk<'_, 't, F, R, K>,
-    over: &mut [bool],
-) {
-    let most = desk.host.memory_each;
-    for account in 0..desk.pool.accounts() {
-        if account < over.len()
-            && let Some(bytes) = desk.pool.bytes(rt, account)
-            && let Some(event) = change_of(over, account, bytes, most)
-        {
-            desk.front.tell(event);
-        }
-    }
-}
-
-/// Notes after each period what workers have done to accounts that nobody commands, and tells which accounts have come to take more bytes
-/// than they may, until it is to end. It waits for an account that is in the midst of a reduction, and nobody waits for it.
-fn watch<'t, F: Front, W: Wait + Clock, R: Wait, K: PoolIds>(
-    rt: &W,
-    desk: &Desk<'_, 't, F, R, K>,
-    until: &Bell,
-) {
-    let mut over = [false; MOST_ACCOUNTS];
-    let period = desk.host.syncing.period;
-    let pause = period.min(Duration::from_millis(LOOKED_AT_AFTER));
-    let mut left = period;
-    for _ in rt.forever() {
-        if until.wait(rt, pause) {
-            return;
-        }
-        left = left.saturating_sub(pause);
-        if left.is_zero() {
-            note_all(rt, desk.pool, desk.host);
-            left = period;
-        }
-        tell_changes(rt, desk, &mut over);
-    }
-}
-
 /// Where connections come in.
 #[derive(Clone, Copy)]
 pub struct Listeners<'l> {
@@ -127,7 +83,7 @@ fn wake<N: Net<Listener = TcpListener, Stream = TcpStream>>(rt: &N, listener: &T
 }
 
 /// Lets the program attend to a host if all its threads are there, with a share for the commands that it does.
-fn attend<'p, 't, F: Front, N: Wait, R: Wait, K: PoolIds>(
+fn attend<'p, 't, F: Front, N: Wait + Clock, R: Wait, K: PoolIds>(
     rt: &'p N,
     desk: &'p Desk<'p, 't, F, R, K>,
     all_are_there: bool,
@@ -148,6 +104,7 @@ fn attend<'p, 't, F: Front, N: Wait, R: Wait, K: PoolIds>(
         rt,
         desk,
         outgoing: None,
+        visit: None,
     };
     desk.front.attend(&mut performer, &view);
 }
@@ -162,13 +119,33 @@ where
     N: Net<Listener = TcpListener, Stream = TcpStream> + Wait,
 {
     desk.lobby.close(rt);
+    // Who waits for the disk isn't to wait for room on it.
+    close_rooms(desk.host);
     wake(rt, listeners.clients);
     if let Some(browsers) = listeners.browsers {
         wake(rt, browsers);
     }
 }
 
-/// Runs a host until its program has attended to it: workers, connections, and who notes what workers do. When it returns, all of them have
+/// Ends the connections of a host, and then its workers; a reduction that is going on is waited for.
+fn wind_down<'t, F: Front, N, R: Wait, K: PoolIds>(
+    rt: &N,
+    desk: &Desk<'_, 't, F, R, K>,
+    listeners: Listeners<'_>,
+    workers: Vec<JoinHandle<()>>,
+)
+where
+    N: Net<Listener = TcpListener, Stream = TcpStream> + Threads + Wait,
+{
+    close_doors(rt, desk, listeners);
+    desk.lobby.wait_until_empty(rt);
+    desk.pool.close();
+    for worker in workers {
+        worker.join(rt);
+    }
+}
+
+/// Runs a host until its program has attended to it: workers, connections, and who looks at each account. When it returns, all of them have
 /// ended. Answers whether all threads could be made; the program attends to no other host.
 fn run_accounts<'t, F: Front + Sync, R, K: PoolIds + Send + Sync>(
     rt: &R,
@@ -182,29 +159,41 @@ where
     F::Entrance: Send,
     requires { AreAccountsOf (F.names desk.now.front.now) K.names K.accounts }
 {
-    let until = Bell::new();
-    let until = &until;
+    let over = Bell::new();
+    let over = &over;
+    // Without room for their handles workers aren't waited for before the scope ends.
+    let handles = Vec::with_capacity(desk.alloc, workers.len());
     thread::scope(
         thread::scope_env(),
         rt,
         move |scope| -> bool
             requires { AreAccountsOf (F.names desk.now.front.now) K.names K.accounts }
         {
+            let Ok(handles) = handles else {
+                return false;
+            };
+            let mut handles = handles;
             let mut number = 0u64;
             for share in workers {
                 if let Ok(handle) = scope.spawn(move || drop(work(rt, desk.pool, number, share))) {
-                    drop(handle);
+                    let _ = handles.push(handle);
                 }
                 number = number.saturating_add(1);
             }
-            let noting = scope.spawn(move || watch(rt, desk, until));
+            let mut all_are_there = true;
+            for account in 0..desk.pool.accounts() {
+                if let Some(outlook) = desk.board.outlook(account) {
+                    let watching = scope.spawn(move || watch(rt, desk, account, outlook));
+                    all_are_there = all_are_there && watching.is_ok();
+                }
+            }
             let clients = listeners.clients;
             let accepting = scope.spawn(
                 move ||
                     requires { AreAccountsOf (F.names desk.now.front.now) K.names K.accounts }
                 { serve_each(rt, clients, Peers::Clients, desk) },
             );
-            let mut all_are_there = noting.is_ok() && accepting.is_ok();
+            all_are_there = all_are_there && accepting.is_ok();
             if let Some(browsers) = listeners.browsers {
                 let showing = scope.spawn(
                     move ||
@@ -214,10 +203,11 @@ where
                 all_are_there = all_are_there && showing.is_ok();
             }
             attend(&*rt, &*desk, all_are_there, attending);
-            close_doors(rt, desk, listeners);
-            desk.lobby.wait_until_empty(rt);
-            desk.pool.close();
-            until.end(rt);
+            // Without a thread for it nobody is told for whom the host waits.
+            let _ = scope.spawn(move || tell_waits(rt, desk, over));
+            wind_down(rt, desk, listeners, handles);
+            over.end(rt);
+            desk.board.close(rt);
             all_are_there
         },
     )

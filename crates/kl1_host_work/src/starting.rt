@@ -6,6 +6,7 @@ ghost use Rattle.kl1_pool.specs.Parts.{AreUsed, used_names};
 ghost use Rattle.kl1_host_work.specs.AccountFiles.{names_of, names_used};
 ghost use Rattle.kl1_host_work.specs.Fronts.{AreAccountsOf};
 
+use crate::board::Board;
 use crate::connections::Desk;
 use crate::front::Front;
 use crate::host::{Host, Syncing};
@@ -32,14 +33,16 @@ use std::time::Clock;
 pub struct Setup {
     /// How many threads go on with accounts.
     pub workers: usize,
-    /// How many connections may be open at once; with a page for browsers one more.
+    /// How many connections may be open at once.
     pub connections: usize,
     pub limits: Limits,
     pub syncing: Syncing,
     /// How many bytes of sources each account may load.
     pub codes_each: u64,
-    /// How many bytes each account may take.
+    /// How many bytes each account may take in memory.
     pub memory_each: u64,
+    /// How many bytes the file of each account may have.
+    pub disk_each: u64,
 }
 
 /// The last `count` of some shares, or all if they are fewer; the others are left.
@@ -116,19 +119,26 @@ where
         files,
         keepers,
         budgets,
+        rooms,
+        sources,
+        ..
     } = restore_all(rt, alloc, pool, front, files, setup.codes_each, restoring)?;
     let workers = take_shares(alloc, &mut shares, setup.workers)?;
     let Some(attending) = shares.pop() else {
         return Err(StartFault::Memory);
     };
     let lobby = Lobby::new(alloc, shares)?;
+    let board = Board::new(alloc, pool.accounts())?;
     let host = Host {
         keepers: keepers.as_slice(),
         budgets: budgets.as_slice(),
+        rooms: rooms.as_slice(),
+        sources: sources.as_slice(),
         syncing: setup.syncing,
         memory_each: setup.memory_each,
+        disk_each: setup.disk_each,
     };
-    let desk = Desk::new(&*front, &*pool, &lobby, host, setup.limits, alloc);
+    let desk = Desk::new(&*front, &*pool, &lobby, &board, host, setup.limits, alloc);
     run_threads(rt, listeners, &desk, workers, attending, files)
 }
 
@@ -209,8 +219,6 @@ where
             .saturating_add(setup.connections)
             // The program attends to the host with one.
             .saturating_add(1)
-            // Who waits for the next browser has one already.
-            .saturating_add(usize::from(listeners.browsers.is_some()))
             // Accounts are restored with shares of their own.
             .saturating_add(accounts.len()),
     )?

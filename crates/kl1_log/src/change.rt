@@ -15,6 +15,14 @@ pub enum Change {
 }
 
 impl Change {
+    /// How many bytes it has.
+    pub(crate) fn len(&self) -> usize {
+        match self {
+            Change::Appends(bytes) => bytes.len(),
+            Change::Begins(bytes) => bytes.len(),
+        }
+    }
+
     /// Adds lines that the file gets after it.
     pub(crate) fn extend(&mut self, bytes: &[u8]) -> Result<(), AllocError>
         ensures ok { OnOk result (IsExtended self.old bytes.now self.new) }

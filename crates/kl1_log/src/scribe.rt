@@ -36,6 +36,16 @@ impl<D: Disk> LogFile<D> {
         &self.disk
     }
 
+    /// Sees that there is room for a reset, if there is any.
+    pub fn make_ready(&mut self)
+        ensures known { D.known (disk_of self.new) ≡ D.known (disk_of self.old) }
+        ensures usable { D.is_usable (disk_of self.new) ≡ D.is_usable (disk_of self.old) }
+        ensures account { account_of self.new ≡ account_of self.old }
+        ensures changes { changes_of self.new ≡ changes_of self.old }
+    {
+        self.disk.make_ready();
+    }
+
     /// Writes a batch, each line with its sum, and has it on disk. On an error nothing that isn't on disk is
     /// told; after one of a call the file gets nothing more, and after one of memory the batch may be written again.
     #[tactic(auto, using(crate::proofs::LastSums::unmade_rests, crate::proofs::LastSums::unmade_last, crate::proofs::LastSums::unmade_cause, crate::proofs::LastSums::unmade_kept, crate::proofs::LastSums::unmade_failed))]

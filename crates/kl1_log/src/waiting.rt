@@ -118,6 +118,11 @@ impl Waiting {
         }
     }
 
+    /// How many bytes wait.
+    pub fn bytes(&self) -> usize {
+        self.change.len()
+    }
+
     /// The account that it is for.
     pub(crate) fn account(&self) -> u32
         ensures { result ≡ account_of self.now }

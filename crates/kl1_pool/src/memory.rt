@@ -1,12 +1,13 @@
 // How many bytes an account takes, and which commands take more.
 
-ghost use Rattle.std.specs.Prelude.{◌≡◌, ◌+◌, ◌*◌, ◌-◌, ◌^◌, min};
+ghost use Rattle.std.specs.Prelude.{◌≡◌, ◌≤◌, ◌+◌, ◌*◌, ◌-◌, ◌^◌, min};
 ghost use Rattle.kl1_command.specs.Commands.{command_view};
 ghost use Rattle.kl1_pool.specs.Memory.{bytes_in, takes_memory};
+ghost use Rattle.kl1_pool.specs.declared.memory.TheConstants.{RESERVED_BYTES};
 
 use kl1_command::Command;
 use kl1_journal_entries::is_entry;
-use kl1_user_events::Usage;
+use kl1_user_events::{Event, Usage};
 
 // Measured on 2026-11-27 with `kl1_run --stats` by the fourth rules: the difference of the most resident bytes of two runs, of which the one
 // did 50,000 to 2,000,000 rounds more of one clause than the other. In the store a goal, and a structure, takes 16 bytes, 24 for each
@@ -55,6 +56,20 @@ pub fn bytes_of(usage: &Usage, steps: u64) -> u64
     let reports = add_counted(structures, usage.reports.count, REPORT_BYTES);
     let entries = add_counted(reports, usage.entries.count, ENTRY_BYTES);
     add_counted(entries, steps, STEP_BYTES)
+}
+
+/// The bytes beyond what an account may take that are kept for commands by which it comes to take less, or to stand, or an exception is
+/// answered: some hundreds of them.
+pub const RESERVED_BYTES: u64 = 32_768;
+
+/// How many bytes beyond what its account may take a command may find.
+pub(crate) fn reserve_of(command: &Command) -> u64
+    ensures { result ≤ RESERVED_BYTES }
+{
+    match command {
+        Command::Does(Event::Control { .. } | Event::Answer { .. }) => RESERVED_BYTES,
+        _ => 0,
+    }
 }
 
 /// Whether a command may make an account take more bytes: each that may add an entry to its journal.

@@ -10,8 +10,10 @@ ghost use Rattle.kl1_pool.specs.Stepping.{IsTurn};
 
 use crate::answer::Answer;
 use crate::gate::Gate;
+use crate::grants::Grants;
 use crate::locked_slot::LockedSlot;
 use crate::locked_slots::{drop_all, places_of};
+use crate::memory::reserve_of;
 use crate::parts::PoolParts;
 use crate::pool_ids::PoolIds;
 use crate::shared_tables::SharedTables;
@@ -31,6 +33,7 @@ pub struct Pool<'t, R: Wait, K: PoolIds> {
     pub(crate) places: Vec<Mutex<LockedSlot<'t, R, K>>>,
     /// The most bytes that an account may take if it is to go on.
     pub(crate) most_bytes: u64,
+    pub(crate) grants: Grants,
     pub ghost counted: { vec_len places ≡ K.accounts },
 }
 
@@ -88,6 +91,7 @@ impl<'t, R: Wait, K: PoolIds> Pool<'t, R, K> {
                 common,
                 places,
                 most_bytes: u64::MAX,
+                grants: Grants::new(),
             },
             shares,
         ))
@@ -102,6 +106,7 @@ impl<'t, R: Wait, K: PoolIds> Pool<'t, R, K> {
             common,
             places,
             most_bytes: _,
+            grants,
         } = self;
         Pool {
             rt,
@@ -109,6 +114,7 @@ impl<'t, R: Wait, K: PoolIds> Pool<'t, R, K> {
             common,
             places,
             most_bytes,
+            grants,
         }
     }
 
@@ -143,6 +149,9 @@ impl<'t, R: Wait, K: PoolIds> Pool<'t, R, K> {
             return (answer, false);
         }
         let answer = found.perform(self.rt, &self.common, &self.tables, share, command);
+        if reserve_of(command) > 0 && found.is_over(self.most_bytes) {
+            self.grants.grant(account);
+        }
         let wants = found.wants_ticket();
         (answer, wants)
     }
@@ -186,8 +195,7 @@ impl<'t, R: Wait, K: PoolIds> Pool<'t, R, K> {
     }
 
     /// A turn of an account under its lock, as `PoolAccount::turn`, between `enter` and `leave` of a gate. An account that takes more bytes
-    /// than it may gets none. Unless the ticket is to be
-    /// put back, none is out afterwards.
+    /// than it may gets none, but a short one after a message to one of its shoens. Unless the ticket is to be put back, none is out afterwards.
     pub(crate) fn turn<G: Gate, W: Wait>(
         &self,
         rt: &W,
@@ -209,12 +217,13 @@ impl<'t, R: Wait, K: PoolIds> Pool<'t, R, K> {
         if found.account() != account {
             return NO_TURN;
         }
-        if found.is_over(self.most_bytes) {
+        let is_over = found.is_over(self.most_bytes);
+        if is_over && !self.grants.take(account) {
             found.clear_ticket();
             return NO_TURN;
         }
         gate.enter(number);
-        let slice = found.time_slice(self.rt, &self.common, &self.tables, share);
+        let slice = found.time_slice(self.rt, &self.common, &self.tables, share, is_over);
         gate.leave(number);
         if !slice.again {
             found.clear_ticket();
@@ -231,6 +240,7 @@ impl<'t, R: Wait, K: PoolIds> Pool<'t, R, K> {
             common: _,
             places,
             most_bytes: _,
+            grants: _,
         } = self;
         drop_all(places);
     }

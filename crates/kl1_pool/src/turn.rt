@@ -26,6 +26,10 @@ pub struct Turn {
     pub again: bool,
 }
 
+/// The most steps of a turn that is granted to an account which takes more bytes than it may: its monitors step first, and one step reads
+/// one message.
+const MOST_GRANTED_STEPS: u64 = 2;
+
 impl<'t, R: Wait, K: PoolIds> PoolAccount<'t, R, K> {
     /// First steps until `MOST_STEPS` are done, none can step, or one is refused, also for want of memory. Each is an event and a step
     /// in the book and in `share`. No more are done than the book can tell.
@@ -50,13 +54,60 @@ impl<'t, R: Wait, K: PoolIds> PoolAccount<'t, R, K> {
         Turn { steps, again }
     }
 
-    /// A turn, and what a worker is told of it.
+    /// Like `turn`, of at most `MOST_GRANTED_STEPS`, after which it isn't gone on.
+    fn short_turn(
+        &mut self,
+        rt: &'t R,
+        common: &PoolShared<K>,
+        tables: &SharedTables<'t, K>,
+        share: &mut Share<K>,
+    ) -> Turn
+        ensures few { result.steps.done ≤ MOST_STEPS }
+        ensures steps { (f : Reading) → Fits self.new.held.0.names f → AreFirstSteps (kept_of f self.old.held) result.steps.done (kept_of f self.new.held) }
+        ensures again { (f : Reading) → Fits self.new.held.0.names f → result.again ≡ goes_on MOST_STEPS result.steps.done (kept_of f self.new.held) }
+        ensures counted { HasCounted self.old share.old (told_steps result.steps.done) self.new share.new }
+        ensures out { self.new.is_out ≡ self.old.is_out }
+        ensures before { (f : Reading) → Fits self.new.held.0.names f → Fits self.old.held.0.names f }
+    {
+        let most = MOST_GRANTED_STEPS.min(self.room());
+        let steps = self.first_steps(rt, common, tables, share, most);
+        Turn {
+            steps,
+            again: false,
+        }
+    }
+
+    /// A turn, which is a short one if it is granted to an account that would have none.
+    fn turn_if(
+        &mut self,
+        rt: &'t R,
+        common: &PoolShared<K>,
+        tables: &SharedTables<'t, K>,
+        share: &mut Share<K>,
+        is_granted: bool,
+    ) -> Turn
+        ensures few { result.steps.done ≤ MOST_STEPS }
+        ensures steps { (f : Reading) → Fits self.new.held.0.names f → AreFirstSteps (kept_of f self.old.held) result.steps.done (kept_of f self.new.held) }
+        ensures again { (f : Reading) → Fits self.new.held.0.names f → result.again ≡ goes_on MOST_STEPS result.steps.done (kept_of f self.new.held) }
+        ensures counted { HasCounted self.old share.old (told_steps result.steps.done) self.new share.new }
+        ensures out { self.new.is_out ≡ self.old.is_out }
+        ensures before { (f : Reading) → Fits self.new.held.0.names f → Fits self.old.held.0.names f }
+    {
+        if is_granted {
+            self.short_turn(rt, common, tables, share)
+        } else {
+            self.turn(rt, common, tables, share)
+        }
+    }
+
+    /// A turn, and what a worker is told of it. One that is granted to an account which would have none is short.
     pub(crate) fn time_slice(
         &mut self,
         rt: &'t R,
         common: &PoolShared<K>,
         tables: &SharedTables<'t, K>,
         share: &mut Share<K>,
+        is_granted: bool,
     ) -> TimeSlice
         ensures few { result.steps ≤ MOST_STEPS }
         ensures turn { IsTurnOfSome K.rules (slice_get K.names self.old.book.account) result }
@@ -65,7 +116,7 @@ impl<'t, R: Wait, K: PoolIds> PoolAccount<'t, R, K> {
         // This and the next one are called for the facts that they prove: the account is the replay of its journal, and some reading fits
         // the names.
         self.shows_counts();
-        let turn = self.turn(rt, common, tables, share);
+        let turn = self.turn_if(rt, common, tables, share, is_granted);
         self.shows_counts();
         TimeSlice {
             steps: turn.steps.done,

@@ -8,7 +8,7 @@ ghost use Rattle.kl1_pool.specs.Counted.{reduces_in};
 ghost use Rattle.kl1_pool.specs.Memory.{bytes_taken, IsBeyond};
 ghost use Rattle.kl1_pool.specs.Showing.{IsFound};
 
-use crate::memory::{bytes_of, takes_memory};
+use crate::memory::{bytes_of, reserve_of, takes_memory};
 use crate::named_atoms::NamedAtoms;
 use crate::pool_account::PoolAccount;
 use crate::pool_ids::PoolIds;
@@ -123,13 +123,13 @@ impl<'t, R: Wait, K: PoolIds> PoolAccount<'t, R, K> {
         self.bytes() > most
     }
 
-    /// Whether the account takes more bytes than `most`, and a command may make it take more.
+    /// Whether the account takes more bytes than `most`, and a command may make it take more: also more than those that are kept for it.
     pub(crate) fn is_beyond(&self, most: u64, command: &Command) -> bool
         ensures { IsTrue result → IsBeyond most self.now (command_view command.now) }
     {
         if !takes_memory(command) {
             return false;
         }
-        self.is_over(most)
+        self.is_over(most.saturating_add(reserve_of(command)))
     }
 }

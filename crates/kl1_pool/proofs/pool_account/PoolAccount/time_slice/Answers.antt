@@ -6,6 +6,6 @@ use Rattle.kl1_pool.proofs.pool_account.PoolAccount.time_slice.Goals as goal
 pub returns-clause-turn : goal.returns-clause-turn
 returns-clause-turn g c =
     let old = c.args.self.now in
-    let slice : TimeSlice = record { steps = c.turn-turn.result.steps.done; again = c.turn-turn.result.again } in
-    turn_of g.K.PoolIds.rules (slice_get g.K.PoolIds.names old.book.account) old.held c.turn-turn.new.self.held slice
-    c.shows_counts.ensures.kept c.shows_counts.ensures.rules c.shows_counts.ensures.name c.shows_counts-2.ensures.names c.turn-turn.ensures.before c.turn-turn.ensures.steps c.turn-turn.ensures.again
+    let slice : TimeSlice = record { steps = c.turn_if-turn.result.steps.done; again = c.turn_if-turn.result.again } in
+    turn_of g.K.PoolIds.rules (slice_get g.K.PoolIds.names old.book.account) old.held c.turn_if-turn.new.self.held slice
+    c.shows_counts.ensures.kept c.shows_counts.ensures.rules c.shows_counts.ensures.name c.shows_counts-2.ensures.names c.turn_if-turn.ensures.before c.turn_if-turn.ensures.steps c.turn_if-turn.ensures.again
