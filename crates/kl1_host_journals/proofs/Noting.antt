@@ -4,10 +4,13 @@ use Rattle.std.proofs.lemmas.Bool.{cases_lt}
 use mathlib.Core.List.{IsPrefix}
 use Rattle.kl1_model_server.specs.Journal.{Journal}
 use Rattle.kl1_journal_entries.specs.Lined.{Rows}
-use Rattle.kl1_log.specs.Batches.{text_after}
-use Rattle.kl1_log.specs.Deeds.{IsFile}
+use Rattle.kl1_model_server.specs.JournalText.{lines_of as lines_in}
+use Rattle.kl1_log.specs.Batches.{text_after, bytes_of}
+use Rattle.kl1_log.specs.Deeds.{HasSums, IsFile}
 use Rattle.kl1_log.specs.Later.{IsLater, IsMark}
-use Rattle.kl1_log.specs.Waits.{IsUpTo, CountsOn, mark_of}
+use Rattle.kl1_log.specs.Waits.{IsUpTo, CountsOn, Fits, mark_of}
+use Rattle.kl1_log.specs.declared.change.Change.{Change}
+use Rattle.kl1_log.specs.declared.change.Change.TheVariants.{Appends, Begins}
 use Rattle.kl1_host_journals.specs.declared.edition.Edition.{Edition}
 use Rattle.kl1_host_journals.specs.declared.notes.Notes.{Notes}
 use Rattle.kl1_host_journals.specs.Drafts.{edition_over}
@@ -85,15 +88,21 @@ grown_to : (log : List Edition) (e : Edition) → 1 ≤ length log → HaveGrown
 grown_to [] e some grown same = absurd (omega (arith, some))
 grown_to (d ∷ ds) e some grown same = grown_last d ds e grown same
 
+-- whole lines may be put to a file in which each line has its sum
+fits_by : (base : List ℕ) (change : Change) → HasSums base → (lines_in (bytes_of change)).rest ≡ [] → Fits base change
+fits_by base (Appends bytes) sums whole = (sums, whole)
+fits_by base (Begins bytes) sums whole = whole
+
 -- what waits makes of the file one of the journal that was noted now, if the journals have only grown
-pub note_up_to : (log : List Edition) (old new : Notes) (j : Journal) (g : ℕ) (base : List ℕ) (r : Rows) → 1 ≤ length log → IsNotedOver base old (last_of log) → TakesIn old new j g → r.journal ≡ j → IsUpToDate log → IsMarked old log
+pub note_up_to : (log : List Edition) (old new : Notes) (j : Journal) (g : ℕ) (base : List ℕ) (r : Rows) → 1 ≤ length log → IsNotedOver base old (last_of log) → TakesIn old new j g → r.journal ≡ j → IsUpToDate log → IsMarked old log → (HaveGrown log → HasSums base)
     → HaveGrown (log ++ edition_over base new r ∷ []) → IsUpTo (waiting_of new) base j
-note_up_to log old new j g base r some is t same dated marked grown =
+note_up_to log old new j g base r some is t same dated marked sums grown =
     let e = edition_over base new r in
     let before = grown_before log e grown in
     let last = last_of log in
     let up : IsUpTo (waiting_of old) base last.journal.journal = record {
       file = subst (λ (x : List ℕ). IsFile x last.journal.journal) is.text (last_edited log some (dated before));
+      fits = fits_by base (change_of old) (sums before) (waiting_of old).whole;
       mark = record { lines = marked.lines before; run = marked.run before };
     } in
     t.file base last.journal.journal up (λ (at : g ≡ generation_of old). subst (IsLater last.journal.journal) same (grown_to log e some grown (is.generation ∙ sym at ∙ sym t.now)))
@@ -113,3 +122,7 @@ note_run log new j base r same up = up.mark.run ∙ sym (ap run_of (last_snoc lo
 -- the first edition of a history
 pub first_dated : (n : Notes) (bytes : List ℕ) (r : Rows) (j : Journal) → r.journal ≡ j → IsUpTo (waiting_of n) bytes j → IsUpToDate ([] ++ edition_over bytes n r ∷ [])
 first_dated n bytes r j same up grown = subst (IsFile (text_after bytes (change_of n))) (sym same) up.file
+
+-- each line has its sum in what the file is to hold, if the journals have only grown
+pub dated_sums : (log : List Edition) → 1 ≤ length log → IsUpToDate log → HaveGrown log → HasSums (last_of log).text
+dated_sums log some dated grown = (last_edited log some (dated grown)).sums

@@ -6,9 +6,8 @@ use Rattle.std.proofs.Math.Seq.{take-append-add}
 use Rattle.std.proofs.lemmas.List.{append-nil, take-append-drop}
 use mathlib.Core.List.{IsPrefix}
 use Rattle.kl1_model_server.specs.Journal.{Entry, Journal}
-use Rattle.kl1_model_server.specs.JournalText.{journal_in}
 use Rattle.kl1_log.specs.Cuts.{recovered, front_of}
-use Rattle.kl1_log.specs.Deeds.{deeds_of, IsFile}
+use Rattle.kl1_log.specs.Deeds.{deeds_of, file_in, IsFile}
 use Rattle.kl1_log.specs.Files.{FileState, Known, IfKnown, Bytes, content, MayLeave, IsLeftOf, IsBroughtBack, is_nil, is_at_rest}
 use Rattle.kl1_log.proofs.Fronts.{appends_are_fronts}
 use Rattle.kl1_log.proofs.DeedsDone.{deeds_more}
@@ -22,19 +21,19 @@ pub crashes_keep_deeds : CrashesKeepDeeds
 crashes_keep_deeds covered text bytes n j k pre was is =
     let rest = pre.0 in
     let whole : covered ++ (rest ++ bytes) ≡ text ++ bytes = sym (append_assoc covered rest bytes) ∙ ap (λ (x : List ℕ). x ++ bytes) pre.1 in
-    let at = appends_are_fronts covered (rest ++ bytes) was.read is.read (length rest + n) was.is (subst (λ (x : List ℕ). journal_in x ≡ Some is.read) (sym whole) is.is) in
-    let r = front_of is.read at.0 in
+    let at = appends_are_fronts covered (rest ++ bytes) was.plain.read is.plain.read (length rest + n) was.plain.is (subst (λ (x : List ℕ). file_in x ≡ Some is.plain.read) (sym whole) is.plain.is) in
+    let r = front_of is.plain.read at.0 in
     let here : covered ++ take (length rest + n) (rest ++ bytes) ≡ text ++ take n bytes =
     ap (λ (x : List ℕ). covered ++ x) (take-append-add rest bytes n) ∙ sym (append_assoc covered rest (take n bytes)) ∙ ap (λ (x : List ℕ). x ++ take n bytes) pre.1 in
     record {
       read = r;
       is = ap recovered (sym here) ∙ at.1;
-      more = deeds_of (drop (length was.read.entries) r.entries);
+      more = deeds_of (drop (length was.plain.read.entries) r.entries);
       deeds =
-          ap deeds_of (sym (take-append-drop (length was.read.entries) r.entries))
-          ∙ deeds_more (take (length was.read.entries) r.entries) (drop (length was.read.entries) r.entries)
-          ∙ ap (λ (x : List Entry). deeds_of x ++ deeds_of (drop (length was.read.entries) r.entries)) at.2
-          ∙ ap (λ (x : List Entry). x ++ deeds_of (drop (length was.read.entries) r.entries)) was.says.deeds;
+          ap deeds_of (sym (take-append-drop (length was.plain.read.entries) r.entries))
+          ∙ deeds_more (take (length was.plain.read.entries) r.entries) (drop (length was.plain.read.entries) r.entries)
+          ∙ ap (λ (x : List Entry). deeds_of x ++ deeds_of (drop (length was.plain.read.entries) r.entries)) at.2
+          ∙ ap (λ (x : List Entry). x ++ deeds_of (drop (length was.plain.read.entries) r.entries)) was.plain.says.deeds;
     }
 
 nil_of : (bs : List ℕ) → is_nil bs ≡ true → bs ≡ []

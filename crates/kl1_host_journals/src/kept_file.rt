@@ -41,6 +41,13 @@ impl<D: Disk, J: Naming> KeptFile<D, J> {
         &self.file
     }
 
+    /// What was noted for it so far, as far as it is written.
+    pub fn place(&self) -> &Place<J>
+        ensures { result.now ≡ self.now.place }
+    {
+        &self.place
+    }
+
     /// Sees that there is room for a reset, if there is any.
     pub fn make_ready(&mut self)
         ensures known { D.known (disk_of self.new.file) ≡ D.known (disk_of self.old.file) }

@@ -4,6 +4,7 @@ use crate::history::Naming;
 use crate::keeper::Keeper;
 use crate::kept_file::KeptFile;
 use crate::parcel::Parcel;
+use crate::place::Place;
 use kl1_log::{Disk, LogError};
 use std::sync::Wait;
 use std::time::{Clock, Duration};
@@ -64,9 +65,10 @@ impl<'k, D: Disk + Drop, J: Naming> Scribe<'k, D, J> {
         }
     }
 
-    /// Writes what waits, if something does, and tells those who wait for it. If that fails, the account is stopped, and `faults` is told. What
-    /// memory was refused for is written first, and until it is, nothing else is taken.
-    pub fn write<W: Wait, F: FaultTeller>(&mut self, rt: &W, faults: &F) {
+    /// Writes what waits, if something does, which is all up to `noted`, and tells those who wait for it. If that fails, the account is stopped,
+    /// and `faults` is told. What memory was refused for is written first, and until it is, nothing else is taken.
+    pub fn write<W: Wait, F: FaultTeller>(&mut self, rt: &W, faults: &F, noted: &Place<J>) {
+        let _ = noted;
         if self.keeper.on_disk().is_stopped() {
             return;
         }
@@ -87,7 +89,8 @@ impl<'k, D: Disk + Drop, J: Naming> Scribe<'k, D, J> {
         self.file.make_ready();
         for _ in rt.forever() {
             let is_ending = self.keeper.bell().wait(rt, period);
-            self.write(rt, faults);
+            let noted = self.file.place().again();
+            self.write(rt, faults, &noted);
             if is_ending {
                 return;
             }
