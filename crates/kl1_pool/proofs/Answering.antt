@@ -4,7 +4,7 @@ use Rattle.std.specs.Prelude.{Option}
 use Rattle.kl1_model.specs.declared.rules.Rules.{Rules}
 use Rattle.kl1_model.specs.State.{State}
 use Rattle.kl1_model_server.specs.Command.{Command}
-use Rattle.kl1_model_server.specs.Journal.{Entry, Journal}
+use Rattle.kl1_model_server.specs.Journal.{Entry, Journal, Kept}
 use Rattle.kl1_atoms.specs.Names.{AreNames}
 use Rattle.kl1_journal.specs.Keeping.{Reading, Fits, Held, kept_of, IsKept}
 use Rattle.kl1_user.specs.Readings.{reading_of, reading_fits}

@@ -1,6 +1,5 @@
-use Rattle.std.proofs.Common.{ℕ, ◌<◌, ◌≤◌, true, sym, subst, ◌∙◌}
+use Rattle.std.proofs.Common.{ℕ, ◌<◌, ◌≤◌, sym, subst, ◌∙◌}
 use Rattle.std.proofs.lemmas.Bool.{ltb-true, ltb-false}
-use Rattle.kl1_command.specs.Commands.{command_view}
 use Rattle.kl1_journal.specs.Keeping.{kept_of}
 use Rattle.kl1_pool.specs.Memory.{bytes_taken}
 use Rattle.kl1_pool.proofs.pool_account.PoolAccount.is_beyond.Goals as goal
