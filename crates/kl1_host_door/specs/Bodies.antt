@@ -1,10 +1,12 @@
 -- How long the body of a request is.
-use Rattle.std.specs.Prelude.{ℕ, nat_le, Bool, ◌||◌, if◌then◌else◌, List, bytes_eq, codes, Some, None, Result, Ok, Err}
+use Rattle.std.specs.Prelude.{ℕ, nat_le, Bool, ◌||◌, if◌then◌else◌, List, bytes_eq, codes, Option, Some, None, Result, Ok, Err}
 use Rattle.kl1_model.specs.Line.{number_in}
-use Rattle.kl1_host_door.specs.declared.limits.TheConstants.{MOST_BODY_BYTES}
+use Rattle.kl1_host_door.specs.declared.limits.TheConstants.{MOST_BODY_BYTES, MOST_STRANGER_BYTES}
 use Rattle.kl1_host_door.specs.declared.refusal.Refusal.{Refusal}
 use Rattle.kl1_host_door.specs.declared.refusal.Refusal.TheVariants.{Repeated, Chunked, NoLength, BadLength, LargeBody}
 use Rattle.kl1_host_door.specs.declared.head.Head.{Head}
+use Rattle.kl1_host_door.specs.declared.door.Allowed.{Allowed}
+use Rattle.kl1_host_door.specs.declared.door.Allowed.TheVariants.{Anyone, Owner}
 use Rattle.kl1_host_door.specs.Fields.{value_of, is_single}
 
 -- the length that a text tells, if a body may have it
@@ -27,3 +29,13 @@ body_bytes h =
       | Some text ↦ Err Chunked
     ]
     else Err Repeated
+
+-- a reason, if n bytes are more than a stranger's body may have
+abbrev pub beyond : ℕ → Refusal → Option Refusal
+beyond n why = if nat_le n MOST_STRANGER_BYTES then None else Some why
+
+-- why a body of n bytes isn't read, by what its request may have: one that isn't let in to an account has none that is longer than a login's
+abbrev pub body_refusal : ℕ → Result Allowed Refusal → Option Refusal
+body_refusal n (Ok (Owner id account ask)) = None
+body_refusal n (Ok (Anyone ask)) = beyond n LargeBody
+body_refusal n (Err why) = beyond n why

@@ -1,11 +1,12 @@
 // How long the body of a request is.
 
 ghost use Rattle.std.specs.Prelude.{◌≡◌};
-ghost use Rattle.kl1_host_door.specs.Bodies.{by_length, needs_no_body, body_bytes};
+ghost use Rattle.kl1_host_door.specs.Bodies.{by_length, needs_no_body, body_bytes, beyond, body_refusal};
 
+use crate::door::Allowed;
 use crate::field::{is_single, value_of};
 use crate::head::Head;
-use crate::limits::MOST_BODY_BYTES;
+use crate::limits::{MOST_BODY_BYTES, MOST_STRANGER_BYTES};
 use crate::refusal::Refusal;
 use kl1_lines::number_in;
 
@@ -52,5 +53,28 @@ fn by_length(text: &[u8]) -> Result<u64, Refusal>
                 Err(Refusal::LargeBody)
             }
         }
+    }
+}
+
+/// The reason, if a stranger's body may not have `count` bytes.
+fn beyond(count: u64, why: Refusal) -> Option<Refusal>
+    ensures { result ≡ beyond count why }
+{
+    if count <= MOST_STRANGER_BYTES {
+        None
+    } else {
+        Some(why)
+    }
+}
+
+/// Why a body of `count` bytes isn't read, by what its request may have; `None` if it is read. A request that isn't let in to an account has none
+/// that is longer than a login's.
+pub(crate) fn body_refusal(count: u64, allowed: &Result<Allowed, Refusal>) -> Option<Refusal>
+    ensures { result ≡ body_refusal count allowed.now }
+{
+    match allowed {
+        Ok(Allowed::Owner { .. }) => None,
+        Ok(Allowed::Anyone(_)) => beyond(count, Refusal::LargeBody),
+        Err(why) => beyond(count, *why),
     }
 }

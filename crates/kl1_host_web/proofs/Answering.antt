@@ -1,5 +1,5 @@
 -- Answers in JSON.
-use Rattle.std.proofs.Common.{◌≡◌, ℕ, ◌==◌, Bool, true, false, ◌||◌, if◌then◌else◌, List, [], ◌∷◌, ◌++◌, map, codes, IsUtf8, Result, Ok, Err, IfOk, refl, sym, ap, ◌∙◌, append_assoc, append-nil}
+use Rattle.std.proofs.Common.{◌≡◌, ℕ, suc, ◌==◌, Bool, true, false, ◌||◌, if◌then◌else◌, List, [], ◌∷◌, ◌++◌, map, codes, IsUtf8, Option, Some, None, slice_get, Result, Ok, Err, IfOk, refl, sym, ap, ◌∙◌, append_assoc, append-nil}
 use Rattle.std.proofs.lemmas.List.{map-append}
 use Rattle.std.specs.declared.alloc.AllocError.{AllocError}
 use Rattle.std.specs.Str.{is_utf8}
@@ -19,7 +19,9 @@ use Rattle.kl1_host_door.specs.declared.answer.Cookie.TheVariants.{Kept, Set}
 use Rattle.kl1_host_door.specs.declared.status.Status.{Status}
 use Rattle.kl1_host_door.specs.declared.status.Status.TheVariants.{Good}
 use Rattle.kl1_host_door.specs.declared.session.WebSession.{WebSession}
-use Rattle.kl1_host_web.specs.Telling.{shown, text_data, lines_data, IsReply, IsLoad, IsSyntax}
+use Rattle.kl1_user_events.specs.declared.shoen_view.ShoenView.{ShoenView}
+use Rattle.kl1_host_door.specs.declared.limits.TheConstants.{SHOENS_A_PAGE}
+use Rattle.kl1_host_web.specs.Telling.{shown, text_data, lines_data, IsReply, IsLoad, IsSyntax, number_data, IsShoens}
 use Rattle.kl1_host_web.specs.Beginning.{IsWelcome}
 
 -- ---- bytes as texts
@@ -125,3 +127,15 @@ last (w ∷ ws) v exact so_far =
 -- one more reason
 pub one_reason : (values new : List Value) (v : Value) → new ≡ values ++ v ∷ [] → has_float (view v) ≡ false → items_have_float (items_of (map view values)) ≡ false → items_have_float (items_of (map view new)) ≡ false
 one_reason values new v pushed exact so_far = ap (λ l. items_have_float (items_of (map view l))) pushed ∙ last values v exact so_far
+
+-- ---- shoens
+
+number_float : (o : Option ShoenView) → has_float (number_data o) ≡ false
+number_float None = refl
+number_float (Some view) = refl
+
+pub shoens_are : (lists : ℕ → ℕ → List ShoenView → Type 0) (from : ℕ) (views : List ShoenView) (shoens : Items) (v : Value) (result : Result Answer AllocError) → lists from (suc SHOENS_A_PAGE) views → view v ≡ object (member (codes "next") (number_data (slice_get views SHOENS_A_PAGE)) (member (codes "shoens") (array shoens) no_members)) → items_have_float shoens ≡ false → IfOk result (λ answer. (answer.status ≡ Good) × (answer.cookie ≡ Kept)) → IfOk result (λ answer. has_float (view v) ≡ false → answer.body.items ≡ compact_text (view v)) → IfOk result (IsShoens lists from)
+shoens_are lists from views shoens v (Ok answer) listed built exact head text =
+    let none : has_float (view v) ≡ false = ap has_float built ∙ rw (number_float (slice_get views SHOENS_A_PAGE), exact) refl in
+    record { views = views; listed = listed; status = head.0; cookie_is = head.1; shoens = shoens; text = text none ∙ ap compact_text built }
+shoens_are lists from views shoens v (Err e) listed built exact head text = tt

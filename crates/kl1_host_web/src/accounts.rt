@@ -1,7 +1,8 @@
 // The accounts of a host, as browsers use them.
 
-ghost use Rattle.std.specs.Prelude.{◌≡◌, ◌<◌, ◌++◌, ◌∷◌, [], List, IfSome};
+ghost use Rattle.std.specs.Prelude.{◌≡◌, ◌<◌, ◌++◌, ◌∷◌, [], ℕ, List, IfOk, IfSome, ⊤};
 ghost use Rattle.kl1_command.specs.Commands.{command_view};
+ghost use Rattle.kl1_user_events.specs.declared.shoen_view.ShoenView.{ShoenView};
 ghost use Rattle.kl1_host_web.specs.Asking.{Asked, did, looked, changed, House};
 
 use kl1_command::{Command, Performed};
@@ -38,8 +39,15 @@ pub struct Sums {
 
 /// What one account shows. Nothing of this changes it.
 pub trait Viewer {
+    /// The account that it shows.
+    ghost account: { Self → ℕ };
+
+    /// Which shoens an account has told: by its number, from which shoen's number on, and how many at most.
+    ghost lists: { ℕ → ℕ → ℕ → List ShoenView → Type 0 } = { λ _ _ _ _. ⊤ };
+
     /// The shoens with numbers from one on, the first `count` of them.
-    fn shoens_from(&mut self, from: ShoenNo, count: usize) -> Result<Vec<ShoenView>, AllocError>;
+    fn shoens_from(&mut self, from: ShoenNo, count: usize) -> Result<Vec<ShoenView>, AllocError>
+        ensures { IfOk result (λ views. lists (account self.old) from.0 count views.items) };
 
     /// The goals with numbers from one on, the first `count` of them.
     fn goals_from(&mut self, from: GoalNo, count: usize) -> Result<Vec<GoalView>, AllocError>;
@@ -94,6 +102,7 @@ pub trait Accounts {
     /// What shows an account.
     fn look(&mut self, account: usize) -> Self::Viewer
         requires { account < (house self.old).accounts }
+        ensures account { Self.Viewer.account result ≡ account }
         ensures house { house self.new ≡ house self.old }
         ensures asked { asked self.new ≡ asked self.old ++ looked account ∷ [] };
 

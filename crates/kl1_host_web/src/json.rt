@@ -37,7 +37,7 @@ pub(crate) fn told_value(
 }
 
 /// An object of two members.
-fn pair_value(
+pub(crate) fn pair_value(
     alloc: Global,
     first: &str,
     one: Value,
