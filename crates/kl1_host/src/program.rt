@@ -93,6 +93,7 @@ impl<'f, R: Wait + Clock + Eprint + Files + RandomSource, K: LoginKeys> Program<
     }
 
     /// The accounts of a host, for whoever asks from this address.
+    #[tactic(auto, using(kl1_host_web::proofs::Doing::none_done))]
     fn accounts_of<'w, P: Performer + Drop, V: HostView>(
         &self,
         address: SocketAddr,

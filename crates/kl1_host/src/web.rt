@@ -1,8 +1,7 @@
 // The accounts of a host, as browsers use them.
 
-ghost use Rattle.std.specs.Prelude.{◌≡◌, ◌≤◌, ◌×◌, ◌++◌, List, length};
-ghost use Rattle.kl1_session.specs.Conversations.{Done};
-ghost use Rattle.kl1_host_web.specs.Asking.{AreDone};
+ghost use Rattle.std.specs.Prelude.{◌≤◌, length};
+ghost use Rattle.kl1_host_web.specs.Asking.{HasDone};
 ghost use Rattle.kl1_host_web.specs.Records.{asked_in};
 
 use crate::folder::journal_in;
@@ -201,7 +200,7 @@ pub struct WebAccounts<'w, 'f, R: Wait + Clock + Eprint + Files, P: Performer + 
     pub host: &'w V,
     pub noted: AskedRecord,
     pub ghost counts: { length door.keys.now ≤ P.accounts performer },
-    pub ghost is_done: { ∥ (dones : List Done) × (P.done performer ≡ P.done begun.value ++ dones) × AreDone (asked_in noted) dones ∥₁ },
+    pub ghost is_done: { ∥ HasDone (P.done begun.value) (P.done performer) (asked_in noted) ∥₁ },
 }
 
 impl<'w, R: Wait + Clock + Eprint + Files, P: Performer + Drop, V: HostView> Accounts
@@ -236,6 +235,7 @@ impl<'w, R: Wait + Clock + Eprint + Files, P: Performer + Drop, V: HostView> Acc
         }
     }
 
+    #[tactic(auto, using(kl1_host_web::proofs::Doing::done_more, kl1_host_web::proofs::Doing::refused_more))]
     fn act(&mut self, account: usize, command: &Command) -> Performed {
         // A session is closed whoever reads.
         let may_answer = is_logout(command) || self.host.begin_answer(account);
@@ -249,6 +249,7 @@ impl<'w, R: Wait + Clock + Eprint + Files, P: Performer + Drop, V: HostView> Acc
         performed
     }
 
+    #[tactic(auto, using(kl1_host_web::proofs::Doing::looked_more))]
     fn look(&mut self, account: usize) -> AccountViewer<'w, V> {
         // The door of the page lets none look at an account but who has the cookie and the token of its session.
         self.host.let_in();
@@ -261,6 +262,7 @@ impl<'w, R: Wait + Clock + Eprint + Files, P: Performer + Drop, V: HostView> Acc
         }
     }
 
+    #[tactic(auto, using(kl1_host_web::proofs::Doing::changed_more))]
     fn note_change<K: LoginKeys>(&mut self, change: BookChange<K>) {
         self.noted.changed(change);
     }

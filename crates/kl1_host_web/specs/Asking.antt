@@ -1,5 +1,5 @@
 -- What is asked of the accounts of a host.
-use Rattle.std.specs.Prelude.{◌≡◌, ◌×◌, ◌⊎◌, ℕ, List, [], ◌∷◌}
+use Rattle.std.specs.Prelude.{◌≡◌, ◌⊎◌, ℕ, List, [], ◌∷◌, ◌++◌}
 use Rattle.kl1_model_server.specs.Command.{Command}
 use Rattle.kl1_command.specs.declared.performed.Performed.{Performed}
 use Rattle.kl1_command.specs.declared.performed.Performed.TheVariants.{Memory}
@@ -25,8 +25,12 @@ pub record House : Type 0 where
 -- refused
 abbrev pub AreDone : List Asked → List Done → Type 0
 AreDone [] ds = ds ≡ []
-AreDone (did account command answer ∷ as) ds =
-    ((rest : List Done) × (ds ≡ record { account = account; command = command; answer = answer } ∷ rest) × AreDone as rest)
-    ⊎ ((answer ≡ Memory) × AreDone as ds)
-AreDone (looked account ∷ as) ds = AreDone as ds
-AreDone (changed step sessions ∷ as) ds = AreDone as ds
+AreDone (did account command answer ∷ xs) ds =
+    ((rest : List Done) × (ds ≡ record { account = account; command = command; answer = answer } ∷ rest) × AreDone xs rest)
+    ⊎ ((answer ≡ Memory) × AreDone xs ds)
+AreDone (looked account ∷ xs) ds = AreDone xs ds
+AreDone (changed step sessions ∷ xs) ds = AreDone xs ds
+
+-- after some commands others were done, for what was asked
+abbrev pub HasDone : List Done → List Done → List Asked → Type 0
+HasDone before after asked = (dones : List Done) × (after ≡ before ++ dones) × AreDone asked dones
