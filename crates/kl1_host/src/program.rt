@@ -141,6 +141,7 @@ impl<'f, R: Wait + Clock + Eprint + Files + RandomSource, K: LoginKeys> Program<
     /// Ends the sessions of an account whose browsers made no request for too long.
     pub fn end_idle<P: Performer, V: HostView>(&self, performer: &mut P, host: &V, account: usize)
         requires { length self.now.keys.now ≤ P.accounts performer.old }
+        ensures { length self.now.keys.now ≤ P.accounts performer.new }
     {
         // No key is tried, so it counts for no address.
         let address = SocketAddr::V4(SocketAddrV4::new(Ipv4Addr::LOCALHOST, 0));
@@ -160,7 +161,7 @@ impl<'f, R: Wait + Clock + Eprint + Files + RandomSource, K: LoginKeys> Program<
         host: &V,
     )
         requires { length self.now.keys.now ≤ P.accounts performer.old }
-        ensures { ∥ IsServed K.opens (length self.now.keys.now) self.now.idle self.now.sites.now (S.remaining source.old) (P.done performer.old) (P.done performer.new) ∥₁ }
+        ensures { ∥ IsServed (entries_view self.now.keys.now) (length self.now.keys.now) self.now.idle self.now.sites.now (S.remaining source.old) (P.done performer.old) (P.done performer.new) ∥₁ }
     {
         let performer = LentPerformer { performer };
         let mut accounts = self.accounts_of(address, performer, host);
@@ -361,6 +362,7 @@ where
         }
     }
 
+    #[tactic(auto, using(kl1_host_work::proofs::NamesInOrder::length_names))]
     fn serve_pages<S: Source, T: Sink, P: Performer, V: HostView>(
         &self,
         address: SocketAddr,
@@ -372,6 +374,7 @@ where
         self.serve_browser(address, source, sink, performer, host);
     }
 
+    #[tactic(auto, using(kl1_host_work::proofs::NamesInOrder::length_names))]
     fn attend<P: Performer, V: HostView>(&self, performer: &mut P, host: &V) {
         // Each has a journal on the disk now, if only its heading. If that can't be noted, a later start doesn't miss one.
         let _ = note_started(self.rt, self.alloc, self.folder, self.keys);

@@ -21,7 +21,7 @@ use Rattle.kl1_host_door.specs.declared.status.Status.TheVariants.{Good}
 use Rattle.kl1_host_door.specs.declared.session.WebSession.{WebSession}
 use Rattle.kl1_user_events.specs.declared.shoen_view.ShoenView.{ShoenView}
 use Rattle.kl1_host_door.specs.declared.limits.TheConstants.{SHOENS_A_PAGE}
-use Rattle.kl1_host_web.specs.Telling.{shown, text_data, lines_data, IsReply, IsLoad, IsSyntax, number_data, IsShoens}
+use Rattle.kl1_host_web.specs.Telling.{shown, text_data, lines_data, IsReply, IsLoad, IsSyntax, IsNamed, number_data, IsShoens}
 use Rattle.kl1_host_web.specs.Beginning.{IsWelcome}
 
 -- ---- bytes as texts
@@ -112,9 +112,13 @@ pub syntax_is : (v : Value) (result : Result Answer AllocError) → view v ≡ o
 syntax_is v (Ok answer) built head text = record { status = head.0; cookie_is = head.1; text = text (ap has_float built) ∙ ap compact_text built }
 syntax_is v (Err e) built head text = tt
 
-pub welcome_is : (session : WebSession) (name : List ℕ) (v : Value) (result : Result Answer AllocError) → view v ≡ object (member (codes "name") (string name) (member (codes "token") (string (shown session.token)) no_members)) → IfOk result (λ answer. (answer.status ≡ Good) × (answer.cookie ≡ Set session.id)) → IfOk result (λ answer. has_float (view v) ≡ false → answer.body.items ≡ compact_text (view v)) → IfOk result (IsWelcome session)
-welcome_is session name v (Ok answer) built head text = record { status = head.0; cookie = head.1; name = name; text = text (ap has_float built) ∙ ap compact_text built }
-welcome_is session name v (Err e) built head text = tt
+pub welcome_is : (names : ℕ → List ℕ) (session : WebSession) (v : Value) (result : Result Answer AllocError) → view v ≡ object (member (codes "name") (string (shown (names session.account))) (member (codes "token") (string (shown session.token)) no_members)) → IfOk result (λ answer. (answer.status ≡ Good) × (answer.cookie ≡ Set session.id)) → IfOk result (λ answer. has_float (view v) ≡ false → answer.body.items ≡ compact_text (view v)) → IfOk result (IsWelcome names session)
+welcome_is names session v (Ok answer) built head text = record { status = head.0; cookie = head.1; text = text (ap has_float built) ∙ ap compact_text built }
+welcome_is names session v (Err e) built head text = tt
+
+pub named_is : (name : List ℕ) (v : Value) (result : Result Answer AllocError) → view v ≡ object (member (codes "name") (string (shown name)) no_members) → IfOk result (λ answer. (answer.status ≡ Good) × (answer.cookie ≡ Kept)) → IfOk result (λ answer. has_float (view v) ≡ false → answer.body.items ≡ compact_text (view v)) → IfOk result (IsNamed name)
+named_is name v (Ok answer) built head text = record { status = head.0; cookie_is = head.1; text = text (ap has_float built) ∙ ap compact_text built }
+named_is name v (Err e) built head text = tt
 
 -- ---- reasons, of which none has a float
 

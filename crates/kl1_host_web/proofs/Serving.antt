@@ -30,16 +30,16 @@ use Rattle.kl1_host_web.specs.declared.outcome.Outcome.{Outcome}
 use Rattle.kl1_host_web.proofs.Coming.{consumes_both, consumed_front}
 
 -- the session of an account was closed again, and the answer refuses
-pub begun_refused : (gives : List ℕ → Type 0) (account : ℕ) (before after : List Asked) (answer : Performed) (why : Refusal) (result : Result Answer AllocError) → after ≡ before ++ did account (does event.logout) answer ∷ [] → IfOk result (IsRefusal why) → Begun gives account before after result
-begun_refused gives account before after answer why result e h = inr (inr (record { answer = answer; asked = e; kept = refusal_keeps why result h }))
+pub begun_refused : (gives : List ℕ → Type 0) (names : ℕ → List ℕ) (account : ℕ) (before after : List Asked) (answer : Performed) (why : Refusal) (result : Result Answer AllocError) → after ≡ before ++ did account (does event.logout) answer ∷ [] → IfOk result (IsRefusal why) → Begun gives names account before after result
+begun_refused gives names account before after answer why result e h = inr (inr (record { answer = answer; asked = e; kept = refusal_keeps why result h }))
 
 -- the session of an account was closed again, without memory for an answer
-pub begun_failed : (gives : List ℕ → Type 0) (account : ℕ) (before after : List Asked) (answer : Performed) (error : AllocError) → after ≡ before ++ did account (does event.logout) answer ∷ [] → Begun gives account before after (Err error)
-begun_failed gives account before after answer error e = inr (inr (record { answer = answer; asked = e; kept = tt }))
+pub begun_failed : (gives : List ℕ → Type 0) (names : ℕ → List ℕ) (account : ℕ) (before after : List Asked) (answer : Performed) (error : AllocError) → after ≡ before ++ did account (does event.logout) answer ∷ [] → Begun gives names account before after (Err error)
+begun_failed gives names account before after answer error e = inr (inr (record { answer = answer; asked = e; kept = tt }))
 
 -- there was no room for the session
-pub begun_full : (gives : List ℕ → Type 0) (account : ℕ) (before middle after : List Asked) (session : WebSession) (others : List WebSession) (v : Bool) (answer : Performed) (why : Refusal) (result : Result Answer AllocError) → session.account ≡ account → v ≡ false → v ≡ has_room others → middle ≡ before ++ changed (Adds session) others ∷ [] → after ≡ middle ++ did account (does event.logout) answer ∷ [] → IfOk result (IsRefusal why) → Begun gives account before after result
-begun_full gives account before middle after session others v answer why result of_account e room noted closed h = inr (inl (record {
+pub begun_full : (gives : List ℕ → Type 0) (names : ℕ → List ℕ) (account : ℕ) (before middle after : List Asked) (session : WebSession) (others : List WebSession) (v : Bool) (answer : Performed) (why : Refusal) (result : Result Answer AllocError) → session.account ≡ account → v ≡ false → v ≡ has_room others → middle ≡ before ++ changed (Adds session) others ∷ [] → after ≡ middle ++ did account (does event.logout) answer ∷ [] → IfOk result (IsRefusal why) → Begun gives names account before after result
+begun_full gives names account before middle after session others v answer why result of_account e room noted closed h = inr (inl (record {
   session = session;
   others = others;
   answer = answer;
@@ -50,8 +50,8 @@ begun_full gives account before middle after session others v answer why result 
 }))
 
 -- the session is there, and the browser is told of it
-pub begun_told : (gives : List ℕ → Type 0) (account : ℕ) (before after : List Asked) (session : WebSession) (others : List WebSession) (v : Bool) (answer : Answer) → session.account ≡ account → IsDrawn gives session → v ≡ true → v ≡ has_room others → after ≡ before ++ changed (Adds session) others ∷ [] → IsWelcome session answer → Begun gives account before after (Ok answer)
-begun_told gives account before after session others v answer of_account drawn e room noted told = inl (record {
+pub begun_told : (gives : List ℕ → Type 0) (names : ℕ → List ℕ) (account : ℕ) (before after : List Asked) (session : WebSession) (others : List WebSession) (v : Bool) (answer : Answer) → session.account ≡ account → IsDrawn gives session → v ≡ true → v ≡ has_room others → after ≡ before ++ changed (Adds session) others ∷ [] → IsWelcome names session answer → Begun gives names account before after (Ok answer)
+begun_told gives names account before after session others v answer of_account drawn e room noted told = inl (record {
   session = session;
   others = others;
   answer = answer;
@@ -64,7 +64,7 @@ begun_told gives account before after session others v answer of_account drawn e
 })
 
 -- a wish was granted, and what was still to do was done
-pub performs : (gives : List ℕ → Type 0) (house : House) (a : Allowed) (path body : List ℕ) (w : Wish) (before middle after : List Asked) (o : Result Outcome AllocError) (result : Result Answer AllocError) → IsWish a body w → Grants house path (wish_view w) before middle o → Ends gives a o middle after result → Performs gives house a path body before after result
+pub performs : (gives : List ℕ → Type 0) (house : House) (a : Allowed) (path body : List ℕ) (w : Wish) (before middle after : List Asked) (o : Result Outcome AllocError) (result : Result Answer AllocError) → IsWish a body w → Grants house path (wish_view w) before middle o → Ends gives house.names a o middle after result → Performs gives house a path body before after result
 performs gives house a path body w before middle after o result wish grants ends = record {
   value = wish.0;
   reads = wish.1;

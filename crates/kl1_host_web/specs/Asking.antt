@@ -15,9 +15,10 @@ pub data Asked : Type 0 where
   looked : ℕ → Asked
   changed : BookStep → List WebSession → Asked
 
--- how many accounts there are, to which of them a name and a key let in, and what was done before by what does the commands
+-- how many accounts there are, what each is called, to which of them a name and a key let in, and what was done before by what does the commands
 pub record House : Type 0 where
   pub accounts : ℕ
+  pub names : ℕ → List ℕ
   pub opens : Opens
   pub before : List Done
 

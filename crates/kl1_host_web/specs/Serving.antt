@@ -92,11 +92,11 @@ closing (allowed.Owner id account a) sessions = changed (Takes (test.IsCalled id
 
 -- what is still asked after a request was granted, and its answer: only the session of a browser may still begin, or that by which the
 -- request was let in end
-abbrev pub Ends : (List ℕ → Type 0) → Allowed → Result Outcome AllocError → List Asked → List Asked → Result Answer AllocError → Type 0
-Ends gives a (Err e) before after result = (after ≡ before) × IsErr result
-Ends gives a (Ok (outcome.Told answer)) before after result = (after ≡ before) × (result ≡ Ok answer)
-Ends gives a (Ok (outcome.Opens account)) before after result = Begun gives account before after result
-Ends gives a (Ok (outcome.Closes answer)) before after result =
+abbrev pub Ends : (List ℕ → Type 0) → (ℕ → List ℕ) → Allowed → Result Outcome AllocError → List Asked → List Asked → Result Answer AllocError → Type 0
+Ends gives names a (Err e) before after result = (after ≡ before) × IsErr result
+Ends gives names a (Ok (outcome.Told answer)) before after result = (after ≡ before) × (result ≡ Ok answer)
+Ends gives names a (Ok (outcome.Opens account)) before after result = Begun gives names account before after result
+Ends gives names a (Ok (outcome.Closes answer)) before after result =
     (sessions : List WebSession) × (after ≡ before ++ closing a sessions) × (result ≡ answer)
 
 -- what a request wants by its body was granted, and it was answered so
@@ -106,7 +106,7 @@ pub record Performs (gives : List ℕ → Type 0) (house : House) (a : Allowed) 
   pub outcome : Result Outcome AllocError
   pub middle : List Asked
   pub grants : Grants house path (wanted a value) before middle outcome
-  pub ends : Ends gives a outcome middle after result
+  pub ends : Ends gives house.names a outcome middle after result
 
 -- memory was refused before anything was asked
 pub record Fails (before after : List Asked) (result : Result Answer AllocError) : Type 0 where

@@ -89,6 +89,12 @@ pub record IsShoens (lists : ℕ → ℕ → List ShoenView → Type 0) (from : 
   pub shoens : Items
   pub text : answer.body.items ≡ compact_text (object (member (codes "next") (number_data (slice_get views SHOENS_A_PAGE)) (member (codes "shoens") (array shoens) no_members)))
 
+-- an answer tells what an account is called
+pub record IsNamed (name : List ℕ) (answer : Answer) : Type 0 where
+  pub status : answer.status ≡ Good
+  pub cookie_is : answer.cookie ≡ Kept
+  pub text : answer.body.items ≡ compact_text (object (member (codes "name") (string (shown name)) no_members))
+
 -- an outcome is an answer alone, of which this is so
 abbrev pub Tells : (Answer → Type 0) → Outcome → Type 0
 Tells of (outcome.Told answer) = of answer
@@ -178,7 +184,7 @@ Grants house path (do_to account command) before after result =
     (answer : Performed) × (after ≡ before ++ did account command answer ∷ []) × IfOk result (Tells (IsReply answer Kept))
 Grants house path (load_into account source) before after result =
     (answer : Performed) × (after ≡ before ++ did account (does (event.load source)) answer ∷ []) × IfOk result (Tells (IsLoad answer))
-Grants house path (tell account) before after result = (after ≡ before) × IfOk result IsTold
+Grants house path (tell account) before after result = (after ≡ before) × IfOk result (Tells (IsNamed (house.names account)))
 Grants house path (show_of account a) before after result = Shows account a before after × IfOk result IsTold
 Grants house path (show_all a) before after result = (after ≡ before) × IfOk result (IsShown a path)
 

@@ -1,6 +1,6 @@
 // The accounts of a host, as browsers use them.
 
-ghost use Rattle.std.specs.Prelude.{◌≡◌, ◌<◌, ◌++◌, ◌∷◌, [], ℕ, List, IfOk, IfSome, ⊤};
+ghost use Rattle.std.specs.Prelude.{◌≡◌, ◌<◌, ◌++◌, ◌∷◌, [], ℕ, List, IfOk, IfSome, OnOk, ⊤};
 ghost use Rattle.kl1_command.specs.Commands.{command_view};
 ghost use Rattle.kl1_user_events.specs.declared.shoen_view.ShoenView.{ShoenView};
 ghost use Rattle.kl1_host_web.specs.Asking.{Asked, did, looked, changed, House};
@@ -72,7 +72,7 @@ pub trait Viewer {
 pub trait Accounts {
     type Viewer: Viewer + Drop;
 
-    /// How many accounts there are, and whom names and keys let in.
+    /// How many accounts there are, what they are called, whom names and keys let in, and what was done before.
     ghost house: { Self → House };
 
     /// What was asked of accounts, in order.
@@ -91,7 +91,8 @@ pub trait Accounts {
 
     /// Puts the name of an account after the bytes.
     fn put_name(&self, account: usize, out: &mut Vec<u8>) -> Result<(), AllocError>
-        requires { account < (house self.now).accounts };
+        requires { account < (house self.now).accounts }
+        ensures { OnOk result (out.new.items ≡ out.old.items ++ (house self.now).names account) };
 
     /// Does a command to an account.
     fn act(&mut self, account: usize, command: &Command) -> Performed

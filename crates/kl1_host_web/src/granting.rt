@@ -188,7 +188,7 @@ pub fn grant<A: Accounts>(
         Wish::Leave { account } => leave(alloc, accounts, account),
         Wish::Do { account, command } => perform(alloc, accounts, account, &command),
         Wish::Load { account, source } => load(alloc, accounts, account, source),
-        Wish::Tell(account) => told(told_name(alloc, accounts, account)),
+        Wish::Tell(account) => Ok(Outcome::Told(told_name(alloc, accounts, account)?)),
         Wish::Show { account, ask } => show(alloc, accounts, account, ask),
         Wish::Open(ask) => Ok(Outcome::Told(open_page(alloc, accounts, ask, target)?)),
     }
