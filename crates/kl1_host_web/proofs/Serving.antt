@@ -1,5 +1,5 @@
 -- Requests that are attended to, one after another.
-use Rattle.std.proofs.Common.{◌≡◌, ℕ, Bool, true, false, List, [], ◌∷◌, ◌++◌, Some, None, Result, Ok, Err, IsErr, IsErrAnd, IfOk, IfSome, Vec, refl, sym, ap, subst, ◌∙◌, inl, inr, append_assoc}
+use Rattle.std.proofs.Common.{◌≡◌, ℕ, Bool, true, false, List, [], ◌∷◌, ◌++◌, Some, Result, Ok, Err, IsErr, IsErrAnd, IfOk, IfSome, Vec, refl, sym, ap, subst, ◌∙◌, inl, inr, append_assoc}
 use Rattle.std.specs.declared.option.Option.{Option}
 use Rattle.std.specs.declared.alloc.AllocError.{AllocError}
 use Rattle.std.specs.declared.alloc.Global.{Global}
@@ -94,8 +94,8 @@ attended tells gives idle house opens sites is_local head body before admitted a
 }
 
 -- a head and a body that came in one after the other are a request, which was attended to
-pub exchanges : (tells : ℕ → Type 0) (gives : List ℕ → Type 0) (idle : ℕ) (house : House) (opens : Opens) (sites : List Site) (is_local : Bool) (head : Head) (body : List ℕ) (n : ℕ) (o : Option Refusal) (answer : Result Answer AllocError) (old middle new : Option (List ℕ)) (before after : List Asked) → house.opens ≡ opens → HasHead head old middle → body_bytes head ≡ Ok n → o ≡ None → LooksAt tells opens idle sites is_local head n o → HasBody n body middle new → Attends tells gives idle house sites is_local head body before after answer → Exchanges tells gives idle house sites is_local (record { head = head; body = body; answer = answer }) old new before after
-exchanges tells gives idle house opens sites is_local head body n o answer old middle new before after keys comes told none looks follows attends = record {
+pub exchanges : (tells : ℕ → Type 0) (gives : List ℕ → Type 0) (idle : ℕ) (house : House) (opens : Opens) (sites : List Site) (is_local : Bool) (head : Head) (body : List ℕ) (n : ℕ) (o : Result Bool Refusal) (is_in : Bool) (answer : Result Answer AllocError) (old middle new : Option (List ℕ)) (before after : List Asked) → house.opens ≡ opens → HasHead head old middle → body_bytes head ≡ Ok n → o ≡ Ok is_in → LooksAt tells opens idle sites is_local head n o → HasBody n body middle new → Attends tells gives idle house sites is_local head body before after answer → Exchanges tells gives idle house sites is_local (record { head = head; body = body; answer = answer }) old new before after
+exchanges tells gives idle house opens sites is_local head body n o is_in answer old middle new before after keys comes told sent looks follows attends = record {
   next = record {
     bytes = comes.bytes;
     head = comes.is;
@@ -103,8 +103,9 @@ exchanges tells gives idle house opens sites is_local head body n o answer old m
     long = told ∙ ap Ok (sym follows.long);
     consumes = consumes_both old middle new comes.bytes body comes.consumes follows.consumes;
   };
-  looks = subst (λ m. LooksAt tells house.opens idle sites is_local head m None) (sym follows.long)
-      (subst (λ (p : Opens). LooksAt tells p idle sites is_local head n None) (sym keys) (subst (λ w. LooksAt tells opens idle sites is_local head n w) none looks));
+  is_in = is_in;
+  looks = subst (λ m. LooksAt tells house.opens idle sites is_local head m (Ok is_in)) (sym follows.long)
+      (subst (λ (p : Opens). LooksAt tells p idle sites is_local head n (Ok is_in)) (sym keys) (subst (λ w. LooksAt tells opens idle sites is_local head n w) sent looks));
   attends = attends;
 }
 
@@ -119,15 +120,15 @@ no_body head why old middle comes e = record {
 }
 
 -- a head whose body isn't read
-pub kept_out : (tells : ℕ → Type 0) (idle : ℕ) (house : House) (opens : Opens) (sites : List Site) (is_local : Bool) (head : Head) (n : ℕ) (why : Refusal) (o : Option Refusal) (old middle : Option (List ℕ)) → house.opens ≡ opens → HasHead head old middle → body_bytes head ≡ Ok n → o ≡ Some why → LooksAt tells opens idle sites is_local head n o → KeepsOut tells house.opens idle sites is_local why old
-kept_out tells idle house opens sites is_local head n why o old middle keys comes told some looks = record {
+pub kept_out : (tells : ℕ → Type 0) (idle : ℕ) (house : House) (opens : Opens) (sites : List Site) (is_local : Bool) (head : Head) (n : ℕ) (why : Refusal) (o : Result Bool Refusal) (old middle : Option (List ℕ)) → house.opens ≡ opens → HasHead head old middle → body_bytes head ≡ Ok n → o ≡ Err why → LooksAt tells opens idle sites is_local head n o → KeepsOut tells house.opens idle sites is_local why old
+kept_out tells idle house opens sites is_local head n why o old middle keys comes told refused looks = record {
   bytes = comes.bytes;
   head = head;
   count = n;
   front = consumed_front old middle comes.bytes comes.consumes;
   is = comes.is;
   told = told;
-  looks = subst (λ (p : Opens). LooksAt tells p idle sites is_local head n (Some why)) (sym keys) (subst (λ w. LooksAt tells opens idle sites is_local head n w) some looks);
+  looks = subst (λ (p : Opens). LooksAt tells p idle sites is_local head n (Err why)) (sym keys) (subst (λ w. LooksAt tells opens idle sites is_local head n w) refused looks);
 }
 
 -- one more request was served

@@ -17,7 +17,7 @@ use Rattle.kl1_host_door.specs.declared.door.Allowed.{Allowed}
 use Rattle.kl1_host_door.specs.declared.door.Allowed.TheVariants as allowed
 use Rattle.kl1_host_door.specs.declared.head.Head.{Head}
 use Rattle.kl1_host_door.specs.Heads.{IsHead}
-use Rattle.kl1_host_door.specs.Bodies.{body_bytes, body_refusal}
+use Rattle.kl1_host_door.specs.Bodies.{body_bytes, may_send}
 use Rattle.kl1_host_door.specs.Doors.{authorized, is_secure}
 use Rattle.kl1_host_door.specs.declared.book.SessionTest.TheVariants as test
 use Rattle.kl1_host_door.specs.declared.book.BookStep.TheVariants.{Takes}
@@ -180,14 +180,13 @@ pub record HasBody (n : ℕ) (body : List ℕ) (old new : Option (List ℕ)) : T
 
 -- ---- the requests of a connection
 
--- whether a body of n bytes is read after a head was looked up in the book of sessions, and it isn't for this reason: who isn't let in has no long
--- one read
-pub record LooksAt (tells : ℕ → Type 0) (opens : Opens) (idle : ℕ) (sites : List Site) (is_local : Bool) (head : Head) (n : ℕ) (why : Option Refusal) : Type 0 where
+-- whether a body of n bytes is read after a head was looked up in the book of sessions: who isn't let in has no long one read
+pub record LooksAt (tells : ℕ → Type 0) (opens : Opens) (idle : ℕ) (sites : List Site) (is_local : Bool) (head : Head) (n : ℕ) (result : Result Bool Refusal) : Type 0 where
   pub second : ℕ
   pub told : tells second
   pub sessions : List WebSession
   pub opened : All (IsOpened opens) sessions
-  pub is : why ≡ body_refusal n (authorized head sessions sites is_local (second - idle))
+  pub is : result ≡ may_send n (authorized head sessions sites is_local (second - idle))
 
 -- a request by its head and its body, and what was answered; without memory for an answer nothing
 pub record Exchange : Type 0 where
@@ -214,7 +213,8 @@ pub record Attends (tells : ℕ → Type 0) (gives : List ℕ → Type 0) (idle 
 -- the next request was read, its body after it was looked up whether that is read, and attended to
 pub record Exchanges (tells : ℕ → Type 0) (gives : List ℕ → Type 0) (idle : ℕ) (house : House) (sites : List Site) (is_local : Bool) (x : Exchange) (old new : Option (List ℕ)) (before after : List Asked) : Type 0 where
   pub next : IsNext x old new
-  pub looks : LooksAt tells house.opens idle sites is_local x.head (length x.body) None
+  pub is_in : Bool
+  pub looks : LooksAt tells house.opens idle sites is_local x.head (length x.body) (Ok is_in)
   pub attends : Attends tells gives idle house sites is_local x.head x.body before after x.answer
 
 -- requests were read one after another, here the last of them first, and attended to; accounts were asked nothing else
@@ -232,7 +232,7 @@ pub record KeepsOut (tells : ℕ → Type 0) (opens : Opens) (idle : ℕ) (sites
   pub front : IsFront bytes old
   pub is : IsHead bytes head
   pub told : body_bytes head ≡ Ok count
-  pub looks : LooksAt tells opens idle sites is_local head count (Some why)
+  pub looks : LooksAt tells opens idle sites is_local head count (Err why)
 
 -- what became of the next request: it was read and attended to, of a page that came by https or not; or it can't be read for this reason, or
 -- nothing more comes, and accounts were asked nothing; if memory was refused, either

@@ -94,6 +94,9 @@ pub trait Accounts {
         requires { account < (house self.now).accounts }
         ensures { OnOk result (out.new.items ≡ out.old.items ++ (house self.now).names account) };
 
+    /// Takes in that a request was let in to an account, by a session.
+    fn let_in(&self);
+
     /// Does a command to an account.
     fn act(&mut self, account: usize, command: &Command) -> Performed
         requires { account < (house self.old).accounts }

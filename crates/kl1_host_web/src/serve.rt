@@ -70,6 +70,13 @@ fn log_out<A: Accounts>(accounts: &mut A, account: usize)
     }
 }
 
+/// Tells that a request was let in to an account, if it was.
+fn tell_in<A: Accounts>(accounts: &A, is_in: bool) {
+    if is_in {
+        accounts.let_in();
+    }
+}
+
 /// Whether a request is of no account, or of one of `accounts`.
 fn is_within(accounts: usize, allowed: &Allowed) -> bool
     ensures { result ≡ is_within accounts allowed.now }
@@ -151,14 +158,14 @@ impl<'p, R: Wait, M: Machine, K: LoginKeys> Service<'p, R, M, K> {
         allowed
     }
 
-    /// Why a body of `count` bytes isn't read after a head, by the sessions that are open now; `None` if it is read.
-    fn body_refusal(&self, head: &Head, count: u64) -> Option<Refusal>
+    /// Whether a request is let in to an account, whose body of `count` bytes is read, by the sessions that are open now; or why that isn't read.
+    fn may_send(&self, head: &Head, count: u64) -> Result<bool, Refusal>
         ensures { LooksAt (M.tells self.now.machine.now) K.opens self.now.page.idle self.now.page.sites.now self.now.is_local head.now count result }
     {
         let since = self.machine.seconds().saturating_sub(self.page.idle);
         let guard = self.page.sessions.lock(self.rt);
         let book = &*guard;
-        book.body_refusal(head, self.page.sites, self.is_local, since, count)
+        book.may_send(head, self.page.sites, self.is_local, since, count)
     }
 
     /// Ends the sessions of an account whose browsers made no request for too long: each is taken out of the book and logged out, until there
@@ -283,9 +290,11 @@ impl<'p, R: Wait, M: Machine, K: LoginKeys> Service<'p, R, M, K> {
             Err(refusal) => return Ok(Served::Refused(refusal)),
         };
         // Who isn't let in has no long body read. A short one is read also if the request is refused, so that the next one is found.
-        if let Some(refusal) = self.body_refusal(&head, count) {
-            return Ok(Served::Refused(refusal));
-        }
+        let is_in = match self.may_send(&head, count) {
+            Ok(is_in) => is_in,
+            Err(refusal) => return Ok(Served::Refused(refusal)),
+        };
+        tell_in(&*accounts, is_in);
         let Some(body) = inbox.body(self.alloc, source, count as usize)? else {
             return Ok(Served::Ended);
         };
