@@ -10,13 +10,12 @@ use Rattle.kl1_session.specs.Conversations.{Done}
 use Rattle.kl1_host_web.specs.Asking.{Asked, did, looked, changed, AreDone, HasDone}
 
 -- one more command was asked, and done
-pub one_done : (xs : List Asked) (ds : List Done) (account : ℕ) (command : Command) (answer : Performed) → AreDone xs ds → AreDone (xs ++ did account command answer ∷ []) (ds ++ record { account = account; command = command; answer = answer } ∷ [])
-one_done [] ds account command answer none = inl ([], ap (λ l. l ++ record { account = account; command = command; answer = answer } ∷ []) none, refl)
-one_done (did a c p ∷ xs) ds account command answer (inl (rest, is, each)) =
-    inl (rest ++ record { account = account; command = command; answer = answer } ∷ [], ap (λ l. l ++ record { account = account; command = command; answer = answer } ∷ []) is, one_done xs rest account command answer each)
-one_done (did a c p ∷ xs) ds account command answer (inr (refused, each)) = inr (refused, one_done xs ds account command answer each)
-one_done (looked a ∷ xs) ds account command answer each = one_done xs ds account command answer each
-one_done (changed step sessions ∷ xs) ds account command answer each = one_done xs ds account command answer each
+pub one_done : (xs : List Asked) (ds : List Done) (d : Done) → AreDone xs ds → AreDone (xs ++ did d.account d.command d.answer ∷ []) (ds ++ d ∷ [])
+one_done [] ds d none = inl ([], ap (λ (l : List Done). l ++ d ∷ []) none, refl)
+one_done (did a c p ∷ xs) ds d (inl (rest, is, each)) = inl (rest ++ d ∷ [], ap (λ (l : List Done). l ++ d ∷ []) is, one_done xs rest d each)
+one_done (did a c p ∷ xs) ds d (inr (refused, each)) = inr (refused, one_done xs ds d each)
+one_done (looked a ∷ xs) ds d each = one_done xs ds d each
+one_done (changed step sessions ∷ xs) ds d each = one_done xs ds d each
 
 -- one more command was asked, and refused
 pub one_refused : (xs : List Asked) (ds : List Done) (account : ℕ) (command : Command) (answer : Performed) → answer ≡ Memory → AreDone xs ds → AreDone (xs ++ did account command answer ∷ []) ds
@@ -45,14 +44,14 @@ one_changed (changed s others ∷ xs) ds step sessions each = one_changed xs ds 
 -- ---- what was done after some commands
 
 -- nothing yet
-pub none_done : (before after : List Done) (xs : List Asked) → before ≡ after → xs ≡ [] → HasDone before after xs
-none_done before after xs same none = ([], sym same ∙ sym (append-nil before), subst (λ l. AreDone l []) (sym none) refl)
+pub none_done : (before after : List Done) (xs : List Asked) → before ≡ after → xs ≡ [] → ∥ HasDone before after xs ∥₁
+none_done before after xs same none = ∣ ([], sym same ∙ sym (append-nil before), subst (λ l. AreDone l []) (sym none) refl) ∣₁
 
 -- one more
 pub done_more : (before done new : List Done) (xs ys : List Asked) (account : ℕ) (command : Command) (answer : Performed) → new ≡ done ++ record { account = account; command = command; answer = answer } ∷ [] → ys ≡ xs ++ did account command answer ∷ [] → ∥ HasDone before done xs ∥₁ → ∥ HasDone before new ys ∥₁
 done_more before done new xs ys account command answer is asked so_far =
     let d : Done = record { account = account; command = command; answer = answer } in
-    ∥∥₁_map so_far (λ h. (h.0 ++ d ∷ [], is ∙ ap (λ l. l ++ d ∷ []) h.1 ∙ append_assoc before h.0 (d ∷ []), subst (λ l. AreDone l (h.0 ++ d ∷ [])) (sym asked) (one_done xs h.0 account command answer h.2)))
+    ∥∥₁_map so_far (λ h. (h.0 ++ d ∷ [], is ∙ ap (λ l. l ++ d ∷ []) h.1 ∙ append_assoc before h.0 (d ∷ []), subst (λ l. AreDone l (h.0 ++ d ∷ [])) (sym asked) (one_done xs h.0 d h.2)))
 
 -- one that is refused
 pub refused_more : (before done new : List Done) (xs ys : List Asked) (account : ℕ) (command : Command) (answer : Performed) → new ≡ done → answer ≡ Memory → ys ≡ xs ++ did account command answer ∷ [] → ∥ HasDone before done xs ∥₁ → ∥ HasDone before new ys ∥₁
