@@ -25,12 +25,13 @@ is_host sites host = list_any (λ site. bytes_eq site.host.items host) sites
 abbrev pub is_origin : List Site → List ℕ → List ℕ → Bool
 is_origin sites host origin = list_any (λ site. bytes_eq site.host.items host && bytes_eq site.origin.items origin) sites
 
+-- whether a page of this name comes by https
+abbrev pub is_by_https : List Site → List ℕ → Bool
+is_by_https sites host = list_any (λ site. bytes_eq site.host.items host && starts_with nat_eq site.origin.items (codes "https:")) sites
+
 -- whether a request is of a page that comes by https
 abbrev pub is_secure : Head → List Site → Bool
-is_secure head sites = elim (value_of (codes "host") head.fields.items) [
-  | None ↦ false
-  | Some host ↦ list_any (λ site. bytes_eq site.host.items host && starts_with nat_eq site.origin.items (codes "https:")) sites
-]
+is_secure head sites = elim (value_of (codes "host") head.fields.items) [ None ↦ false | Some host ↦ is_by_https sites host ]
 
 -- why a request isn't one to the host from its own page, or from none
 abbrev pub site_refusal : List Field → List Site → Option Refusal

@@ -2,7 +2,7 @@
 
 ghost use Rattle.std.specs.Prelude.{◌≡◌};
 ghost use Rattle.kl1_host_door.specs.Fields.{are_single};
-ghost use Rattle.kl1_host_door.specs.Doors.{is_host, is_origin, is_secure, site_refusal, right_of, by_session, by_owner, admitted, ask_in, authorized};
+ghost use Rattle.kl1_host_door.specs.Doors.{is_host, is_origin, is_by_https, is_secure, site_refusal, right_of, by_session, by_owner, admitted, ask_in, authorized};
 
 use crate::ask::{Ask, ask_of, method_in};
 use crate::field::{Field, is_single, value_of};
@@ -59,14 +59,21 @@ fn is_origin(sites: &[Site], host: &[u8], origin: &[u8]) -> bool
 /// How the origin of a page begins that comes by https.
 const HTTPS: &[u8] = b"https:";
 
+/// Whether a page of this name comes by https.
+fn is_by_https(sites: &[Site], host: &[u8]) -> bool
+    ensures { result ≡ is_by_https sites.now host.now }
+{
+    sites.iter().any(|site| site.host.as_slice() == host
+        && site.origin.as_slice().starts_with(HTTPS))
+}
+
 /// Whether a request is of a page that comes by https.
 pub fn is_secure(head: &Head, sites: &[Site]) -> bool
     ensures { result ≡ is_secure head.now sites.now }
 {
     match value_of(head.fields.as_slice(), b"host") {
         None => false,
-        Some(host) => sites.iter().any(|site| site.host.as_slice() == host
-            && site.origin.as_slice().starts_with(HTTPS)),
+        Some(host) => is_by_https(sites, host),
     }
 }
 
