@@ -1,4 +1,5 @@
 pub mod NamesInOrder
 pub mod OpenedByName
 pub mod Restarts
+pub mod Shelves
 pub mod UsedNames

@@ -144,6 +144,32 @@ fn stand<'t, D: Disk + Drop, W: Wait, R: Wait, K: PoolIds>(
     }
 }
 
+/// How far it is with an account once it is restored from its file, unless it was before.
+fn restored<'t, D: Disk + Drop, W: Wait, R: Wait, K: PoolIds>(
+    rt: &W,
+    alloc: Global,
+    pool: &Pool<'t, R, K>,
+    account: usize,
+    stage: Stage<D>,
+    share: &mut Share<K>,
+) -> Stage<D>
+    ensures { IsRestarted K.rules (slice_get K.names account) stage result }
+{
+    match stage {
+        Stage::Waits(found) => {
+            if account >= pool.accounts() {
+                return Stage::Fails(StartFault::Accounts);
+            }
+            match stand(rt, alloc, pool, account, found, share) {
+                Ok(standing) => Stage::Stands(standing),
+                Err(fault) => Stage::Fails(fault),
+            }
+        }
+        Stage::Stands(standing) => Stage::Stands(standing),
+        Stage::Fails(fault) => Stage::Fails(fault),
+    }
+}
+
 /// Restores an account from its file.
 fn restore_one<'t, D: Disk + Drop, W: Wait, R: Wait, K: PoolIds>(
     rt: &W,
@@ -156,15 +182,7 @@ fn restore_one<'t, D: Disk + Drop, W: Wait, R: Wait, K: PoolIds>(
 {
     let Restart { share, stage } = restart;
     let before = mem::replace(stage, Stage::Fails(StartFault::Accounts));
-    let Stage::Waits(found) = before else {
-        return;
-    };
-    if account < pool.accounts() {
-        *stage = match stand(rt, alloc, pool, account, found, share) {
-            Ok(standing) => Stage::Stands(standing),
-            Err(fault) => Stage::Fails(fault),
-        };
-    }
+    *stage = restored(rt, alloc, pool, account, before, share);
 }
 
 /// Accounts that are to be restored from these files, each with a share.
@@ -210,13 +228,15 @@ fn shelf_of<F: Front, D: Disk + Drop, K: PoolIds>(
     ensures { IfOk result (λ shelf. AreStanding (map (λ r. r.stage) restarts.items) shelf.files.items) }
 {
     let mut shelf = Shelf::new(alloc, restarts.len())?;
-    for (account, restart) in restarts.into_iter().enumerate() {
+    let mut account = 0usize;
+    for restart in restarts {
         let Restart { stage, .. } = restart;
         match stage {
             Stage::Stands(standing) => {
                 let Standing { linked, entries } = standing;
                 shelf.add(linked, bytes)?;
                 front.tell(HostEvent::Restored { account, entries });
+                account = account.saturating_add(1);
             }
             Stage::Fails(fault) => return Err(fault),
             Stage::Waits(_) => return Err(StartFault::Accounts),
