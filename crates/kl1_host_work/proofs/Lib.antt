@@ -1,4 +1,5 @@
 pub mod NamesInOrder
+pub mod Notices
 pub mod OpenedByName
 pub mod OwnHistories
 pub mod Restarts
