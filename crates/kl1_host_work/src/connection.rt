@@ -117,7 +117,7 @@ where
 fn serve_pages_of<'p, 't, F: Front, W: Wait + Clock, R: Wait, K, C: Connecting>(
     rt: &'p W,
     desk: &'p Desk<'p, 't, F, R, K>,
-    visit: &Visit,
+    visit: &'p Visit,
     address: SocketAddr,
     share: Share<K>,
     connection: FreshConnection,
@@ -157,7 +157,7 @@ where
 pub(crate) fn serve_pages<'p, 't, F: Front, W: Wait + Clock, R: Wait, K: PoolIds + Naming>(
     rt: &'p W,
     desk: &'p Desk<'p, 't, F, R, K>,
-    visit: &Visit,
+    visit: &'p Visit,
     address: SocketAddr,
     share: Share<K>,
 ) -> Share<K>
