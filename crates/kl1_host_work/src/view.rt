@@ -132,14 +132,18 @@ impl<F: Front, N: Wait + Clock, R: Wait, K: PoolIds + Naming, C: Connecting> Hos
     }
 
     fn codes_left(&self, account: usize) -> u64 {
-        match self.desk.host.budgets.get(account) {
+        let desk = self.desk;
+        let budgets = desk.host.budgets;
+        match budgets.get(account) {
             Some(budget) => budget.left(),
             None => 0,
         }
     }
 
     fn is_out_of_codes(&self, account: usize) -> bool {
-        match self.desk.host.sources.get(account) {
+        let desk = self.desk;
+        let sources = desk.host.sources;
+        match sources.get(account) {
             Some(sources) => sources.was_refused(),
             None => false,
         }
