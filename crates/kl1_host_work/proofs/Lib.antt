@@ -1,4 +1,6 @@
 pub mod NamesInOrder
 pub mod OpenedByName
+pub mod OwnHistories
 pub mod Restarts
+pub mod Shelves
 pub mod UsedNames
