@@ -10,4 +10,6 @@ pub mod Restarts
 pub mod Standings
 pub mod Refusals
 pub mod Stages
+pub mod Sights
 pub mod Strangers
+pub mod Visitors

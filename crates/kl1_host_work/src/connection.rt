@@ -116,7 +116,7 @@ where
 fn serve_pages_of<'p, 't, F: Front, W: Wait + Clock, R: Wait, K, C: Connecting>(
     rt: &'p W,
     desk: &'p Desk<'p, 't, F, R, K>,
-    visit: &Visit,
+    visit: &'p Visit,
     address: SocketAddr,
     share: Share<K>,
     connection: FreshConnection,
@@ -145,7 +145,7 @@ where
     let mut sink = FailureCounter::new(writer);
     desk.front
         .serve_pages(address, &mut source, &mut sink, &mut performer, &view);
-    visit.end_answer(answers);
+    visit.end_answer(rt, answers);
     let HostHandler { exchange, .. } = performer;
     let (share, _) = exchange.into_parts();
     share
@@ -155,7 +155,7 @@ where
 pub(crate) fn serve_pages<'p, 't, F: Front, W: Wait + Clock, R: Wait, K: PoolIds + Naming>(
     rt: &'p W,
     desk: &'p Desk<'p, 't, F, R, K>,
-    visit: &Visit,
+    visit: &'p Visit,
     address: SocketAddr,
     share: Share<K>,
 ) -> Share<K> {

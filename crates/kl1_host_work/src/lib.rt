@@ -24,6 +24,7 @@ mod start_fault;
 mod starting;
 mod view;
 mod visit;
+mod visitors;
 mod watching;
 
 pub use budget::Budget;

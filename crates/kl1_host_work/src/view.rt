@@ -95,7 +95,7 @@ impl<F: Front, N: Wait + Clock, R: Wait, K: PoolIds + Naming, C: Connecting> Hos
 
     fn begin_answer(&self, account: usize) -> bool {
         match self.visit {
-            Some(visit) => visit.begin_answer(self.desk.board.answers(), account),
+            Some(visit) => visit.begin_answer(self.rt, self.desk.board.answers(), account),
             None => true,
         }
     }
@@ -118,10 +118,10 @@ impl<F: Front, N: Wait + Clock, R: Wait, K: PoolIds + Naming, C: Connecting> Hos
     }
 
     fn sight(&self, account: usize) -> (Option<Sight>, u64) {
-        let (sight, is_new) = self.desk.board.sight(self.rt, account);
+        let (sight, _) = self.desk.board.sight(self.rt, account);
         let age = match sight {
-            Some(sight) if !is_new => now_of(self.rt).saturating_sub(sight.at).as_secs(),
-            _ => 0,
+            Some(sight) => now_of(self.rt).saturating_sub(sight.at).as_secs(),
+            None => 0,
         };
         (sight, age)
     }
@@ -132,14 +132,18 @@ impl<F: Front, N: Wait + Clock, R: Wait, K: PoolIds + Naming, C: Connecting> Hos
     }
 
     fn codes_left(&self, account: usize) -> u64 {
-        match self.desk.host.budgets.get(account) {
+        let desk = self.desk;
+        let budgets = desk.host.budgets;
+        match budgets.get(account) {
             Some(budget) => budget.left(),
             None => 0,
         }
     }
 
     fn is_out_of_codes(&self, account: usize) -> bool {
-        match self.desk.host.sources.get(account) {
+        let desk = self.desk;
+        let sources = desk.host.sources;
+        match sources.get(account) {
             Some(sources) => sources.was_refused(),
             None => false,
         }
