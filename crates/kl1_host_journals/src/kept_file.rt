@@ -41,6 +41,15 @@ impl<D: Disk, J: Naming> KeptFile<D, J> {
         &self.file
     }
 
+    /// The file alone, given back.
+    pub fn into_file(self) -> LogFile<D>
+        ensures { result ≡ self.file }
+    {
+        let KeptFile { file, place } = self;
+        let _ = place;
+        file
+    }
+
     /// What was noted for it so far, as far as it is written.
     pub fn place(&self) -> &Place<J>
         ensures { result.now ≡ self.now.place }
