@@ -1,3 +1,4 @@
+pub mod Lobbies
 pub mod NamesInOrder
 pub mod OpenedByName
 pub mod OwnHistories

@@ -5,6 +5,7 @@ pub mod Linkages
 pub mod Noted
 pub mod Notices
 pub mod Overruns
+pub mod Places
 pub mod OwnHistories
 pub mod Restarts
 pub mod Standings

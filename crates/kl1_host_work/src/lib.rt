@@ -17,6 +17,7 @@ mod linking;
 mod lobby;
 mod noting;
 mod overruns;
+mod place;
 mod restoring;
 mod running;
 mod sources;

@@ -84,11 +84,11 @@ impl<K: PoolIds> Lobby<K> {
         } else {
             LOOKED_AGAIN_AFTER
         });
-        let (guard, _) =
-            self.changed
-                .wait_timeout_while(rt, self.visitors.lock(rt), pause, |visitors| {
-                    visitors.are_full()
-                });
+        let (guard, _) = self
+            .changed
+            .wait_timeout_while(rt, self.visitors.lock(rt), pause, |visitors| {
+                visitors.are_full()
+            });
         drop(guard);
     }
 
@@ -102,11 +102,11 @@ impl<K: PoolIds> Lobby<K> {
     /// Waits until a connection has ended that was told to, for a short time at most.
     pub(crate) fn wait_for_leave<W: Wait + Clock>(&self, rt: &W) {
         let pause = Duration::from_millis(NEXT_GIVES_WAY_AFTER);
-        let (guard, _) =
-            self.changed
-                .wait_timeout_while(rt, self.visitors.lock(rt), pause, |visitors| {
-                    visitors.are_leaving()
-                });
+        let (guard, _) = self
+            .changed
+            .wait_timeout_while(rt, self.visitors.lock(rt), pause, |visitors| {
+                visitors.are_leaving()
+            });
         drop(guard);
     }
 
@@ -128,9 +128,11 @@ impl<K: PoolIds> Lobby<K> {
 
     /// Waits until no connection is open.
     pub(crate) fn wait_until_empty<W: Wait>(&self, rt: &W) {
-        let guard = self
-            .changed
-            .wait_while(rt, self.visitors.lock(rt), |visitors| visitors.count() > 0);
+        let guard = self.changed.wait_while(
+            rt,
+            self.visitors.lock(rt),
+            |visitors| visitors.count() > 0,
+        );
         drop(guard);
     }
 

@@ -1,6 +1,7 @@
 // The sources that an account has loaded.
 
-ghost use Rattle.std.specs.Prelude.{◌≡◌, ◌≤◌, ◌++◌, ◌∷◌, [], ◌⊎◌, list_any, bytes_eq, vec_len};
+ghost use Rattle.std.specs.Prelude.{◌≡◌, ◌≤◌, ◌++◌, ◌∷◌, [], ◌⊎◌, bytes_eq, vec_len};
+ghost use Rattle.std.specs.List.{list_any};
 ghost use Rattle.kl1_host_work.specs.declared.sources.TheConstants.{MOST_KNOWN};
 
 use sha2::{Digest, Sha256};

@@ -44,7 +44,12 @@ impl Visit {
     }
 
     /// Whether an answer of this account to it may be made: not if as many are that aren't read.
-    pub(crate) fn begin_answer<W: Wait>(&self, rt: &W, answers: &[Answers], account: usize) -> bool {
+    pub(crate) fn begin_answer<W: Wait>(
+        &self,
+        rt: &W,
+        answers: &[Answers],
+        account: usize,
+    ) -> bool {
         let mark = account.saturating_add(1);
         if self.answers.load(Ordering::SeqCst) == mark {
             return true;
