@@ -3,7 +3,7 @@ use Rattle.std.proofs.Common.{arith, ◌≡◌, ℕ, zero, suc, ◌<◌, List, [
 use Rattle.std.proofs.lemmas.List.{get_or_push, get_or_append_left, length_push}
 use Rattle.kl1_host_journals.specs.Books.{Books}
 use Rattle.kl1_host_journals.specs.FreshHistories.{books_of}
-use Rattle.kl1_host_journals.specs.declared.history.FreshHistory.{FreshHistory}
+use Rattle.kl1_host_journals.specs.declared.fresh_history.FreshHistory.{FreshHistory}
 use Rattle.kl1_host_work.specs.OwnHistories.{books_at, AreFresh}
 
 -- each has the history at its place, if that is how they are picked

@@ -2,7 +2,7 @@
 use Rattle.std.specs.Prelude.{◌≡◌, ◌<◌, ℕ, zero, suc, List, [], ◌∷◌, length, get_or}
 use Rattle.kl1_host_journals.specs.Books.{Books, no_books}
 use Rattle.kl1_host_journals.specs.FreshHistories.{books_of}
-use Rattle.kl1_host_journals.specs.declared.history.FreshHistory.{FreshHistory}
+use Rattle.kl1_host_journals.specs.declared.fresh_history.FreshHistory.{FreshHistory}
 
 -- the books of the history at a place, counted from 0
 abbrev pub books_at : List FreshHistory → ℕ → Books

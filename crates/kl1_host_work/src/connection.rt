@@ -4,6 +4,7 @@ ghost use Rattle.std.specs.Prelude.{◌≡◌, ◌≤◌, List, []};
 ghost use Rattle.kl1_session.specs.Conversations.{Done};
 ghost use Rattle.kl1_session.specs.Connections.{Serves};
 ghost use Rattle.kl1_pool_history.specs.Histories.{AreAnswered};
+ghost use Rattle.kl1_host_work.specs.Fronts.{AreAccountsOf};
 ghost use Rattle.kl1_host_work.specs.Notices.{IsTold};
 ghost use Rattle.kl1_host_work.specs.declared.connection.TheConstants.{PIECE};
 
@@ -123,7 +124,8 @@ fn serve_pages_of<'p, 't, F: Front, W: Wait + Clock, R: Wait, K, C: Connecting>(
 ) -> Share<K>
 where
     K: PoolIds + Naming,
-    requires { connection.pen.book ≡ C.connection }
+    requires accounts { AreAccountsOf (F.names desk.now.front.now) K.names K.accounts }
+    requires connection { connection.pen.book ≡ C.connection }
 {
     let outgoing = Cell::new(Outgoing::<K, C>::new(connection));
     let mut performer = HostHandler {
@@ -158,7 +160,9 @@ pub(crate) fn serve_pages<'p, 't, F: Front, W: Wait + Clock, R: Wait, K: PoolIds
     visit: &'p Visit,
     address: SocketAddr,
     share: Share<K>,
-) -> Share<K> {
+) -> Share<K>
+    requires { AreAccountsOf (F.names desk.now.front.now) K.names K.accounts }
+{
     let connection = FreshConnection::new();
     serve_pages_of::<F, W, R, K, Brand>(rt, desk, visit, address, share, connection)
 }

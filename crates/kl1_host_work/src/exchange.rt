@@ -142,10 +142,10 @@ impl<K: PoolIds + Naming, C: Connecting> Exchange<K, C> {
         ensures done { Adds account (command_view command.now) result.0 self.old self.new }
         ensures noted { IsNoted K.rules (slice_get K.names account) account result.1 }
     {
-        let performed = self.history.act(rt, pool, account, command);
+        let answered = self.history.act(rt, pool, account, command);
         let (leave, notice) = noted(rt, pool, keeper, account, &self.history, leave);
         self.notice = notice;
-        (performed, leave)
+        (answered, leave)
     }
 
     /// The share in which what was done is counted, as `History::into_share`; and for what the last answer waits.

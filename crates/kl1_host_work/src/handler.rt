@@ -171,12 +171,12 @@ impl<'p, 't, W: Wait, R: Wait, K: PoolIds + Naming, C: Connecting> CommandHandle
 
     fn act(&mut self, account: usize, command: &Command) -> Performed {
         if self.is_refused(account, command) || has_no_room(self.rt, self.host, account, command) {
-            return self.exchange.refuse(account, command);
+            self.exchange.refuse(account, command)
+        } else if self.exchange.tells_nothing(command) {
+            self.act_at_once(account, command)
+        } else {
+            self.act_noted(account, command)
         }
-        if self.exchange.tells_nothing(command) {
-            return self.act_at_once(account, command);
-        }
-        self.act_noted(account, command)
     }
 }
 

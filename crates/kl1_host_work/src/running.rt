@@ -99,7 +99,8 @@ fn attend_as<'p, 't, F: Front, N: Wait + Clock, R: Wait, K, C: Connecting>(
 )
 where
     K: PoolIds + Naming,
-    requires { connection.pen.book ≡ C.connection }
+    requires accounts { AreAccountsOf (F.names desk.now.front.now) K.names K.accounts }
+    requires connection { connection.pen.book ≡ C.connection }
 {
     let outgoing = Cell::new(Outgoing::<K, C>::new(connection));
     let mut performer = HostHandler {
@@ -124,7 +125,9 @@ fn attend<'p, 't, F: Front, N: Wait + Clock, R: Wait, K: PoolIds + Naming>(
     desk: &'p Desk<'p, 't, F, R, K>,
     all_are_there: bool,
     share: Share<K>,
-) {
+)
+    requires { AreAccountsOf (F.names desk.now.front.now) K.names K.accounts }
+{
     if all_are_there {
         let connection = FreshConnection::new();
         attend_as::<F, N, R, K, Brand>(rt, desk, share, connection);
