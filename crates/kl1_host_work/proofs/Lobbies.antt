@@ -65,9 +65,9 @@ module _ {S : Type 0} where
   one_by before places n p (Some rank) found few is at so = ranked before places n p rank found few is at so
 
   -- one more place
-  pub one_more : (before : ℕ) (places : List (Place S)) (n : ℕ) (p : Place S) (found after : Option (ℕ × ℕ)) → n < length places → p ≡ get_or places n p → after ≡ first_of found n (rank_of before p.visitor) → IsFirstToGo before places n found → IsFirstToGo before places (n + 1) after
-  one_more before places n p found after few is then so =
-      subst (IsFirstToGo before places (n + 1)) (sym then) (one_by before places n p (rank_of before p.visitor) found few is refl so)
+  pub one_more : (before : ℕ) (places : List (Place S)) (n : ℕ) (p : Place S) (rank : Option ℕ) (found after : Option (ℕ × ℕ)) → n < length places → p ≡ get_or places n p → rank ≡ rank_of before p.visitor → after ≡ first_of found n rank → IsFirstToGo before places n found → IsFirstToGo before places (n + 1) after
+  one_more before places n p rank found after few is at then so =
+      subst (IsFirstToGo before places (n + 1)) (sym then) (one_by before places n p rank found few is (sym at) so)
 
   goes_by : (before : ℕ) (places : List (Place S)) (f : ℕ × ℕ) (p : Place S) (v : Option Visitor) → p ≡ get_or places f.0 p → IsFirstToGo before places (length places) (Some f) → p.visitor ≡ v → MatchOption (address_of v) (NobodyGoes before places (slice_set places f.0 (told p))) (λ _. OneGoes before places (slice_set places f.0 (told p)))
   goes_by before places f p None is so who = not_both (rank_of before p.visitor) f.1 (ap (rank_of before) who) (ap (λ (q : Place S). rank_of before q.visitor) is ∙ so.1 p)
@@ -78,8 +78,10 @@ module _ {S : Type 0} where
   )
 
   -- the first that gives way is told to end
-  pub one_goes : (before : ℕ) (places : List (Place S)) (f : ℕ × ℕ) (p after : Place S) (address : Option SocketAddr) → p ≡ get_or places f.0 p → IsFirstToGo before places (length places) (Some f) → address ≡ address_of p.visitor → after ≡ told p → MatchOption address (NobodyGoes before places (slice_set places f.0 after)) (λ _. OneGoes before places (slice_set places f.0 after))
-  one_goes before places f p after address is so from ended =
+  pub one_goes : (before : ℕ) (places read : List (Place S)) (f : ℕ × ℕ) (found : Option (ℕ × ℕ)) (p after : Place S) (address : Option SocketAddr) → read ≡ places → found ≡ Some f → IsFirstToGo before read (length read) found → p ≡ get_or places f.0 p → address ≡ address_of p.visitor → after ≡ told p → MatchOption address (NobodyGoes before places (slice_set places f.0 after)) (λ _. OneGoes before places (slice_set places f.0 after))
+  one_goes before places read f found p after address same one so is from ended =
       let P : Option SocketAddr → Type 0 = λ a. MatchOption a (NobodyGoes before places (slice_set places f.0 after)) (λ _. OneGoes before places (slice_set places f.0 after)) in
       let Q : Place S → Type 0 = λ q. MatchOption (address_of p.visitor) (NobodyGoes before places (slice_set places f.0 q)) (λ _. OneGoes before places (slice_set places f.0 q)) in
-      subst P (sym from) (subst Q (sym ended) (goes_by before places f p p.visitor is so refl))
+      let R : List (Place S) → Type 0 = λ ps. IsFirstToGo before ps (length ps) (Some f) in
+      let first : IsFirstToGo before read (length read) (Some f) = subst (IsFirstToGo before read (length read)) one so in
+      subst P (sym from) (subst Q (sym ended) (goes_by before places f p p.visitor is (subst R same first) refl))

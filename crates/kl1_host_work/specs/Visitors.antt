@@ -58,10 +58,14 @@ module _ {S : Type 0} where
       (are_too_many network each waiting before.places.items ≡ false)
       × (position is_free before.places.items ≡ None) × NobodyGoes (2 ^ 64 - 1) before.places.items after.places.items
 
-  -- nothing changes but how far all have come
+  -- of the first `n` places nothing changes but how far who has them has come
   abbrev pub AreLooked : List (Place S) → List (Place S) → ℕ → Type 0
   AreLooked before after n = (length after ≡ length before) × ((k : ℕ) (d : Place S) → k < n → IsLooked (slice_index_or before k d) (slice_index_or after k d))
 
   -- so of all places, and nothing else
   abbrev pub IsLookedAt : Visitors S → Visitors S → Type 0
   IsLookedAt before after = AreLooked before.places.items after.places.items (length before.places.items) × (after.is_closing ≡ before.is_closing) × (after.last ≡ before.last)
+
+  -- of the first `n` places, each is told to end
+  abbrev pub AreTold : List (Place S) → List (Place S) → ℕ → Type 0
+  AreTold before after n = (length after ≡ length before) × ((k : ℕ) (d : Place S) → k < n → slice_index_or after k d ≡ told (slice_index_or before k d))

@@ -1,11 +1,11 @@
 // The places of a lobby, and who has them.
 
 ghost use Rattle.std.specs.Prelude.{◌≡◌, ◌<◌, map, length, slice_index_or, slice_set, count_by, position, not, true, MatchOption, IfOk};
-ghost use Rattle.std.specs.Net.Addr.{socket_ip};
+ghost use Rattle.std.specs.Net.Socket.{socket_ip};
 ghost use Rattle.std.specs.declared.net.ip_addr.IpAddr.{IpAddr};
 ghost use Rattle.kl1_host_work.specs.Strangers.{IsCanonical, network_in};
-ghost use Rattle.kl1_host_work.specs.Places.{free, is_free, is_from, is_stranger_from, told, left, lent};
-ghost use Rattle.kl1_host_work.specs.Visitors.{are_too_many, first_of, IsFirstToGo, IsLookedAt, NobodyGoes, OneGoes, IsTakenIn, IsAdmitted};
+ghost use Rattle.kl1_host_work.specs.Places.{free, is_free, is_from, is_stranger_from, left, lent};
+ghost use Rattle.kl1_host_work.specs.Visitors.{are_too_many, first_of, IsFirstToGo, IsLookedAt, AreTold, NobodyGoes, OneGoes, IsTakenIn, IsAdmitted};
 ghost use Rattle.kl1_host_work.specs.declared.place.Place.{Place};
 
 use crate::lobby::{Admission, Limits};
@@ -108,8 +108,8 @@ impl<S: Drop> Visitors<S> {
     fn end_first(&mut self, before: u64) -> Option<SocketAddr>
         ensures { MatchOption result (NobodyGoes before self.old.places.items self.new.places.items) (λ _. OneGoes before self.old.places.items self.new.places.items) }
     {
-        let (place, _) = first_to_go(self.places.as_slice(), before)?;
-        self.places[place].end()
+        let first = first_to_go(self.places.as_slice(), before)?;
+        self.places[first.0].end()
     }
 
     /// `end_first` of those that came before who has this place.
@@ -140,7 +140,7 @@ impl<S: Drop> Visitors<S> {
 
     /// Lets nobody in from now on, and tells all to end.
     pub(crate) fn close(&mut self)
-        ensures { (self.new.is_closing ≡ true) × (self.new.places.items ≡ map told self.old.places.items) }
+        ensures { (self.new.is_closing ≡ true) × AreTold self.old.places.items self.new.places.items (length self.old.places.items) }
     {
         self.is_closing = true;
         for place in self.places.iter_mut() {

@@ -1,6 +1,4 @@
-use Rattle.std.proofs.Common.{◌≡◌, ◌++◌, drop, ℕ, ◌<◌, ◌≤◌, length}
-use Rattle.std.specs.Prelude.{slice_index_or}
-use Rattle.kl1_host_work.specs.declared.place.Place.{Place}
+use Rattle.std.proofs.Common.{◌≡◌, drop}
 use Rattle.kl1_host_work.specs.Visitors.{AreLooked}
 use Rattle.kl1_host_work.proofs.visitors.Visitors.look.Given as goal
 
