@@ -17,9 +17,9 @@ const IN_PIECES: &[u8] = b"journal 4 0 0\nrun 2\nrun 3\n";
 fn opened(alloc: Global, bytes: &[u8], repair: bool) -> Result<(usize, u64, u64), AllocError> {
     let disk = Memory::new(alloc, Vec::from_slice(alloc, bytes)?, ENOUGH);
     match open_file(alloc, disk, Rules::Four, repair) {
-        Ok((_, opened)) => {
-            let lines = opened.journal.text_lines(alloc)?.len();
-            Ok((lines, opened.repaired.unwrap_or(0), 0))
+        Ok(opened) => {
+            let lines = opened.journal().text_lines(alloc)?.len();
+            Ok((lines, opened.repaired().unwrap_or(0), 0))
         }
         Err(OpenFault::Line(line)) => Ok((0, 0, line)),
         Err(OpenFault::Failed(_)) => Err(AllocError),
@@ -96,11 +96,11 @@ pub(crate) fn same_text_is_not_written_again(alloc: Global) -> Result<bool, Allo
     let same = linked(alloc, 3, file.as_slice(), OPENED_AND_LINKED)?.is_some();
     let fewer = linked(alloc, 3, file.as_slice(), OPENED_AND_LINKED - 1)?.is_some();
     let disk = Memory::new(alloc, file_of(alloc, IN_PIECES)?, ENOUGH);
-    let Ok((file, _)) = open_file(alloc, disk, Rules::Four, false) else {
+    let Ok(opened) = open_file(alloc, disk, Rules::Four, false) else {
         return Ok(false);
     };
     let whole = journal_of(alloc, b"journal 4 0 0\nrun 5\n")?;
-    let Ok(linked) = link(alloc, file, 3, &whole, 0) else {
+    let Ok(linked) = link(alloc, opened.into_file(), 3, &whole, 0) else {
         return Ok(false);
     };
     let bytes = on_disk(alloc, &linked.file)?;

@@ -49,6 +49,16 @@ pub(crate) fn journal_of(alloc: Global, text: &[u8]) -> Result<Journal, AllocErr
     }
 }
 
+/// Another journal with the same text.
+fn copy_of(alloc: Global, journal: &Journal) -> Result<Journal, AllocError> {
+    let mut text = Vec::new(alloc);
+    for line in journal.text_lines(alloc)?.texts() {
+        text.extend_from_slice(line.as_slice())?;
+        text.push(b'\n')?;
+    }
+    journal_of(alloc, text.as_slice())
+}
+
 /// A file in memory with these bytes, which does `left` calls and bytes, opened and linked with the journal that it holds, of generation 0.
 pub(crate) fn linked(
     alloc: Global,
@@ -57,10 +67,11 @@ pub(crate) fn linked(
     left: usize,
 ) -> Result<Option<Linked<Memory>>, AllocError> {
     let disk = Memory::new(alloc, Vec::from_slice(alloc, bytes)?, left);
-    let Ok((file, opened)) = open_file(alloc, disk, Rules::Four, false) else {
+    let Ok(opened) = open_file(alloc, disk, Rules::Four, false) else {
         return Ok(None);
     };
-    match link(alloc, file, account, &opened.journal, 0) {
+    let journal = copy_of(alloc, opened.journal())?;
+    match link(alloc, opened.into_file(), account, &journal, 0) {
         Ok(linked) => Ok(Some(linked)),
         Err(LinkFault::Memory) => Err(AllocError),
         Err(_) => Ok(None),
