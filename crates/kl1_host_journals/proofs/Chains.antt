@@ -167,3 +167,14 @@ grown_before (d ∷ f ∷ fs) e g = (g.0, grown_before (f ∷ fs) e g.1)
 pub grown_last : (d : Edition) (ds : List Edition) (e : Edition) → HaveGrown ((d ∷ ds) ++ e ∷ []) → (last_of (d ∷ ds)).generation ≡ e.generation → IsLater (last_of (d ∷ ds)).journal.journal e.journal.journal
 grown_last d [] e g same = g.0 same
 grown_last d (f ∷ fs) e g same = grown_last f fs e g.1 same
+
+number_by : (d e : Edition) → (d ≡ e) ⊎ Follows d e → d.number ≤ e.number
+number_by d e (inl is) = omega (arith, ap (λ (x : Edition). x.number) is)
+number_by d e (inr f) = f.number
+
+-- Of a history that has no more editions than were added: no more changes were noted at a beginning of it than are noted now.
+pub no_later : (front all log : List Edition) (found count : ℕ) → 1 ≤ length front → IsChain log → IsPrefix front log → IsPrefix all log → length log ≡ found → count ≡ length all → found ≡ count → (last_of front).number ≤ (last_of all).number
+no_later [] all log found count some chain p q long counted is = absurd (omega (arith, some))
+no_later (d ∷ ds) all log found count some chain p q long counted is =
+    let same : all ≡ log = prefix_whole all log q (omega (arith, long, counted, is)) in
+    subst (λ (x : List Edition). (last_of (d ∷ ds)).number ≤ (last_of x).number) (sym same) (number_by (last_of (d ∷ ds)) (last_of log) (later_last d ds log chain p))
