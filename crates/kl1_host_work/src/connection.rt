@@ -4,6 +4,7 @@ ghost use Rattle.std.specs.Prelude.{◌≤◌, List, []};
 ghost use Rattle.kl1_session.specs.Conversations.{Done};
 ghost use Rattle.kl1_session.specs.Connections.{Serves};
 ghost use Rattle.kl1_pool_history.specs.Histories.{AreAnswered};
+ghost use Rattle.kl1_host_work.specs.Fronts.{AreAccountsOf};
 ghost use Rattle.kl1_host_work.specs.declared.connection.TheConstants.{PIECE};
 
 use crate::connections::Desk;
@@ -95,7 +96,9 @@ pub(crate) fn serve_pages<'p, 't, F: Front, W: Wait + Clock, R: Wait, K: PoolIds
     visit: &Visit,
     address: SocketAddr,
     share: Share<K>,
-) -> Share<K> {
+) -> Share<K>
+    requires { AreAccountsOf (F.names desk.now.front.now) K.names K.accounts }
+{
     let outgoing = Cell::new(Outgoing::new());
     let mut performer = HostHandler {
         rt,

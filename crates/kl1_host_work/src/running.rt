@@ -88,7 +88,9 @@ fn attend<'p, 't, F: Front, N: Wait + Clock, R: Wait, K: PoolIds>(
     desk: &'p Desk<'p, 't, F, R, K>,
     all_are_there: bool,
     share: Share<K>,
-) {
+)
+    requires { AreAccountsOf (F.names desk.now.front.now) K.names K.accounts }
+{
     if !all_are_there {
         return;
     }
