@@ -1,4 +1,7 @@
 pub mod NamesInOrder
+pub mod Notices
 pub mod OpenedByName
+pub mod OwnHistories
 pub mod Restarts
+pub mod Shelves
 pub mod UsedNames

@@ -2,7 +2,10 @@ pub mod AccountFiles
 pub mod Filling
 pub mod Fronts
 pub mod Linkages
+pub mod Noted
+pub mod Notices
 pub mod Overruns
+pub mod OwnHistories
 pub mod Restarts
 pub mod Standings
 pub mod Refusals

@@ -9,6 +9,7 @@ use crate::front::{Front, HostEvent};
 use crate::host::Host;
 use crate::lobby::{Admission, Limits, Lobby};
 use crate::visit::Visit;
+use kl1_host_journals::Naming;
 use kl1_pool::{Pool, PoolIds, Share};
 use std::alloc::Global;
 use std::net::{Net, SocketAddr, TcpListener, TcpStream};
@@ -31,24 +32,24 @@ pub(crate) enum Peers {
 
 /// What a connection is served by.
 #[derive(Drop)]
-pub(crate) struct Desk<'d, 't, F: Front, R: Wait, K: PoolIds> {
+pub(crate) struct Desk<'d, 't, F: Front, R: Wait, K: PoolIds + Naming> {
     pub(crate) front: &'d F,
     pub(crate) pool: &'d Pool<'t, R, K>,
     pub(crate) lobby: &'d Lobby<K>,
     pub(crate) board: &'d Board,
-    pub(crate) host: Host<'d>,
+    pub(crate) host: Host<'d, K>,
     pub(crate) limits: Limits,
     pub(crate) alloc: Global,
 }
 
-impl<'d, 't, F: Front, R: Wait, K: PoolIds> Desk<'d, 't, F, R, K> {
+impl<'d, 't, F: Front, R: Wait, K: PoolIds + Naming> Desk<'d, 't, F, R, K> {
     /// A desk of these.
     pub(crate) fn new(
         front: &'d F,
         pool: &'d Pool<'t, R, K>,
         lobby: &'d Lobby<K>,
         board: &'d Board,
-        host: Host<'d>,
+        host: Host<'d, K>,
         limits: Limits,
         alloc: Global,
     ) -> Self
@@ -67,7 +68,7 @@ impl<'d, 't, F: Front, R: Wait, K: PoolIds> Desk<'d, 't, F, R, K> {
 }
 
 /// Serves a connection of a client, and gives the share back.
-fn serve_client<'t, F: Front, W: Wait + Clock, R: Wait, K: PoolIds>(
+fn serve_client<'t, F: Front, W: Wait + Clock, R: Wait, K: PoolIds + Naming>(
     rt: &W,
     desk: &Desk<'_, 't, F, R, K>,
     visit: &Visit,
@@ -78,22 +79,13 @@ fn serve_client<'t, F: Front, W: Wait + Clock, R: Wait, K: PoolIds>(
 {
     desk.front.tell(HostEvent::Opened(address));
     let door = desk.front.door(address);
-    let (served, share) = serve_lines(
-        rt,
-        desk.alloc,
-        visit,
-        desk.pool,
-        desk.host,
-        desk.limits,
-        door,
-        share,
-    );
+    let (served, share) = serve_lines(rt, desk, visit, door, share);
     desk.front.tell(HostEvent::Closed(address, served));
     share
 }
 
 /// Serves a connection that was let in by this number, with the share that is kept for it, and gives that back.
-fn serve_visitor<'t, F: Front, W: Wait + Clock, R: Wait, K: PoolIds>(
+fn serve_visitor<'t, F: Front, W: Wait + Clock, R: Wait, K: PoolIds + Naming>(
     rt: &W,
     desk: &Desk<'_, 't, F, R, K>,
     visit: Arc<Visit, Global>,
@@ -134,7 +126,7 @@ enum Received {
 }
 
 /// Lets a connection in as soon as there is a share for it, if it may. Others that have shown no key give way to it.
-fn arrival_of<'t, F: Front, N: Wait + Clock, R: Wait, K: PoolIds>(
+fn arrival_of<'t, F: Front, N: Wait + Clock, R: Wait, K: PoolIds + Naming>(
     rt: &N,
     desk: &Desk<'_, 't, F, R, K>,
     visit: Arc<Visit, Global>,
@@ -166,7 +158,7 @@ fn arrival_of<'t, F: Front, N: Wait + Clock, R: Wait, K: PoolIds>(
 }
 
 /// Waits for the next connection, and lets it in if it may.
-fn receive<'t, F: Front, N: Wait + Clock, R: Wait, K: PoolIds>(
+fn receive<'t, F: Front, N: Wait + Clock, R: Wait, K: PoolIds + Naming>(
     rt: &N,
     listener: &TcpListener,
     desk: &Desk<'_, 't, F, R, K>,
@@ -186,7 +178,7 @@ fn receive<'t, F: Front, N: Wait + Clock, R: Wait, K: PoolIds>(
 
 /// Takes in that no thread can be made for the connection of this number: the oldest that has shown no key is told to end, and it is waited
 /// a short time for that.
-fn make_room<'t, F: Front, N: Wait + Clock, R: Wait, K: PoolIds>(
+fn make_room<'t, F: Front, N: Wait + Clock, R: Wait, K: PoolIds + Naming>(
     rt: &N,
     desk: &Desk<'_, 't, F, R, K>,
     number: u64,
@@ -201,7 +193,7 @@ fn make_room<'t, F: Front, N: Wait + Clock, R: Wait, K: PoolIds>(
 
 /// Accepts connections until the host closes, and serves each in a thread of its own; one for which no thread can be made is closed. When
 /// all have ended, it returns.
-pub(crate) fn serve_each<'t, F: Front + Sync, N, R: Wait + Sync, K: PoolIds + Send + Sync>(
+pub(crate) fn serve_each<'t, F: Front + Sync, N, R: Wait + Sync, K: PoolIds + Naming + Send + Sync>(
     rt: &N,
     listener: &TcpListener,
     peers: Peers,

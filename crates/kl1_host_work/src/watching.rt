@@ -10,7 +10,7 @@ use crate::noting::note;
 use crate::overruns::change_of;
 use crate::view::sessions_of;
 use crate::visit::now_of;
-use kl1_host_journals::Bell;
+use kl1_host_journals::{Bell, Naming};
 use kl1_model::limits::MOST_ACCOUNTS;
 use kl1_pool::PoolIds;
 use std::sync::Wait;
@@ -32,7 +32,7 @@ struct Told {
 
 /// What is seen of an account now; `None` if another was found, which never is so. It waits for an account that is in the midst of a
 /// reduction.
-fn look<'t, F: Front, W: Wait + Clock, R: Wait, K: PoolIds>(
+fn look<'t, F: Front, W: Wait + Clock, R: Wait, K: PoolIds + Naming>(
     rt: &W,
     desk: &Desk<'_, 't, F, R, K>,
     account: usize,
@@ -53,7 +53,7 @@ fn look<'t, F: Front, W: Wait + Clock, R: Wait, K: PoolIds>(
 }
 
 /// Tells how an account has come to stand with its room on the disk and its sources, if that is another way than before.
-fn tell_room<'t, F: Front, W: Wait, R: Wait, K: PoolIds>(
+fn tell_room<'t, F: Front, W: Wait, R: Wait, K: PoolIds + Naming>(
     rt: &W,
     desk: &Desk<'_, 't, F, R, K>,
     account: usize,
@@ -91,7 +91,7 @@ fn tell_room<'t, F: Front, W: Wait, R: Wait, K: PoolIds>(
 /// Looks at an account whenever somebody asks, and after each period, when it also notes what workers have done to it that nobody commands;
 /// tells when it has come to take more bytes than it may, and how it stands with its room; until it is to end. It waits for an account that
 /// is in the midst of a reduction, and nobody waits for it.
-pub(crate) fn watch<'t, F: Front, W: Wait + Clock, R: Wait, K: PoolIds>(
+pub(crate) fn watch<'t, F: Front, W: Wait + Clock, R: Wait, K: PoolIds + Naming>(
     rt: &W,
     desk: &Desk<'_, 't, F, R, K>,
     account: usize,
@@ -136,7 +136,7 @@ pub(crate) fn watch<'t, F: Front, W: Wait + Clock, R: Wait, K: PoolIds>(
 }
 
 /// Tells for which accounts a host that is to stop waits, each once, until `over`.
-pub(crate) fn tell_waits<'t, F: Front, W: Wait + Clock, R: Wait, K: PoolIds>(
+pub(crate) fn tell_waits<'t, F: Front, W: Wait + Clock, R: Wait, K: PoolIds + Naming>(
     rt: &W,
     desk: &Desk<'_, 't, F, R, K>,
     over: &Bell,
