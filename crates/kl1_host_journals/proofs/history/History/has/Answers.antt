@@ -27,4 +27,4 @@ returns g c = λ is.
     let load = c.load-found.ensures in
     let this : IsPrefix own both = subst (λ (l : List Edition). IsPrefix l both) (ap (λ s. s.log) c.again-seen.ensures) c.learn.ensures.2 in
     no_later noted own all c.load-found.result c.args.self.now.count c.args.noted.now.some load.6.1.1 (prefix_trans noted both all c.learn.ensures.3 load.5) (prefix_trans own both all this load.5) load.6.1.0 c.args.self.now.counted
-        (eqb-true c.load-found.result c.args.self.now.count is)
+    (eqb-true c.load-found.result c.args.self.now.count is)
