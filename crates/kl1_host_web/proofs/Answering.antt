@@ -136,8 +136,8 @@ one_reason values new v pushed exact so_far = ap (λ l. items_have_float (items_
 -- ---- shoens
 
 -- the number of the shoen at a place where there is none, and where there is one
-pub none_at : (views : List ShoenView) (place : ℕ) → length views ≤ place → null ≡ number_data (slice_get views place)
-none_at views place past = sym (ap number_data (slice_get_past views place past))
+pub none_at : (views : List ShoenView) (place : ℕ) (d : Data) → length views ≤ place → d ≡ null → d ≡ number_data (slice_get views place)
+none_at views place d past e = e ∙ sym (ap number_data (slice_get_past views place past))
 
 pub one_at : (views : List ShoenView) (place : ℕ) (one : ShoenView) (d : Data) → place < length views → one ≡ get_or views place one → d ≡ number (unsigned one.number.0) → d ≡ number_data (slice_get views place)
 one_at views place one d within is e = e ∙ sym (ap number_data (slice_get_read views (length views) place one refl within is))
