@@ -1,3 +1,4 @@
+pub mod Lobbies
 pub mod NamesInOrder
 pub mod Notices
 pub mod OpenedByName

@@ -5,9 +5,12 @@ pub mod Linkages
 pub mod Noted
 pub mod Notices
 pub mod Overruns
+pub mod Places
 pub mod OwnHistories
 pub mod Restarts
 pub mod Standings
 pub mod Refusals
 pub mod Stages
+pub mod Sights
 pub mod Strangers
+pub mod Visitors

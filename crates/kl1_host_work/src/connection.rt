@@ -147,7 +147,7 @@ where
     let mut sink = FailureCounter::new(writer);
     desk.front
         .serve_pages(address, &mut source, &mut sink, &mut performer, &view);
-    visit.end_answer(answers);
+    visit.end_answer(rt, answers);
     let HostHandler { exchange, .. } = performer;
     let (share, _) = exchange.into_parts();
     share

@@ -2,7 +2,7 @@
 
 ghost use Rattle.std.specs.Prelude.{◌≡◌};
 ghost use Rattle.kl1_command.specs.Commands.{command_view};
-ghost use Rattle.kl1_host_work.specs.Filling.{goes_on, fills_disk, is_reset, is_of_sessions};
+ghost use Rattle.kl1_host_work.specs.Filling.{goes_on, fills_disk, is_reset, is_of_sessions, lacks_room};
 
 use crate::host::{FileRoom, Host};
 use kl1_command::Command;
@@ -60,6 +60,20 @@ pub(crate) fn is_of_sessions(command: &Command) -> bool
     matches!(command, Command::Does(Event::Login | Event::Logout))
 }
 
+/// Whether a command lacks room, by how it stands with the room for its account's file: whether what was written waits for some, whether
+/// there is none for what a reset writes, and whether the file has as many bytes as it may.
+fn lacks_room(command: &Command, is_short: bool, lacks_reserve: bool, is_beyond: bool) -> bool
+    ensures { result ≡ lacks_room (command_view command.now) is_short lacks_reserve is_beyond }
+{
+    if is_of_sessions(command) {
+        return false;
+    }
+    if is_reset(command) {
+        return lacks_reserve;
+    }
+    is_short || (fills_disk(command) && is_beyond)
+}
+
 /// Whether what a command would write has no room: its account's file has as many bytes as it may, with those that wait for it; or the disk
 /// is full, so that only a session is opened or closed, and a reset is done if there is room for that.
 pub(crate) fn has_no_room<W: Wait, J: Naming>(
@@ -71,16 +85,8 @@ pub(crate) fn has_no_room<W: Wait, J: Naming>(
     let Some(room) = room_of(host.rooms, account) else {
         return false;
     };
-    if is_of_sessions(command) {
-        return false;
-    }
-    if is_reset(command) {
-        return room.lacks_reserve();
-    }
-    if room.is_short() {
-        return true;
-    }
-    fills_disk(command) && is_beyond(rt, host, account, room)
+    let is_beyond = fills_disk(command) && is_beyond(rt, host, account, room);
+    lacks_room(command, room.is_short(), room.lacks_reserve(), is_beyond)
 }
 
 /// Whether the file of an account has as many bytes as it may, with those that wait for it.

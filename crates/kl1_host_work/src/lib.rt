@@ -17,6 +17,7 @@ mod linking;
 mod lobby;
 mod noting;
 mod overruns;
+mod place;
 mod restoring;
 mod running;
 mod sources;
@@ -24,6 +25,7 @@ mod start_fault;
 mod starting;
 mod view;
 mod visit;
+mod visitors;
 mod watching;
 
 pub use budget::Budget;

@@ -182,12 +182,12 @@ where
     F::Entrance: Send,
     requires tables { (parts.table ≡ K.table) × (parts.seats ≡ K.seats) × (parts.codes ≡ K.codes) }
     requires names { (parts.rules ≡ K.rules) × (parts.names ≡ K.names) }
+    requires bound { parts.most_bytes ≡ K.most_bytes }
     requires tickets { (parts.tally ≡ K.tally) × (parts.queue ≡ K.queue) × (parts.accounts ≡ K.accounts) × (parts.shares ≡ K.shares) }
     requires accounts { AreAccountsOf (F.names front.now) parts.names parts.accounts }
     requires histories { AreFresh K.books found.histories.items }
 {
     let (pool, shares) = Pool::<R, K>::new(rt, alloc, parts)?;
-    let pool = pool.bounded(setup.memory_each);
     let ended = run_pool(rt, alloc, listeners, front, &pool, shares, found, setup);
     pool.discard();
     ended
@@ -248,7 +248,8 @@ where
             // Accounts are restored with shares of their own.
             .saturating_add(accounts.len()),
     )?
-    .with_names(used);
+    .with_names(used)
+    .bounded(setup.memory_each);
     let histories = fresh_histories(alloc, accounts.len())?;
     let found = FoundFiles {
         accounts,

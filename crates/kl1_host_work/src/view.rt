@@ -95,7 +95,7 @@ impl<F: Front, N: Wait + Clock, R: Wait, K: PoolIds + Naming, C: Connecting> Hos
 
     fn begin_answer(&self, account: usize) -> bool {
         match self.visit {
-            Some(visit) => visit.begin_answer(self.desk.board.answers(), account),
+            Some(visit) => visit.begin_answer(self.rt, self.desk.board.answers(), account),
             None => true,
         }
     }
@@ -118,10 +118,10 @@ impl<F: Front, N: Wait + Clock, R: Wait, K: PoolIds + Naming, C: Connecting> Hos
     }
 
     fn sight(&self, account: usize) -> (Option<Sight>, u64) {
-        let (sight, is_new) = self.desk.board.sight(self.rt, account);
+        let (sight, _) = self.desk.board.sight(self.rt, account);
         let age = match sight {
-            Some(sight) if !is_new => now_of(self.rt).saturating_sub(sight.at).as_secs(),
-            _ => 0,
+            Some(sight) => now_of(self.rt).saturating_sub(sight.at).as_secs(),
+            None => 0,
         };
         (sight, age)
     }

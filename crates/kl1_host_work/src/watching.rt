@@ -88,9 +88,30 @@ fn tell_room<'t, F: Front, W: Wait, R: Wait, K: PoolIds + Naming>(
     }
 }
 
-/// Looks at an account whenever somebody asks, and after each period, when it also notes what workers have done to it that nobody commands;
-/// tells when it has come to take more bytes than it may, and how it stands with its room; until it is to end. It waits for an account that
-/// is in the midst of a reduction, and nobody waits for it.
+/// Looks at an account for those who ask, and tells when it has come to take more bytes than it may. `over` has whether it did before.
+fn see<'t, F: Front, W: Wait + Clock, R: Wait, K: PoolIds + Naming>(
+    rt: &W,
+    desk: &Desk<'_, 't, F, R, K>,
+    account: usize,
+    outlook: &Outlook,
+    over: &mut [bool; MOST_ACCOUNTS],
+)
+    requires { account < K.accounts }
+{
+    let (asked, _) = outlook.asked(rt);
+    let sight = look(rt, desk, account);
+    outlook.show(rt, sight, asked);
+    if account < over.len()
+        && let Some(sight) = sight
+        && let Some(event) = change_of(over, account, sight.bytes, desk.host.memory_each)
+    {
+        desk.front.tell(event);
+    }
+}
+
+/// Looks at an account whenever somebody asks, and once in a while for the bytes that it takes; notes after each period what workers have
+/// done to it that nobody commands; and tells how it stands with its room; until it is to end. It waits for an account that is in the midst
+/// of a reduction, and nobody waits for it.
 pub(crate) fn watch<'t, F: Front, W: Wait + Clock, R: Wait, K: PoolIds + Naming>(
     rt: &W,
     desk: &Desk<'_, 't, F, R, K>,
@@ -106,17 +127,15 @@ pub(crate) fn watch<'t, F: Front, W: Wait + Clock, R: Wait, K: PoolIds + Naming>
         fills_disk: false,
         has_all_codes: false,
     };
-    let most = desk.host.memory_each;
     let period = desk.host.syncing.period;
-    let pause = period.min(Duration::from_millis(LOOKED_AT_AFTER));
-    let mut noted = now_of(rt);
+    let most = Duration::from_millis(LOOKED_AT_AFTER);
+    let (mut noted, mut looked) = (now_of(rt), now_of(rt));
     for _ in rt.forever() {
         // It is told before it waits for the account.
         tell_room(rt, desk, account, &mut told);
-        if outlook.bell().wait(rt, pause) {
+        if outlook.bell().wait(rt, period.min(most)) {
             return;
         }
-        let asked = outlook.asked(rt);
         let now = now_of(rt);
         if now.saturating_sub(noted) >= period
             && let Some(keeper) = desk.host.keepers.get(account)
@@ -124,13 +143,10 @@ pub(crate) fn watch<'t, F: Front, W: Wait + Clock, R: Wait, K: PoolIds + Naming>
             noted = now;
             note(rt, desk.pool, keeper, account);
         }
-        let sight = look(rt, desk, account);
-        outlook.show(rt, sight, asked);
-        if account < over.len()
-            && let Some(sight) = sight
-            && let Some(event) = change_of(&mut over, account, sight.bytes, most)
-        {
-            desk.front.tell(event);
+        let (_, is_awaited) = outlook.asked(rt);
+        if is_awaited || now.saturating_sub(looked) >= most {
+            looked = now;
+            see(rt, desk, account, outlook, &mut over);
         }
     }
 }
