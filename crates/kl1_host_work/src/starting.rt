@@ -74,7 +74,6 @@ fn names_of(alloc: Global, journal: &Journal) -> Result<Vec<AtomText>, AllocErro
 }
 
 /// The names that each account had used when its journal began.
-#[tactic(auto, using(crate::proofs::UsedNames::one_more_used, crate::proofs::UsedNames::used_more))]
 fn used_of<D: Disk>(
     alloc: Global,
     accounts: &[AccountFile<D>],
