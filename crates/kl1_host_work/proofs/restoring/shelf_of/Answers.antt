@@ -5,7 +5,10 @@ use Rattle.kl1_host_work.proofs.Shelves.{one_stands}
 use Rattle.kl1_host_work.proofs.restoring.shelf_of.Goals as goal
 
 pub loop-restart-preserved-in_ok-add-in-Stands : goal.loop-restart-preserved-in_ok-add-in-Stands
-loop-restart-preserved-in_ok-add-in-Stands g c = one_stands _ c.loop-restart.yielded c.in-Some.restart c.in-Stands.standing _ _ c.loop-restart.invariant c.in-Stands.is c.in_ok-add.ensures
+loop-restart-preserved-in_ok-add-in-Stands g c = one_stands _ c.loop-restart.yielded c.in-Some.restart c.in-Stands.standing _ _ c.loop-restart.invariant c.in-Stands.is c.in_ok-add-in-Stands.ensures
+
+pub loop-restart-preserved : goal.loop-restart-preserved
+loop-restart-preserved g c = one_stands _ c.loop-restart.yielded c.in-Some.restart c.in-Stands.standing _ _ c.loop-restart.invariant c.in-Stands.is c.in_ok-add-in-Stands.ensures
 
 -- all of them were gone through
 pub returns : goal.returns
