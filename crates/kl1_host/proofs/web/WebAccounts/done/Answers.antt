@@ -1,0 +1,14 @@
+use Rattle.std.proofs.Common.{arith}
+use Rattle.kl1_command.specs.Commands.{command_view}
+use Rattle.kl1_host_web.specs.Records.{asked_in}
+use Rattle.kl1_host_web.proofs.Doing.{done_more}
+use Rattle.kl1_host.proofs.web.WebAccounts.done.Goals as goal
+
+pub invariant_of-self : goal.invariant_of-self
+invariant_of-self g c =
+    let done = g.P.Performer.done in
+    let self = c.args.self.now in
+    record {
+      counts = self.counts;
+      is_done = done_more (done self.begun.value) (done self.performer) (done c.perform.new.self) (asked_in self.noted) (asked_in c.did.new.self) c.args.account (command_view c.args.command.now) c.perform.result (c.perform.ensures.done (omega (arith, c.requires, self.counts))) c.did.ensures self.is_done;
+    }
