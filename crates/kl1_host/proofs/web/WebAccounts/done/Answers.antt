@@ -10,5 +10,5 @@ invariant_of-self g c =
     let self = c.args.self.now in
     record {
       counts = self.counts;
-      is_done = done_more (done self.begun.value) (done self.performer) (done c.perform.new.self) (asked_in self.noted) (asked_in c.did.new.self) c.args.account (command_view c.args.command.now) c.perform.result (c.perform.ensures.done (omega (arith, c.requires, self.counts))) c.did.ensures self.is_done;
+      is_done = done_more (done self.begun.value) (done self.performer) (done c.perform-performed.new.self) (asked_in self.noted) (asked_in c.did.new.self) c.args.account (command_view c.args.command.now) c.perform-performed.result (c.perform-performed.ensures.done (omega (arith, c.requires, self.counts))) c.did.ensures self.is_done;
     }
