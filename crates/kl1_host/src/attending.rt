@@ -26,7 +26,7 @@ where
     pub host: &'v V,
     /// The second in which sessions of browsers were looked at last.
     pub last: u64,
-    pub ghost counts: { length program.now.keys.now ≤ P.accounts performer.now },
+    pub ghost counts: { length program.now.keys.now ≤ P.accounts },
 }
 
 /// A number with its name.

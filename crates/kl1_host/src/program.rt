@@ -100,8 +100,9 @@ impl<'f, R: Wait + Clock + Eprint + Files + RandomSource, K: LoginKeys> Program<
         performer: P,
         host: &'w V,
     ) -> WebAccounts<'w, 'f, R, P, V>
-        requires { length self.now.keys.now ≤ P.accounts performer }
-        ensures keys { result.door.keys.now ≡ self.now.keys.now }
+        requires { length self.now.keys.now ≤ P.accounts }
+        ensures door { result.door.keys.now ≡ self.now.keys.now }
+        ensures keys { result.keys.now ≡ self.now.keys.now }
         ensures performer { P.done result.begun.value ≡ P.done performer }
         ensures asked { asked_in result.noted ≡ [] }
     {
@@ -111,6 +112,7 @@ impl<'f, R: Wait + Clock + Eprint + Files + RandomSource, K: LoginKeys> Program<
             alloc: self.alloc,
             folder: self.folder,
             most_bytes: self.memory_each,
+            keys: self.keys,
             door: self.door_of(address),
             performer,
             begun,
@@ -140,8 +142,7 @@ impl<'f, R: Wait + Clock + Eprint + Files + RandomSource, K: LoginKeys> Program<
 
     /// Ends the sessions of an account whose browsers made no request for too long.
     pub fn end_idle<P: Performer, V: HostView>(&self, performer: &mut P, host: &V, account: usize)
-        requires { length self.now.keys.now ≤ P.accounts performer.old }
-        ensures { length self.now.keys.now ≤ P.accounts performer.new }
+        requires { length self.now.keys.now ≤ P.accounts }
     {
         // No key is tried, so it counts for no address.
         let address = SocketAddr::V4(SocketAddrV4::new(Ipv4Addr::LOCALHOST, 0));
@@ -150,23 +151,22 @@ impl<'f, R: Wait + Clock + Eprint + Files + RandomSource, K: LoginKeys> Program<
         self.service(true).end_idle(&mut accounts, account);
     }
 
-    /// Serves a connection of a browser from this address. What is asked of accounts is what its requests may have, and just that is done by
-    /// `performer`, each command once, unless it is answered as if memory was refused.
-    fn serve_browser<S: Source, T: Sink, P: Performer, V: HostView>(
+    /// Serves a connection of a browser from this address, which begins with these accounts. What is asked of them is what its requests may
+    /// have, and just that is done by their performer, each command once, unless it is answered as if memory was refused.
+    fn serve_browser<S: Source, T: Sink, P: Performer + Drop, V: HostView>(
         &self,
         address: SocketAddr,
         source: &mut S,
         sink: &mut T,
-        performer: &mut P,
-        host: &V,
+        accounts: &mut WebAccounts<'_, 'f, R, P, V>,
     )
-        requires { length self.now.keys.now ≤ P.accounts performer.old }
-        ensures { ∥ IsServed (entries_view self.now.keys.now) (length self.now.keys.now) self.now.idle self.now.sites.now (S.remaining source.old) (P.done performer.old) (P.done performer.new) ∥₁ }
+        requires door { accounts.old.door.keys.now ≡ self.now.keys.now }
+        requires keys { accounts.old.keys.now ≡ self.now.keys.now }
+        requires fresh { asked_in accounts.old.noted ≡ [] }
+        ensures { ∥ IsServed (entries_view self.now.keys.now) (length self.now.keys.now) self.now.idle self.now.sites.now (S.remaining source.old) (P.done accounts.old.begun.value) (P.done accounts.new.performer) ∥₁ }
     {
-        let performer = LentPerformer { performer };
-        let mut accounts = self.accounts_of(address, performer, host);
         self.service(is_local(address))
-            .serve(source, sink, &mut accounts);
+            .serve(source, sink, accounts);
     }
 
     /// The name of an account, by its number.
@@ -371,7 +371,9 @@ where
         performer: &mut P,
         host: &V,
     ) {
-        self.serve_browser(address, source, sink, performer, host);
+        let performer = LentPerformer { performer };
+        let mut accounts = self.accounts_of(address, performer, host);
+        self.serve_browser(address, source, sink, &mut accounts);
     }
 
     #[tactic(auto, using(kl1_host_work::proofs::NamesInOrder::length_names))]

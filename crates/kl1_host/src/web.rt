@@ -1,7 +1,8 @@
 // The accounts of a host, as browsers use them.
 
-ghost use Rattle.std.specs.Prelude.{◌≤◌, length};
-ghost use Rattle.kl1_host_web.specs.Asking.{HasDone};
+ghost use Rattle.std.specs.Prelude.{◌≡◌, ◌<◌, ◌≤◌, ◌++◌, ◌∷◌, [], length};
+ghost use Rattle.kl1_command.specs.Commands.{command_view};
+ghost use Rattle.kl1_host_web.specs.Asking.{did, HasDone};
 ghost use Rattle.kl1_host_web.specs.Records.{asked_in};
 
 use crate::folder::journal_in;
@@ -12,7 +13,7 @@ use kl1_host_web::{
     Accounts, AskedRecord, BookChange, LoginKeys, Measures, Site, Stop, Sums, Viewer,
 };
 use kl1_host_work::{HostView, Performer};
-use kl1_session::Door;
+use kl1_session::{Door, Key};
 use kl1_user_events::{Event, Extent, GoalNo, GoalView, Presence, ShoenNo, ShoenView, Usage};
 use std::alloc::{AllocError, Global};
 use std::fs;
@@ -177,7 +178,7 @@ pub struct LentPerformer<'p, P: Performer> {
 }
 
 impl<P: Performer> Performer for LentPerformer<'_, P> {
-    ghost accounts = { λ l. P.accounts l.performer.now };
+    ghost accounts = { P.accounts };
 
     ghost done = { λ l. P.done l.performer.now };
 
@@ -193,14 +194,51 @@ pub struct WebAccounts<'w, 'f, R: Wait + Clock + Eprint + Files, P: Performer + 
     pub alloc: Global,
     pub folder: &'f str,
     pub most_bytes: u64,
+    pub keys: &'f [Key],
     pub door: PausingDoor<'f, R, LoginLog<'f, R>>,
     pub performer: P,
     /// What does the commands, as it was when the connection began.
     pub begun: Snapshot<P>,
     pub host: &'w V,
     pub noted: AskedRecord,
-    pub ghost counts: { length door.keys.now ≤ P.accounts performer },
+    pub ghost counts: { length door.keys.now ≤ P.accounts },
     pub ghost is_done: { ∥ HasDone (P.done begun.value) (P.done performer) (asked_in noted) ∥₁ },
+}
+
+impl<R: Wait + Clock + Eprint + Files, P: Performer + Drop, V: HostView> WebAccounts<
+    '_,
+    '_,
+    R,
+    P,
+    V,
+> {
+    /// Has a command done to an account, and notes it.
+    fn done(&mut self, account: usize, command: &Command) -> Performed
+        requires { account < length self.old.door.keys.now }
+        ensures door { self.new.door.keys.now ≡ self.old.door.keys.now }
+        ensures keys { self.new.keys.now ≡ self.old.keys.now }
+        ensures begun { self.new.begun.value ≡ self.old.begun.value }
+        ensures asked { asked_in self.new.noted ≡ asked_in self.old.noted ++ did account (command_view command.now) result ∷ [] }
+    {
+        let performed = self.performer.perform(account, command);
+        self.noted
+            .did(Snapshot::of(&account), Snapshot::of(command), &performed);
+        performed
+    }
+
+    /// Notes a command that is answered as if memory was refused.
+    #[tactic(auto, using(kl1_host_web::proofs::Doing::refused_more))]
+    fn refused(&mut self, account: usize, command: &Command) -> Performed
+        ensures door { self.new.door.keys.now ≡ self.old.door.keys.now }
+        ensures keys { self.new.keys.now ≡ self.old.keys.now }
+        ensures begun { self.new.begun.value ≡ self.old.begun.value }
+        ensures asked { asked_in self.new.noted ≡ asked_in self.old.noted ++ did account (command_view command.now) result ∷ [] }
+    {
+        let performed = Performed::Memory;
+        self.noted
+            .did(Snapshot::of(&account), Snapshot::of(command), &performed);
+        performed
+    }
 }
 
 impl<'w, R: Wait + Clock + Eprint + Files, P: Performer + Drop, V: HostView> Accounts
@@ -213,7 +251,7 @@ impl<'w, R: Wait + Clock + Eprint + Files, P: Performer + Drop, V: HostView> Acc
     ghost use Rattle.kl1_host.specs.Browsers.{name_at};
     ghost use Rattle.kl1_host_web.specs.Records.{asked_in};
 
-    ghost house = { λ w. record { accounts = length w.door.keys.now; names = name_at (entries_view w.door.keys.now); opens = opened_by_sum (entries_view w.door.keys.now); before = P.done w.begun.value } };
+    ghost house = { λ w. record { accounts = length w.door.keys.now; names = name_at (entries_view w.keys.now); opens = opened_by_sum (entries_view w.door.keys.now); before = P.done w.begun.value } };
 
     ghost asked = { λ w. asked_in w.noted };
 
@@ -230,7 +268,7 @@ impl<'w, R: Wait + Clock + Eprint + Files, P: Performer + Drop, V: HostView> Acc
     }
 
     fn put_name(&self, account: usize, out: &mut Vec<u8>) -> Result<(), AllocError> {
-        match self.door.keys.get(account) {
+        match self.keys.get(account) {
             Some(key) => out.extend_from_slice(key.name.as_slice()),
             None => Ok(()),
         }
@@ -241,18 +279,13 @@ impl<'w, R: Wait + Clock + Eprint + Files, P: Performer + Drop, V: HostView> Acc
         self.host.let_in();
     }
 
-    #[tactic(auto, using(kl1_host_web::proofs::Doing::done_more, kl1_host_web::proofs::Doing::refused_more))]
     fn act(&mut self, account: usize, command: &Command) -> Performed {
         // A session is closed whoever reads.
-        let may_answer = is_logout(command) || self.host.begin_answer(account);
-        let performed = if may_answer {
-            self.performer.perform(account, command)
+        if is_logout(command) || self.host.begin_answer(account) {
+            self.done(account, command)
         } else {
-            Performed::Memory
-        };
-        self.noted
-            .did(Snapshot::of(&account), Snapshot::of(command), &performed);
-        performed
+            self.refused(account, command)
+        }
     }
 
     #[tactic(auto, using(kl1_host_web::proofs::Doing::looked_more))]

@@ -147,16 +147,15 @@ pub trait HostView {
 /// What does commands for a connection.
 pub trait Performer {
     /// How many accounts there are.
-    ghost accounts: { Self → ℕ };
+    ghost accounts: { ℕ };
 
     /// What was done, in order, with what was answered.
     ghost done: { Self → List Done };
 
     /// Does a command to an account; if there is no such account, as if memory was refused.
     fn perform(&mut self, account: usize, command: &Command) -> Performed
-        ensures accounts { accounts self.new ≡ accounts self.old }
-        ensures done { account < accounts self.old → done self.new ≡ done self.old ++ record { account = account; command = command_view command.now; answer = result } ∷ [] }
-        ensures none { accounts self.old ≤ account → (done self.new ≡ done self.old) × (result ≡ Memory) };
+        ensures done { account < accounts → done self.new ≡ done self.old ++ record { account = account; command = command_view command.now; answer = result } ∷ [] }
+        ensures none { accounts ≤ account → (done self.new ≡ done self.old) × (result ≡ Memory) };
 }
 
 /// The program around a host: who is let in, what is told to its log, and when it stops.
@@ -184,9 +183,9 @@ pub trait Front {
         performer: &mut P,
         host: &V,
     )
-        requires { length (names self.now) ≤ P.accounts performer.old };
+        requires { length (names self.now) ≤ P.accounts };
 
     /// Attends to a host, in the thread that runs it, and may do commands. The host stops when it returns.
     fn attend<P: Performer, V: HostView>(&self, performer: &mut P, host: &V)
-        requires { length (names self.now) ≤ P.accounts performer.old };
+        requires { length (names self.now) ≤ P.accounts };
 }

@@ -182,7 +182,7 @@ impl<'p, 't, W: Wait, R: Wait, K: PoolIds + Naming, C: Connecting> CommandHandle
 
 impl<'p, 't, W: Wait, R: Wait, K: PoolIds + Naming, C: Connecting> Performer
     for HostHandler<'p, 't, W, R, K, C> {
-    ghost accounts = { λ handler. K.accounts };
+    ghost accounts = { K.accounts };
 
     ghost done = { λ handler. handler.exchange.history.done };
 
