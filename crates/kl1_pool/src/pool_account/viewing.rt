@@ -1,13 +1,14 @@
 // What is shown of an account with its book.
 
-ghost use Rattle.std.specs.Prelude.{◌≡◌, nat_lt, slice_get, IfOk, IsTrue, option_map};
+ghost use Rattle.std.specs.Prelude.{◌≡◌, nat_lt, slice_get, IfOk, IsTrue, false, option_map};
 ghost use Rattle.kl1_command.specs.Commands.{command_view};
 ghost use Rattle.kl1_journal.specs.Keeping.{Reading, Fits, kept_of};
 ghost use Rattle.kl1_user_events.specs.Viewing.{shoen_page, goal_page, goal_text, goal_term, AreAwaited, IsPresence, usage_of};
 ghost use Rattle.kl1_pool.specs.Counted.{reduces_in};
 ghost use Rattle.kl1_pool.specs.Memory.{bytes_taken, IsBeyond};
-ghost use Rattle.kl1_pool.specs.Showing.{IsFound};
+ghost use Rattle.kl1_pool.specs.Showing.{IsFound, IsShownIn};
 
+use crate::looking::JournalReader;
 use crate::memory::{bytes_of, reserve_of, takes_memory};
 use crate::named_atoms::NamedAtoms;
 use crate::pool_account::PoolAccount;
@@ -131,5 +132,21 @@ impl<'t, R: Wait, K: PoolIds> PoolAccount<'t, R, K> {
             return false;
         }
         self.is_over(most.saturating_add(reserve_of(command)))
+    }
+
+    /// Lets a reader read the journal, and how many events were counted before the last reset. Answers whether it did: it didn't if
+    /// the history of the account has other journals, which never is so.
+    pub fn look<L: JournalReader>(&mut self, reader: &mut L) -> bool
+        ensures same { self.new ≡ self.old }
+        ensures seen { IsTrue result → IsShownIn (slice_get K.histories self.old.book.account) self.old.held.1 self.old.past.events (λ s. L.reads reader.old reader.new s) }
+        ensures none { result ≡ false → reader.new ≡ reader.old }
+    {
+        let ended = self.past.events;
+        let journal = self.kept.lent_journal();
+        let Some(stamp) = self.shown.show(journal, ended) else {
+            return false;
+        };
+        reader.read(journal, ended, &stamp);
+        true
     }
 }

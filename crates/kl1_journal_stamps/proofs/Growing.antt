@@ -4,11 +4,11 @@ use Rattle.kl1_model.specs.State.{State}
 use Rattle.kl1_model.specs.Event.{Event, load, start, control, reduce, read, login, logout, reset, answer, is_refused}
 use Rattle.kl1_model.specs.Choice.{is_in_run}
 use Rattle.kl1_model.specs.Step.{step}
-use Rattle.kl1_model_server.specs.Journal.{Entry, runs, Journal, without_last, entered, stepped, with_event}
+use Rattle.kl1_model_server.specs.Journal.{Entry, loads, starts, sends, steps, answers, runs, Journal, without_last, entered, stepped, with_event}
 use Rattle.kl1_model_server.specs.laws.HistoryLaws.{EndsInRun}
 use Rattle.kl1_model_server.proofs.RunsKept.{run_with, reduction_run, run_goes_on}
-use Rattle.kl1_log.specs.Later.{Grows, GrowsBefore, AreLater, IsLater, run_length}
-use Rattle.kl1_log.specs.laws.LogLaws.{EventsGrow, GrowthBegins, GrowthGoesOn}
+use Rattle.kl1_journal_stamps.specs.Later.{Grows, GrowsBefore, AreLater, IsLater}
+use Rattle.kl1_journal_stamps.specs.laws.GrowthLaws.{EventsGrow, GrowthBegins, GrowthGoesOn}
 
 stays_before : (ds : List Entry) (d : Entry) → GrowsBefore ds d d
 stays_before [] d = inl refl
@@ -26,8 +26,16 @@ run_later : (es : List Entry) (m n : ℕ) → m ≤ n → AreLater (es ++ runs m
 run_later [] m n more = (inr (m, n, refl, refl, more), tt)
 run_later (d ∷ ds) m n more = (stays_before (ds ++ runs m ∷ []) d, run_later ds m n more)
 
+run_length : Entry → ℕ
+run_length (loads text) = 0
+run_length (starts allowance low high t) = 0
+run_length (sends n m) = 0
+run_length (steps goal clause) = 0
+run_length (answers n report t) = 0
+run_length (runs n) = n
+
 same_run : (m n : ℕ) → runs m ≡ runs n → m ≡ n
-same_run m n h = ap (λ (e : Entry). run_length e) h
+same_run m n h = ap run_length h
 
 grows_on : (d e f : Entry) → Grows d e → Grows e f → Grows d f
 grows_on d e f (inl is) next = subst (λ (x : Entry). Grows x f) (sym is) next
