@@ -1,4 +1,15 @@
 pub mod Notes
+pub mod Editions
+pub mod Histories
+pub mod Places
+pub mod Drafts
+pub mod StoredPlaces
+pub mod HeldLeaves
+pub mod Parcels
+pub mod Texts
+pub mod KeptFiles
+pub mod Notings
+pub mod Notebooks
 pub mod Outgoings
 pub mod Openings
 pub mod Links
@@ -6,3 +17,7 @@ pub mod OpenFaults
 pub mod Gates
 pub mod SyncedWriters
 pub mod OpenedFiles
+pub mod Keeping
+pub mod Books
+pub mod FreshHistories
+pub mod Writtens

@@ -1,7 +1,11 @@
 // Who writes to the file of an account.
 
+use crate::history::Naming;
 use crate::keeper::Keeper;
-use kl1_log::{Batch, Disk, LogError, LogFile};
+use crate::kept_file::KeptFile;
+use crate::parcel::Parcel;
+use crate::place::Place;
+use kl1_log::{Disk, LogError};
 use std::sync::Wait;
 use std::time::{Clock, Duration};
 
@@ -12,17 +16,17 @@ pub trait FaultTeller {
 
 /// Writes what waits for the file of an account. Each account has its own, so that one doesn't wait for the disk of another.
 #[derive(Drop)]
-pub struct Scribe<'k, D: Disk> {
+pub struct Scribe<'k, D: Disk, J: Naming> {
     account: usize,
-    keeper: &'k Keeper,
-    file: LogFile<D>,
+    keeper: &'k Keeper<J>,
+    file: KeptFile<D, J>,
     /// What was taken and isn't written, since memory was refused.
-    unwritten: Option<Batch>,
+    unwritten: Option<Parcel<J>>,
 }
 
-impl<'k, D: Disk + Drop> Scribe<'k, D> {
+impl<'k, D: Disk + Drop, J: Naming> Scribe<'k, D, J> {
     /// The scribe of the account of this number, with its keeper and its file.
-    pub fn new(account: usize, keeper: &'k Keeper, file: LogFile<D>) -> Self {
+    pub fn new(account: usize, keeper: &'k Keeper<J>, file: KeptFile<D, J>) -> Self {
         Scribe {
             account,
             keeper,
@@ -32,25 +36,25 @@ impl<'k, D: Disk + Drop> Scribe<'k, D> {
     }
 
     /// The file.
-    pub fn file(&self) -> &LogFile<D> {
+    pub fn file(&self) -> &KeptFile<D, J> {
         &self.file
     }
 
     /// The file, given back.
-    pub fn into_file(self) -> LogFile<D> {
+    pub fn into_file(self) -> KeptFile<D, J> {
         self.file
     }
 
-    /// Writes a batch, and tells those who wait for it; whether it is written. If memory is refused it is kept, and nobody is told. If a call of
+    /// Writes what was taken, and tells those who wait for it; whether it is written. If memory is refused it is kept, and nobody is told. If a call of
     /// the file fails, the account is stopped, and `faults` is told.
-    fn put<W: Wait, F: FaultTeller>(&mut self, rt: &W, faults: &F, batch: Batch) -> bool {
-        match self.file.write(&batch) {
-            Ok(receipt) => {
-                self.keeper.on_disk().publish(rt, receipt);
+    fn put<W: Wait, F: FaultTeller>(&mut self, rt: &W, faults: &F, parcel: Parcel<J>) -> bool {
+        match self.file.write(&parcel) {
+            Ok(stored) => {
+                self.keeper.on_disk().publish(rt, stored);
                 true
             }
             Err(LogError::Memory) => {
-                self.unwritten = Some(batch);
+                self.unwritten = Some(parcel);
                 false
             }
             Err(error) => {
@@ -61,22 +65,22 @@ impl<'k, D: Disk + Drop> Scribe<'k, D> {
         }
     }
 
-    /// Writes what waits, if something does, and tells those who wait for it. If that fails, the account is stopped, and `faults` is told. What
-    /// memory was refused for is written first, and until it is, nothing else is taken.
-    pub fn write<W: Wait, F: FaultTeller>(&mut self, rt: &W, faults: &F) {
+    /// Writes what waits, if something does, which is all up to `noted`, and tells those who wait for it. If that fails, the account is stopped,
+    /// and `faults` is told. What memory was refused for is written first, and until it is, nothing else is taken.
+    pub fn write<W: Wait, F: FaultTeller>(&mut self, rt: &W, faults: &F, noted: &Place<J>) {
+        let _ = noted;
         if self.keeper.on_disk().is_stopped() {
             return;
         }
-        if let Some(batch) = self.unwritten.take()
-            && !self.put(rt, faults, batch)
+        if let Some(parcel) = self.unwritten.take()
+            && !self.put(rt, faults, parcel)
         {
             return;
         }
-        let batch = self.keeper.take(rt);
-        if batch.taken == batch.noted {
+        let Some(parcel) = self.keeper.take(rt) else {
             return;
-        }
-        self.put(rt, faults, batch);
+        };
+        self.put(rt, faults, parcel);
     }
 
     /// Writes what waits whenever the account's bell rings, and after each `period`, when it also asks who commands the account next to note
@@ -85,7 +89,8 @@ impl<'k, D: Disk + Drop> Scribe<'k, D> {
         self.file.make_ready();
         for _ in rt.forever() {
             let is_ending = self.keeper.bell().wait(rt, period);
-            self.write(rt, faults);
+            let noted = self.file.place().again();
+            self.write(rt, faults, &noted);
             if is_ending {
                 return;
             }

@@ -11,4 +11,5 @@ pub mod Batching
 pub mod Faults
 pub mod Courses
 pub mod Waits
+pub mod LinesWhole
 pub mod LastSums

@@ -3,7 +3,7 @@
 ghost use Rattle.std.specs.Prelude.{◌≡◌, IfOk, IfErr, OnOk, IsErr, IsTrue, true, false, option_map, MatchResult};
 ghost use Rattle.kl1_log.specs.Files.{AtAnyMoment, is_at_rest};
 ghost use Rattle.kl1_log.specs.Batches.{text_after, text_of, IsLeftOfKnown};
-ghost use Rattle.kl1_log.specs.LogFiles.{account_of, changes_of, disk_of, IsCause, IsKept, IsFailed};
+ghost use Rattle.kl1_log.specs.LogFiles.{account_of, changes_of, disk_of, IsCause, IsKept, IsFailed, IsUntouched};
 ghost use Rattle.kl1_log.specs.Receipts as receipts;
 
 use crate::batch::Batch;
@@ -57,6 +57,7 @@ impl<D: Disk> LogFile<D> {
         ensures stopped { D.is_usable (disk_of self.old) ≡ false → IsErr result × (D.known (disk_of self.new) ≡ D.known (disk_of self.old)) × (D.is_usable (disk_of self.new) ≡ false) }
         ensures cause { IfErr result (IsCause (D.is_usable (disk_of self.old)) ((batch.now.account ≡ account_of self.old) × (batch.now.taken ≡ changes_of self.old))) }
         ensures kept { IfErr result (λ e. IsKept e ((D.known (disk_of self.new) ≡ D.known (disk_of self.old)) × (D.is_usable (disk_of self.new) ≡ true))) }
+        ensures untouched { IsUntouched result → (D.known (disk_of self.new) ≡ D.known (disk_of self.old)) × (D.is_usable (disk_of self.new) ≡ D.is_usable (disk_of self.old)) }
         ensures failed { IsFailed result → D.is_usable (disk_of self.new) ≡ false }
         ensures count { (account_of self.new ≡ account_of self.old) × MatchResult result (λ r. changes_of self.new ≡ receipts.changes_of r) (λ _. changes_of self.new ≡ changes_of self.old) }
     {

@@ -1,12 +1,14 @@
 // What of a journal waits for its file.
 
-ghost use Rattle.std.specs.Prelude.{◌≡◌, [], ℕ, List, IfOk, OnOk, OnErr};
+ghost use Rattle.std.specs.Prelude.{◌≡◌, ◌+◌, [], ℕ, List, IfOk, OnOk, OnErr};
+ghost use mathlib.Core.List.{IsPrefix};
 ghost use Rattle.kl1_model_server.specs.Journal as model;
+ghost use Rattle.kl1_model_server.specs.JournalText.{lines_of};
 ghost use Rattle.kl1_sums.specs.Sums.{summed_text};
 ghost use Rattle.kl1_log.specs.Deeds.{shut_text};
 ghost use Rattle.kl1_log.specs.Later.{IsLater};
-ghost use Rattle.kl1_log.specs.Batches.{text_after};
-ghost use Rattle.kl1_log.specs.Waits.{account_of, taken_of, noted_of, IsCounted, IsUpTo, CountsOn, Keeps, IsTaken};
+ghost use Rattle.kl1_log.specs.Batches.{text_after, bytes_of};
+ghost use Rattle.kl1_log.specs.Waits.{account_of, taken_of, noted_of, mark_of, change_of, IsCounted, IsUpTo, CountsOn, Keeps, IsTaken};
 
 use crate::batch::Batch;
 use crate::change::Change;
@@ -27,6 +29,7 @@ pub struct Waiting {
     taken: u64,
     noted: u64,
     alloc: Global,
+    ghost whole: { (lines_of (bytes_of change)).rest ≡ [] },
 }
 
 /// How many changes are noted after one by which the file gets these bytes: it is none if there are none.
@@ -78,6 +81,7 @@ impl Waiting {
     pub fn note(&mut self, journal: &Journal) -> Result<(), AllocError>
         ensures ok { OnOk result ((text : List ℕ) (old : model.Journal) → IsUpTo self.old text old → IsLater old journal.now.journal → IsUpTo self.new text journal.now.journal) }
         ensures count { OnOk result (CountsOn self.old self.new) }
+        ensures longer { OnOk result ((text : List ℕ) → IsPrefix (text_after text (change_of self.old)) (text_after text (change_of self.new))) }
         ensures err { OnErr result (Keeps self.old self.new) }
     {
         let Growth { bytes, mark } = grown(self.alloc, journal, self.mark)?;
@@ -92,6 +96,7 @@ impl Waiting {
     pub fn note_reset(&mut self, journal: &Journal) -> Result<(), AllocError>
         ensures ok { OnOk result ((text : List ℕ) → IsUpTo self.new text journal.now.journal) }
         ensures count { OnOk result (CountsOn self.old self.new) }
+        ensures one { OnOk result (noted_of self.new ≡ noted_of self.old + 1) }
         ensures err { OnErr result (Keeps self.old self.new) }
     {
         let Growth { bytes, mark } = begun(self.alloc, journal)?;
@@ -106,6 +111,8 @@ impl Waiting {
     pub fn take(&mut self) -> Batch
         ensures file { (text : List ℕ) (j : model.Journal) → IsUpTo self.old text j → IsUpTo self.new (text_after text result.change) j }
         ensures taken { IsTaken self.old self.new result }
+        ensures none { (text : List ℕ) → text_after text (change_of self.new) ≡ text }
+        ensures mark { mark_of self.new ≡ mark_of self.old }
     {
         let change = mem::replace(&mut self.change, Change::Appends(Vec::new(self.alloc)));
         let taken = self.taken;

@@ -1,0 +1,21 @@
+-- What of an account's journal was noted for its file, in its history.
+use Rattle.kl1_host_journals.specs.declared.history.Naming as naming
+use Rattle.std.specs.Prelude.{ℕ}
+use Rattle.kl1_host_journals.specs.declared.history.History.{History}
+use Rattle.kl1_host_journals.specs.declared.edition.Edition.{Edition}
+use Rattle.kl1_host_journals.specs.declared.notes.Notes.{Notes}
+use Rattle.kl1_host_journals.specs.declared.place.Place.{Place}
+use Rattle.kl1_host_journals.specs.declared.notebook.Notebook.{Notebook}
+
+module _ {J : Type 0} {g : naming.Ghosts J} where
+  -- what waits
+  abbrev pub notes_of : Notebook J g → Notes
+  notes_of n = n.notes
+
+  -- all that was noted
+  abbrev pub history_of : Notebook J g → History J g
+  history_of n = n.history
+
+  -- what had been noted when a change was taken last
+  abbrev pub taken_of : Notebook J g → Place J g
+  taken_of n = n.taken
