@@ -7,6 +7,7 @@ ghost use Rattle.kl1_host_journals.specs.FreshHistories.{books_of};
 
 use crate::edition::Edition;
 use crate::place::Place;
+use kl1_journal_stamps::ShownIds;
 use logbook::{Gain, Offer, Plain, Play, Rule, Seen, Start, Word};
 use std::alloc::AllocError;
 use std::marker::{Brand, PhantomData};
@@ -51,7 +52,7 @@ impl Play<Edition, u64> for Add {
 }
 
 /// Which histories each account has, by its number.
-pub trait Naming {
+pub trait Naming: ShownIds {
     ghost use Rattle.std.specs.Prelude.{ℕ};
     ghost use Rattle.kl1_host_journals.specs.Books.{Books};
 

@@ -26,7 +26,8 @@ run_later : (es : List Entry) (m n : ℕ) → m ≤ n → AreLater (es ++ runs m
 run_later [] m n more = (inr (m, n, refl, refl, more), tt)
 run_later (d ∷ ds) m n more = (stays_before (ds ++ runs m ∷ []) d, run_later ds m n more)
 
-run_length : Entry → ℕ
+-- how many reductions an entry has if it is a run, or else 0
+abbrev run_length : Entry → ℕ
 run_length (loads text) = 0
 run_length (starts allowance low high t) = 0
 run_length (sends n m) = 0

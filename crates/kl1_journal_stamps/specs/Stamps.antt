@@ -27,6 +27,10 @@ ComesAfter g j h k = (g < h) ⊎ ((g ≡ h) × IsLater j k)
 abbrev pub IsAfter : StampValue → StampValue → Type 0
 IsAfter s t = ComesAfter s.generation s.journal t.generation t.journal
 
+-- it is the stamp of this journal of this generation
+abbrev pub IsStampOf : Journal → ℕ → StampValue → Type 0
+IsStampOf j generation s = (s.journal ≡ j) × (s.generation ≡ generation)
+
 -- a journal of a generation may be shown after the last one
 abbrev pub MayFollow : Option (ℕ × Journal) → ℕ → Journal → Type 0
 MayFollow None h k = ⊤

@@ -78,7 +78,9 @@ impl ShownHistory {
             journal: Snapshot::of(journal),
         };
         let mut seen = self.seen.again();
-        let mut offer: Offer<ShownJournal, u64, Law, Nothing> = seen.plain::<Nothing, Draft, Add>(&draft);
+        let mut offer: Offer<ShownJournal, u64, Law, Nothing> = seen.plain::<Nothing, Draft, Add>(
+            &draft,
+        );
         let mut pen = seen.no_pen();
         let found = self
             .head

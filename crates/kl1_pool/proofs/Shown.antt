@@ -30,8 +30,8 @@ event_follows p k e replay written =
     elim (cases_lt p.events q.events) [
       | inl less ↦ inl less
       | inr le ↦
-        let same : q.events ≡ p.events = omega (arith, more, le) in
-        inr (sym same, grown_unless k e replay (unless_ended p k e replay written same))
+          let same : q.events ≡ p.events = omega (arith, more, le) in
+          inr (sym same, grown_unless k e replay (unless_ended p k e replay written same))
     ]
 
 -- so does that of an account which is the replay of its journal

@@ -38,7 +38,7 @@ invariant_of-self-2 g c =
       named_still g.K.PoolIds.names b c.count.new.book (events_by r) (steps_by r) old.0.own_name new.0.own_name c.count.ensures.book stays.1 c.self.invariant.6,
       ap (λ (x : Book). slice_get g.K.ShownIds.histories x.account) c.count.ensures.book ∙ c.self.invariant.7,
       held_follows c.self.inside.shown.last p c.past_after-self-inside.result old new (event_of c.args.event.now) r c.shows_replay.ensures.kept c.shows_replay-2.ensures.names c.apply.ensures.before c.in_ok-reply.ensures.step
-      (c.past_after-self-inside.ensures ∙ ended_is p old.1 b r c.self.invariant.4) c.self.invariant.8,
+          (c.past_after-self-inside.ensures ∙ ended_is p old.1 b r c.self.invariant.4) c.self.invariant.8,
     )
 
 pub returns-clause-step : goal.returns-clause-step
