@@ -4,7 +4,6 @@ use Rattle.kl1_model.specs.declared.rules.Rules.{Rules}
 use Rattle.kl1_model.specs.State.{State}
 use Rattle.kl1_model_server.specs.Journal.{Journal, Kept}
 use Rattle.kl1_atoms.specs.Names.{AreNames}
-use Rattle.kl1_journal_stamps.specs.Stamps.{HistoryId, StampValue, IsStampOf}
 use Rattle.kl1_journal.specs.Keeping.{Held, IsKept}
 use Rattle.kl1_pool.specs.Answers.{IsAccount}
 use Rattle.kl1_pool.specs.Counted.{events_in, reduces_in}
@@ -21,13 +20,9 @@ pub record IsFound (rules : Rules) (name : Option (List ℕ)) (h : Held) : Type 
 abbrev pub IsOfSome : Rules → Option (List ℕ) → (State → Type 0) → Type 0
 IsOfSome rules name P = (k : Kept) × IsAccount rules name k × P k.state
 
--- this holds of the stamp that a journal got in this history, if so many events were counted in the journals before it that resets ended
-abbrev pub IsShownIn : Option HistoryId → Journal → ℕ → (StampValue → Type 0) → Type 0
-IsShownIn history j ended P = (s : StampValue) × (history ≡ Some s.history) × IsStampOf j ended s × P s
-
--- so of the journal of some account of these rules and of this name
-abbrev pub IsSeenOfSome : Rules → Option (List ℕ) → Option HistoryId → (StampValue → Type 0) → Type 0
-IsSeenOfSome rules name history P = (k : Kept) × (ended : ℕ) × IsAccount rules name k × IsShownIn history k.journal ended P
+-- this holds of the journal of some such account, and of how many events were counted in its journals that resets ended
+abbrev pub IsSeenOfSome : Rules → Option (List ℕ) → (Journal → ℕ → Type 0) → Type 0
+IsSeenOfSome rules name P = (k : Kept) × (ended : ℕ) × IsAccount rules name k × P k.journal ended
 
 -- some such account has counted so many events and steps: those of its journals that resets ended, and those of its journal
 abbrev pub IsCountedBySome : Rules → Option (List ℕ) → ℕ → ℕ → Type 0

@@ -7,7 +7,7 @@ ghost use Rattle.kl1_journal_stamps.specs.Stamps.{StampValue};
 ghost use Rattle.kl1_user_events.specs.Viewing.{shoen_page, goal_page, goal_text, goal_term, AreAwaited, IsPresence, usage_of};
 ghost use Rattle.kl1_pool.specs.Counted.{reduces_in};
 ghost use Rattle.kl1_pool.specs.Memory.{bytes_taken, IsBeyond};
-ghost use Rattle.kl1_pool.specs.Showing.{IsFound, IsShownIn};
+ghost use Rattle.kl1_pool.specs.Showing.{IsFound};
 
 use crate::looking::JournalReader;
 use crate::memory::{bytes_of, reserve_of, takes_memory};
@@ -140,7 +140,7 @@ impl<'t, R: Wait, K: PoolIds> PoolAccount<'t, R, K> {
     pub fn look<L: JournalReader>(&mut self, reader: &mut L) -> bool
         requires { (s : StampValue) → slice_get K.histories self.old.book.account ≡ Some s.history → L.takes reader.old s }
         ensures same { self.new ≡ self.old }
-        ensures seen { IsTrue result → IsShownIn (slice_get K.histories self.old.book.account) self.old.held.1 self.old.past.events (λ s. L.reads reader.old reader.new s) }
+        ensures seen { IsTrue result → L.reads reader.old reader.new self.old.held.1 self.old.past.events }
         ensures none { result ≡ false → reader.new ≡ reader.old }
     {
         let ended = self.past.events;

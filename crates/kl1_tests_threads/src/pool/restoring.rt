@@ -19,7 +19,7 @@ struct Copy {
 impl JournalReader for Copy {
     ghost takes = { λ _ _. Unit {0} };
 
-    ghost reads = { λ _ _ _. Unit {0} };
+    ghost reads = { λ _ _ _ _. Unit {0} };
 
     fn read(&mut self, journal: &Journal, ended: u64, _stamp: &Stamp) {
         self.ended = ended;
