@@ -157,7 +157,7 @@ where
     F::Entrance: Send,
     requires tables { (parts.table ≡ K.table) × (parts.seats ≡ K.seats) × (parts.codes ≡ K.codes) }
     requires names { (parts.rules ≡ K.rules) × (parts.names ≡ K.names) }
-    requires histories { parts.histories ≡ K.histories }
+    requires shown { parts.histories ≡ K.histories }
     requires tickets { (parts.tally ≡ K.tally) × (parts.queue ≡ K.queue) × (parts.accounts ≡ K.accounts) × (parts.shares ≡ K.shares) }
     requires accounts { AreAccountsOf (F.names front.now) parts.names parts.accounts }
 {

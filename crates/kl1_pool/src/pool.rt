@@ -52,7 +52,7 @@ impl<'t, R: Wait, K: PoolIds> Pool<'t, R, K> {
     ) -> Result<(Pool<'t, R, K>, Vec<Share<K>>), AllocError>
         requires tables { (parts.table ≡ K.table) × (parts.seats ≡ K.seats) × (parts.codes ≡ K.codes) }
         requires names { (parts.rules ≡ K.rules) × (parts.names ≡ K.names) }
-        requires histories { parts.histories ≡ K.histories }
+        requires shown { parts.histories ≡ K.histories }
         requires tickets { (parts.tally ≡ K.tally) × (parts.queue ≡ K.queue) × (parts.accounts ≡ K.accounts) × (parts.shares ≡ K.shares) }
         ensures shares { IfOk result (λ made. All (λ share. share ≡ new_counts) made.1.items) }
         ensures count { IfOk result (λ made. vec_len made.1 ≡ K.shares) }
