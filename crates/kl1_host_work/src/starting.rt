@@ -157,8 +157,8 @@ where
     F::Entrance: Send,
     requires tables { (parts.table ≡ K.table) × (parts.seats ≡ K.seats) × (parts.codes ≡ K.codes) }
     requires names { (parts.rules ≡ K.rules) × (parts.names ≡ K.names) }
-    requires shown { parts.histories ≡ K.histories }
     requires tickets { (parts.tally ≡ K.tally) × (parts.queue ≡ K.queue) × (parts.accounts ≡ K.accounts) × (parts.shares ≡ K.shares) }
+    requires shown { parts.histories ≡ K.histories }
     requires accounts { AreAccountsOf (F.names front.now) parts.names parts.accounts }
 {
     let (pool, shares) = Pool::<R, K>::new(rt, alloc, parts)?;

@@ -18,7 +18,8 @@ use std::marker::Model;
 
 /// The names of accounts in which nothing has happened, with the rules that they keep to and their seats in a table of names; a
 /// tally and a queue of tickets for them; and that table and a table of codes, lent. Contracts see which tables, which tally and
-/// which queue they are, the rules and the names, which histories of shown journals, and the numbers of accounts and shares.
+/// which queue they are, the rules and the names, and the numbers of accounts and shares. `shown` is for each account the history of its
+/// journals that are shown, in which there is none yet.
 #[derive(Drop)]
 pub struct PoolParts<'t> {
     pub(crate) table: &'t AtomTable,
@@ -28,9 +29,8 @@ pub struct PoolParts<'t> {
     pub(crate) seats: Vec<AtomSeat>,
     /// For each account the names that it had used at its last reset, by its number; none of an account whose number isn't below the length.
     pub(crate) used: Vec<Vec<AtomText>>,
-    /// For each account the history of its journals that are shown, in which there is none yet.
-    pub(crate) shown: Vec<ShownHistory>,
     pub(crate) tickets: Parts,
+    pub(crate) shown: Vec<ShownHistory>,
 }
 
 impl<'t> Model for PoolParts<'t> {
@@ -46,7 +46,7 @@ impl<'t> Model for PoolParts<'t> {
 
     ghost coded = { Prim.hlevel (codes, table_id_coded, shelves_coded, book_coded) };
 
-    ghost view = { λ p. record { table = p.table.now.table.shared.table_id; seats = p.table.now.accounts; codes = p.code_table.now; rules = p.rules; names = p.accounts.items; used = used_names p.used.items; histories = histories_of p.shown.items; tally = p.tickets.tally; queue = p.tickets.queue; accounts = p.tickets.accounts; shares = p.tickets.shares } };
+    ghost view = { λ p. record { table = p.table.now.table.shared.table_id; seats = p.table.now.accounts; codes = p.code_table.now; rules = p.rules; names = p.accounts.items; used = used_names p.used.items; tally = p.tickets.tally; queue = p.tickets.queue; accounts = p.tickets.accounts; shares = p.tickets.shares; histories = histories_of p.shown.items } };
 
     ghost invariant = { λ p. AreFreshSeats p.table.now.table.shared.table_id p.table.now.accounts p.seats.items × (vec_len p.accounts ≡ p.tickets.accounts) × (vec_len p.seats ≡ p.tickets.accounts) × AreUsed p.used.items × (vec_len p.shown ≡ p.tickets.accounts) × AreNew p.shown.items };
 }
@@ -96,8 +96,8 @@ impl<'t> PoolParts<'t> {
             rules,
             seats,
             used: Vec::new(alloc),
-            shown,
             tickets,
+            shown,
         })
     }
 
@@ -114,8 +114,8 @@ impl<'t> PoolParts<'t> {
             rules,
             seats,
             used: _,
-            shown,
             tickets,
+            shown,
         } = self;
         PoolParts {
             table,
@@ -124,8 +124,8 @@ impl<'t> PoolParts<'t> {
             rules,
             seats,
             used,
-            shown,
             tickets,
+            shown,
         }
     }
 }

@@ -52,8 +52,8 @@ impl<'t, R: Wait, K: PoolIds> Pool<'t, R, K> {
     ) -> Result<(Pool<'t, R, K>, Vec<Share<K>>), AllocError>
         requires tables { (parts.table ≡ K.table) × (parts.seats ≡ K.seats) × (parts.codes ≡ K.codes) }
         requires names { (parts.rules ≡ K.rules) × (parts.names ≡ K.names) }
-        requires shown { parts.histories ≡ K.histories }
         requires tickets { (parts.tally ≡ K.tally) × (parts.queue ≡ K.queue) × (parts.accounts ≡ K.accounts) × (parts.shares ≡ K.shares) }
+        requires shown { parts.histories ≡ K.histories }
         ensures shares { IfOk result (λ made. All (λ share. share ≡ new_counts) made.1.items) }
         ensures count { IfOk result (λ made. vec_len made.1 ≡ K.shares) }
     {
@@ -64,8 +64,8 @@ impl<'t, R: Wait, K: PoolIds> Pool<'t, R, K> {
             rules,
             seats,
             used,
-            shown,
             tickets,
+            shown,
         } = parts;
         let Opened {
             common,

@@ -26,8 +26,8 @@ fn done<'t, J: Job + Sync, R: Threads + Wait + Clock + Sync, K: PoolIds + Send +
 ) -> Result<Totals, AllocError>
     requires tables { (parts.table ≡ K.table) × (parts.seats ≡ K.seats) × (parts.codes ≡ K.codes) }
     requires names { (parts.rules ≡ K.rules) × (parts.names ≡ K.names) }
-    requires shown { parts.histories ≡ K.histories }
     requires tickets { (parts.tally ≡ K.tally) × (parts.queue ≡ K.queue) × (parts.accounts ≡ K.accounts) × (parts.shares ≡ K.shares) }
+    requires shown { parts.histories ≡ K.histories }
     requires some { 0 < parts.shares }
 {
     let (pool, mut shares) = Pool::<R, K>::new(rt, alloc, parts)?;

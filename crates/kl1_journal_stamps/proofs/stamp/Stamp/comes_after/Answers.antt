@@ -1,4 +1,4 @@
-use Rattle.std.proofs.Common.{◌≡◌, ◌≤◌, length, List, sym, ap, ◌∙◌, subst, arith}
+use Rattle.std.proofs.Common.{◌≤◌, length, List, ap, subst, arith}
 use Rattle.std.proofs.lemmas.Bool.{leb-true}
 use mathlib.Core.List.{IsPrefix}
 use Rattle.kl1_journal_stamps.specs.declared.shown_journal.ShownJournal.{ShownJournal}
