@@ -1,4 +1,4 @@
--- The exchange that adds an edition keeps the rule.
+-- The exchange that adds an edition keeps the rule, and so does a look.
 use Rattle.std.proofs.Common.{◌≡◌, ℕ, ◌+◌, ◌<◌, ◌==◌, Bool, true, false, List, [], ◌∷◌, ◌++◌, length, refl, ap, sym, ◌∙◌, subst, arith, inl, inr, length-append, None}
 use Rattle.std.proofs.lemmas.List.{append-nil}
 use Rattle.std.proofs.lemmas.Bool.Decides.{nat_tests}
@@ -7,7 +7,7 @@ use prog.Atomic.{either}
 use Rattle.logbook.specs.Pages.{Cell, cell, keeps, no_nib, step, Moves, Goes}
 use Rattle.kl1_host_journals.specs.declared.edition.Edition.{Edition}
 use Rattle.kl1_host_journals.specs.Editions.{MayFollow, IsChain, IsUpToDate}
-use Rattle.kl1_host_journals.specs.Histories.{IsKept, Adds}
+use Rattle.kl1_host_journals.specs.Histories.{IsKept, Adds, Looks}
 use Rattle.kl1_host_journals.proofs.Chains.{prefix_whole, prefix_snoc, chain_snoc}
 
 abbrev pub shown : List Edition → List Edition
@@ -60,3 +60,27 @@ pub adds_moves : (v : List Edition) (e : Edition) (old : ℕ) → length v ≡ o
 adds_moves v e old len may dated cs log kept pre away =
     let P : List Cell → Type 0 = λ c. (0 < length c) × ((cell c 0).1 ≡ true) × Goes IsKept shown moved 0 (v, (no_nib, None)) (λ n. either (n == old) (old + 1) n) (Adds (step 0 old (old + 1) e) (v, (no_nib, None))) c log in
     subst P (sym kept.words) (omega arith, refl, adds_goes log v e old len may dated kept.chain kept.dated pre (length log == old) refl)
+
+looks_goes : (log v : List Edition) (e : Edition) → IsChain log → ((front : List Edition) → IsPrefix front log → IsUpToDate front)
+    → Goes IsKept shown moved 0 (v, (no_nib, None)) (λ n. n) (Looks (step 0 0 0 e) (v, (no_nib, None))) ((length log, true) ∷ (0, true) ∷ []) log
+looks_goes log v e chain was =
+    let all : log ++ [] ≡ log = append-nil log in
+    let more : IsChain (log ++ []) = subst IsChain (sym all) chain in (
+      keeps,
+      [],
+      None,
+      tt,
+      record {
+        words = ap (λ (k : ℕ). (k, true) ∷ (0, true) ∷ []) (ap length (sym all));
+        chain = more;
+        dated = λ front p. was front (subst (IsPrefix front) all p);
+      },
+      inl (refl, refl),
+      (ap length all, more),
+    )
+
+-- whatever the history is, a look finds how long it is, and sees all of it
+pub looks_moves : (v : List Edition) (e : Edition) → Moves IsKept shown moved 0 (v, (no_nib, None)) (λ n. n) (Looks (step 0 0 0 e) (v, (no_nib, None)))
+looks_moves v e cs log kept pre away =
+    let P : List Cell → Type 0 = λ c. (0 < length c) × ((cell c 0).1 ≡ true) × Goes IsKept shown moved 0 (v, (no_nib, None)) (λ n. n) (Looks (step 0 0 0 e) (v, (no_nib, None))) c log in
+    subst P (sym kept.words) (omega arith, refl, looks_goes log v e kept.chain kept.dated)

@@ -165,3 +165,14 @@ pub same_text : (xs ys zs : List Edition) → IsChain zs → IsPrefix xs zs → 
 same_text [] ys zs chain p q one two n = absurd (omega (arith, one))
 same_text (c ∷ cs) [] zs chain p q one two n = absurd (omega (arith, two))
 same_text (c ∷ cs) (d ∷ ds) zs chain p q one two n = same_cases c cs d ds zs chain p q n (shorter (length (c ∷ cs)) (length (d ∷ ds)))
+
+number_by : (d e : Edition) → (d ≡ e) ⊎ Follows d e → d.number ≤ e.number
+number_by d e (inl is) = omega (arith, ap (λ (x : Edition). x.number) is)
+number_by d e (inr f) = f.number
+
+-- Of a history that has no more editions than were added: no more changes were noted at a beginning of it than are noted now.
+pub no_later : (front all log : List Edition) (found count : ℕ) → 1 ≤ length front → IsChain log → IsPrefix front log → IsPrefix all log → length log ≡ found → count ≡ length all → found ≡ count → (last_of front).number ≤ (last_of all).number
+no_later [] all log found count some chain p q long counted is = absurd (omega (arith, some))
+no_later (d ∷ ds) all log found count some chain p q long counted is =
+    let same : all ≡ log = prefix_whole all log q (omega (arith, long, counted, is)) in
+    subst (λ (x : List Edition). (last_of (d ∷ ds)).number ≤ (last_of x).number) (sym same) (number_by (last_of (d ∷ ds)) (last_of log) (later_last d ds log chain p))

@@ -1,6 +1,6 @@
 -- The histories of an account that are new.
 use Rattle.kl1_host_journals.specs.Books.{Books}
-use Rattle.kl1_host_journals.specs.declared.history.FreshHistory.{FreshHistory}
+use Rattle.kl1_host_journals.specs.declared.fresh_history.FreshHistory.{FreshHistory}
 
 -- which they are
 abbrev pub books_of : FreshHistory → Books

@@ -16,6 +16,10 @@ pub record IsKept (cells : List Cell) (log : List Edition) : Type 0 where
 abbrev pub head_of : Book → Named
 head_of b = record { tracked = true; key = 0; book = b }
 
+-- how long the history is was found, and it was seen
+abbrev pub Looks : Step Edition → View Edition ℕ → ℕ → View Edition ℕ → Type 0
+Looks s v found w = (length w.0 ≡ found) × IsChain w.0
+
 -- the edition was added to all that had been seen; or there were others
 abbrev pub Adds : Step Edition → View Edition ℕ → ℕ → View Edition ℕ → Type 0
 Adds s v found w = MatchBool (found == s.old) (w.0 ≡ v.0 ++ s.ask ∷ []) (length w.0 ≡ found)

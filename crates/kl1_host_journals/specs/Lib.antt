@@ -21,3 +21,6 @@ pub mod Keeping
 pub mod Books
 pub mod FreshHistories
 pub mod Writtens
+pub mod Tellings
+pub mod TellingPlaces
+pub mod Scribes

@@ -1,14 +1,15 @@
 // The history of an account's file: what it is to hold, note after note. It exists in proofs alone: what is kept is how long it is.
 
-ghost use Rattle.std.specs.Prelude.{◌≡◌, ◌≤◌, ◌++◌, ◌∷◌, [], None, length, OnOk, OnErr};
-ghost use Rattle.kl1_host_journals.specs.Editions.{MayFollow, IsUpToDate};
+ghost use Rattle.std.specs.Prelude.{◌≡◌, ◌≤◌, ◌++◌, ◌∷◌, [], true, None, length, OnOk, OnErr};
+ghost use Rattle.kl1_host_journals.specs.Editions.{MayFollow, IsUpToDate, last_of};
 ghost use Rattle.kl1_host_journals.specs.Histories.{head_of};
 ghost use Rattle.kl1_host_journals.specs.FreshHistories.{books_of};
 
 use crate::edition::Edition;
+use crate::fresh_history::FreshHistory;
 use crate::place::Place;
 use kl1_journal_stamps::ShownIds;
-use logbook::{Gain, Offer, Plain, Play, Rule, Seen, Start, Word};
+use logbook::{Gain, Offer, Plain, Play, Rule, Seen, Word};
 use std::alloc::AllocError;
 use std::marker::{Brand, PhantomData};
 
@@ -51,6 +52,25 @@ impl Play<Edition, u64> for Add {
     ghost then = { Adds };
 }
 
+/// A step that looks how long a history is.
+pub struct Look;
+
+impl Play<Edition, u64> for Look {
+    ghost use Rattle.kl1_host_journals.specs.Histories.{Looks};
+
+    ghost then = { Looks };
+}
+
+/// It asks for nothing.
+impl Plain<(), Edition, u64> for Look {
+    ghost use Rattle.std.specs.Prelude.{None};
+    ghost use Rattle.kl1_host_journals.specs.Editions.{no_edition};
+
+    ghost ask = { λ _. no_edition };
+
+    ghost state = { λ _. None };
+}
+
 /// Which histories each account has, by its number.
 pub trait Naming: ShownIds {
     ghost use Rattle.std.specs.Prelude.{ℕ};
@@ -63,26 +83,6 @@ impl Naming for Brand {
     ghost use Rattle.kl1_host_journals.specs.Books.{no_books};
 
     ghost books = { λ account. no_books };
-}
-
-/// A history without editions, which belongs to no account yet.
-#[derive(Drop)]
-pub struct FreshHistory {
-    head: Word<Edition, u64, Law>,
-    seen: Seen<Edition, u64, Law>,
-    pub ghost empty: { seen.log ≡ [] },
-    pub ghost head_is: { head ≡ head_of seen.book },
-}
-
-impl FreshHistory {
-    /// A new one.
-    pub fn new() -> Self {
-        let (seen, mut first, _second) = Seen::open(Start::alone(), 0, 0);
-        FreshHistory {
-            head: Word::tracked(0, &mut first),
-            seen,
-        }
-    }
 }
 
 /// All that was noted for the file of an account.
@@ -126,6 +126,20 @@ impl<J: Naming> History<J> {
             seen: self.seen.again(),
             of: PhantomData,
         }
+    }
+
+    /// Whether it has all that was noted up to a place, and nobody has added an edition to it otherwise, which never is so.
+    pub(crate) fn has(&self, noted: &Place<J>) -> bool
+        ensures { result ≡ true → (last_of noted.now.seen.log).number ≤ (last_of self.now.seen.log).number }
+    {
+        if noted.account() != self.account {
+            return false;
+        }
+        let mut seen = self.seen.again();
+        seen.learn(&noted.seen);
+        let mut offer: Offer<Edition, u64, Law, Nothing> = seen.plain::<Nothing, (), Look>(&());
+        let found = self.head.load::<Look, Nothing>(&mut seen, &mut offer);
+        found == self.count
     }
 
     /// Adds an edition. An error if there are others, which never is so, or if there are too many.

@@ -1,8 +1,10 @@
 // What of an account waits for its file, under a lock, and how far it is on disk.
 
-ghost use Rattle.std.specs.Prelude.{◌≡◌, Some, slice_get};
+ghost use Rattle.std.specs.Prelude.{◌≡◌, ◌≤◌, Some, slice_get, IfSome};
 ghost use Rattle.kl1_journal_stamps.specs.Stamps.{IsStampOf};
 ghost use Rattle.kl1_host_journals.specs.Outgoings.{IsNotedFor};
+ghost use Rattle.kl1_host_journals.specs.Parcels.{end_of};
+ghost use Rattle.kl1_host_journals.specs.Places.{edition_of};
 
 use crate::bell::Bell;
 use crate::history::Naming;
@@ -11,6 +13,7 @@ use crate::notebook::Notebook;
 use crate::on_disk::OnDisk;
 use crate::outgoing::Outgoing;
 use crate::parcel::Parcel;
+use crate::place::Place;
 use crate::written::Written;
 use kl1_journal_entries::Journal;
 use kl1_journal_stamps::Stamp;
@@ -97,17 +100,17 @@ impl<J: Naming> Keeper<J> {
         }
     }
 
-    /// Takes what waits, if something does.
-    pub(crate) fn take<W: Wait>(&self, rt: &W) -> Option<Parcel<J>> {
+    /// Takes what waits, which may be nothing: then all is taken that was noted up to a place. `None` if the account's history couldn't go on,
+    /// which never is so.
+    pub(crate) fn take<W: Wait>(&self, rt: &W, noted: &Place<J>) -> Option<Parcel<J>>
+        ensures { IfSome result (λ p. (edition_of noted.now).number ≤ (edition_of (end_of p)).number) }
+    {
         let mut guard = self.notebook.lock(rt);
         let notebook = mem::replace(&mut *guard, None)?;
+        let has_all = notebook.has(noted);
         let (notebook, parcel) = notebook.taken();
         *guard = Some(notebook);
-        if parcel.is_empty() {
-            None
-        } else {
-            Some(parcel)
-        }
+        if has_all { Some(parcel) } else { None }
     }
 
     /// Asks whoever commands the account next to note it.

@@ -1,6 +1,6 @@
 // The file of an account, with what it holds.
 
-ghost use Rattle.std.specs.Prelude.{◌≡◌, IfOk, OnOk, IsTrue, false, option_map};
+ghost use Rattle.std.specs.Prelude.{◌≡◌, ◌≤◌, IfOk, OnOk, IsTrue, IsErr, true, false, option_map};
 ghost use Rattle.std.proofs.Props.{props};
 ghost use Rattle.kl1_log.specs.Files.{AtAnyMoment, is_at_rest};
 ghost use Rattle.kl1_log.specs.Batches.{text_of, IsLeftOfKnown};
@@ -41,6 +41,15 @@ impl<D: Disk, J: Naming> KeptFile<D, J> {
         &self.file
     }
 
+    /// The file alone.
+    pub fn into_file(self) -> LogFile<D>
+        ensures { result ≡ self.file }
+    {
+        let KeptFile { file, place } = self;
+        let _ = place;
+        file
+    }
+
     /// What was noted for it so far, as far as it is written.
     pub fn place(&self) -> &Place<J>
         ensures { result.now ≡ self.now.place }
@@ -57,12 +66,23 @@ impl<D: Disk, J: Naming> KeptFile<D, J> {
         self.file.make_ready();
     }
 
+    /// Whether it has all that was noted when this was taken.
+    pub(crate) fn has(&self, parcel: &Parcel<J>) -> bool
+        ensures { result ≡ true → (edition_of (end_of parcel.now)).number ≤ (edition_of self.now.place).number }
+    {
+        self.file.changes() == parcel.batch.noted
+    }
+
     /// Writes what was taken, and has it on disk. On an error nothing that isn't on disk is told; after one of a call the file gets nothing more,
     /// and after one of memory it may be written again.
+    #[tactic(auto, using(crate::proofs::KeptFiles::written_text, crate::proofs::KeptFiles::still_text))]
     pub fn write(&mut self, parcel: &Parcel<J>) -> Result<Stored<J>, LogError>
         ensures stored { IfOk result (λ s. log_of (stored_place_of s) ≡ log_of (end_of parcel.now)) }
         ensures place { OnOk result (log_of self.new.place ≡ log_of (end_of parcel.now)) }
         ensures on_disk { OnOk result (IsTrue (is_at_rest (D.known (disk_of self.new.file))) × IsTextOf (D.known (disk_of self.new.file)) (edition_of (end_of parcel.now)).text) }
+        ensures account { account_of self.new.place ≡ account_of self.old.place }
+        ensures err { IsErr result → log_of self.new.place ≡ log_of self.old.place }
+        ensures usable { OnOk result (D.is_usable (disk_of self.new.file) ≡ true) }
         ensures any_moment { AtAnyMoment (D.known (disk_of self.old.file)) (D.known (disk_of self.new.file)) (IsLeftOfKnown (D.known (disk_of self.old.file)) (batch_of parcel.now).change) }
         ensures failed { IsFailed result → D.is_usable (disk_of self.new.file) ≡ false }
     {

@@ -17,7 +17,8 @@ ghost use Rattle.kl1_host_journals.specs.FreshHistories.{books_of};
 ghost use Rattle.kl1_host_journals.specs.Links.{IsUpToIf, IsOfFile};
 
 use crate::drafts::{Begin, FirstDraft};
-use crate::history::{FreshHistory, History, Naming};
+use crate::fresh_history::FreshHistory;
+use crate::history::{History, Naming};
 use crate::kept_file::KeptFile;
 use crate::notebook::Notebook;
 use crate::notes::Notes;
@@ -65,7 +66,7 @@ impl From<AllocError> for LinkFault {
 /// The file of this account with what waits for it, which is nothing: it is one of `journal`, in this generation. If its bytes aren't the
 /// text of the journal, each line with its sum, it is begun anew. `fresh` is the account's history, which begins with it,
 /// and `stamp` the journal's.
-#[tactic(auto, using(crate::proofs::Resting::same_rests))]
+#[tactic(auto, using(crate::proofs::KeptFiles::read_text, crate::proofs::KeptFiles::written_text, crate::proofs::Resting::same_rests))]
 pub fn link<D: Disk + Drop, J: Naming>(
     alloc: Global,
     resting: RestingFile<D>,

@@ -1,6 +1,6 @@
 // What of an account's journal was noted for its file, in its history.
 
-ghost use Rattle.std.specs.Prelude.{◌≡◌, ◌≤◌, Some, slice_get, length, IfOk, IfErr, IfSome, IsTrue};
+ghost use Rattle.std.specs.Prelude.{◌≡◌, ◌≤◌, true, Some, slice_get, length, IfOk, IfErr, IfSome, IsTrue};
 ghost use Rattle.kl1_journal_stamps.specs.Stamps.{ComesAfter, IsAfter, IsStampOf};
 ghost use Rattle.kl1_log.specs.Waits.{account_of as account_of_waiting, taken_of, noted_of, mark_of};
 ghost use Rattle.kl1_log.specs.Batches.{text_after};
@@ -154,7 +154,15 @@ impl<J: Naming> Notebook<J> {
         self.notes.bytes()
     }
 
+    /// Whether all was noted that was noted up to a place, which always is so of the same account.
+    pub(crate) fn has(&self, noted: &Place<J>) -> bool
+        ensures { result ≡ true → (edition_of noted.now).number ≤ (last_of (log_of_history self.now.history)).number }
+    {
+        self.history.has(noted)
+    }
+
     /// What is noted once all that waits was taken, which is nothing new, and what was taken.
+    #[tactic(auto, using(crate::proofs::Noting::dated_sums))]
     pub(crate) fn taken(self) -> (Self, Parcel<J>)
         ensures log { log_of_history result.0.history ≡ log_of_history self.history }
         ensures begin { begin_of result.1 ≡ self.taken }

@@ -1,8 +1,9 @@
 // What of an account's journal waits for its file, with its generation.
 
 ghost use Rattle.std.specs.Prelude.{◌≡◌, ℕ, List, OnOk, OnErr};
+ghost use Rattle.kl1_model_server.specs.Journal as model;
 ghost use Rattle.kl1_log.specs.Batches.{text_after};
-ghost use Rattle.kl1_log.specs.Waits.{IsTaken, mark_of};
+ghost use Rattle.kl1_log.specs.Waits.{IsTaken, IsUpTo, mark_of};
 ghost use Rattle.kl1_host_journals.specs.Notes.{waiting_of, generation_of, change_of, TakesIn, KeepsAll};
 
 use kl1_journal_entries::Journal;
@@ -51,6 +52,7 @@ impl Notes {
     /// Takes what waits, after which nothing does.
     pub fn take(&mut self) -> Batch
         ensures taken { IsTaken (waiting_of self.old) (waiting_of self.new) result }
+        ensures file { (text : List ℕ) (j : model.Journal) → IsUpTo (waiting_of self.old) text j → IsUpTo (waiting_of self.new) (text_after text result.change) j }
         ensures none { (text : List ℕ) → text_after text (change_of self.new) ≡ text }
         ensures mark { mark_of (waiting_of self.new) ≡ mark_of (waiting_of self.old) }
         ensures generation { generation_of self.new ≡ generation_of self.old }

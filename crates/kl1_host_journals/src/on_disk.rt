@@ -1,15 +1,16 @@
 // How far the journal of an account is on disk.
 
-ghost use Rattle.std.specs.Prelude.{IfSome};
+ghost use Rattle.std.specs.Prelude.{◌≡◌, true, IfSome};
 ghost use Rattle.kl1_log.specs.Receipts.{Covers};
 ghost use Rattle.kl1_host_journals.specs.StoredPlaces.{receipt_of};
 ghost use Rattle.kl1_host_journals.specs.HeldLeaves.{unsent_of};
+ghost use Rattle.kl1_host_journals.specs.Tellings.{receipt_told, is_last};
 
 use crate::held::Held;
 use crate::history::Naming;
 use crate::leave::Connecting;
 use crate::stored::Stored;
-use crate::written::Written;
+use crate::written::{Told, Written};
 use std::sync::atomic::{AtomicBool, Ordering};
 use std::sync::{Condvar, Mutex, Wait};
 
@@ -34,21 +35,26 @@ impl<J: Naming> OnDisk<J> {
     }
 
     /// Tells those who wait that more is on disk.
-    pub fn publish<W: Wait>(&self, rt: &W, stored: Stored<J>) {
+    pub fn publish<W: Wait>(&self, rt: &W, stored: Stored<J>) -> Told
+        ensures { receipt_told result ≡ receipt_of stored }
+    {
         let mut guard = self.written.lock(rt);
-        let written = &mut *guard;
-        written.stored = stored;
+        let told = guard.tell(stored);
         drop(guard);
         self.changed.notify_all();
+        told
     }
 
     /// Tells those who wait that no more will be on disk.
-    pub fn stop<W: Wait>(&self, rt: &W) {
+    pub fn stop<W: Wait>(&self, rt: &W) -> Told
+        ensures { is_last result ≡ true }
+    {
         self.is_stopped.store(true, Ordering::SeqCst);
-        let mut written = self.written.lock(rt);
-        written.is_stopped = true;
-        drop(written);
+        let mut guard = self.written.lock(rt);
+        let told = guard.stop();
+        drop(guard);
         self.changed.notify_all();
+        told
     }
 
     /// Whether no more will be on disk.

@@ -20,10 +20,3 @@ pub struct Parcel<J: Naming> {
     ghost noted: { (edition_of to).number ≡ batch.noted },
     ghost text: { (edition_of to).text ≡ text_after (edition_of from).text batch.change },
 }
-
-impl<J: Naming> Parcel<J> {
-    /// Whether there is nothing to write.
-    pub(crate) fn is_empty(&self) -> bool {
-        self.batch.taken == self.batch.noted
-    }
-}

@@ -14,6 +14,7 @@ mod log_file;
 mod making;
 mod mark;
 mod memory;
+mod noting;
 mod receipt;
 mod recovery;
 mod reopening;

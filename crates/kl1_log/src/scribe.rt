@@ -36,6 +36,13 @@ impl<D: Disk> LogFile<D> {
         &self.disk
     }
 
+    /// How many changes are on disk.
+    pub fn changes(&self) -> u64
+        ensures { result ≡ changes_of self.now }
+    {
+        self.changes
+    }
+
     /// Sees that there is room for a reset, if there is any.
     pub fn make_ready(&mut self)
         ensures known { D.known (disk_of self.new) ≡ D.known (disk_of self.old) }
@@ -53,6 +60,7 @@ impl<D: Disk> LogFile<D> {
         ensures receipt { IfOk result (λ r. (receipts.account_of r ≡ batch.now.account) × (receipts.changes_of r ≡ batch.now.noted)) }
         ensures next { OnOk result ((batch.now.account ≡ account_of self.old) × (batch.now.taken ≡ changes_of self.old)) }
         ensures on_disk { OnOk result (IsTrue (is_at_rest (D.known (disk_of self.new))) × (text_of (D.known (disk_of self.new)) ≡ option_map (λ text. text_after text batch.now.change) (text_of (D.known (disk_of self.old))))) }
+        ensures usable { OnOk result (D.is_usable (disk_of self.new) ≡ true) }
         ensures any_moment { AtAnyMoment (D.known (disk_of self.old)) (D.known (disk_of self.new)) (IsLeftOfKnown (D.known (disk_of self.old)) batch.now.change) }
         ensures stopped { D.is_usable (disk_of self.old) ≡ false → IsErr result × (D.known (disk_of self.new) ≡ D.known (disk_of self.old)) × (D.is_usable (disk_of self.new) ≡ false) }
         ensures cause { IfErr result (IsCause (D.is_usable (disk_of self.old)) ((batch.now.account ≡ account_of self.old) × (batch.now.taken ≡ changes_of self.old))) }

@@ -4,7 +4,7 @@ use Rattle.kl1_log.specs.Deeds.{IsPlainFile}
 use Rattle.kl1_log.specs.Batches.{text_after}
 use Rattle.kl1_log.proofs.Waits.{grown_file_waits, grown_fits}
 use Rattle.kl1_log.proofs.LinesWhole.{extended_longer}
-use Rattle.kl1_log.proofs.waiting.Waiting.note.Goals as goal
+use Rattle.kl1_log.proofs.noting.Waiting.note.Goals as goal
 
 pub returns-clause-ok : goal.returns-clause-ok
 returns-clause-ok c = λ text old up later.
