@@ -1,6 +1,7 @@
 -- What contracts see of journals that were shown.
 use Rattle.std.specs.Prelude.{⊤, ◌≡◌, ◌⊎◌, ◌<◌, ℕ, List, All, map, Option, Some, None}
 use Rattle.logbook.specs.Pages.{Book}
+pub use Rattle.logbook.specs.Pages.{book_coded}
 use Rattle.kl1_model_server.specs.Journal.{Journal}
 use Rattle.kl1_journal_stamps.specs.Later.{IsLater}
 

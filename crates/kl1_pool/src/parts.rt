@@ -38,8 +38,7 @@ impl<'t> Model for PoolParts<'t> {
     ghost use Rattle.std.specs.Coded.{codes};
     ghost use Rattle.atomic_table.specs.Seated.{table_id_coded};
     ghost use Rattle.boxcar.specs.Table.{shelves_coded};
-    ghost use Rattle.logbook.specs.Pages.{book_coded};
-    ghost use Rattle.kl1_journal_stamps.specs.Stamps.{AreNew, histories_of};
+    ghost use Rattle.kl1_journal_stamps.specs.Stamps.{AreNew, book_coded, histories_of};
     ghost use Rattle.kl1_pool.specs.Parts.{PoolPartsValue, AreFreshSeats, AreUsed, used_names};
 
     ghost Value = { PoolPartsValue };
