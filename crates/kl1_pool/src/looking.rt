@@ -39,9 +39,11 @@ impl<'t, R: Wait, K: PoolIds> Pool<'t, R, K> {
         let mut guard = self.places[account].lock(rt);
         let found = &mut *guard.account;
         // As in `visit`.
-        if !found.is_at(account) {
+        if found.account() != account {
             return false;
         }
+        // Called for the facts that it proves: the account is the replay of its journal, with the rules and the name that K names.
+        found.shows_counts();
         found.look(reader)
     }
 }
