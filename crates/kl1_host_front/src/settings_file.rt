@@ -138,8 +138,8 @@ pub const FIRST_SETTINGS: &str = "\
 # How many threads go on with accounts, 1 to 64; without this one for each account.
 # workers = 4
 
-# When a journal is on the disk: \"always\" before a reply that tells of it; a time, as \"100ms\": no reply waits, and it is there about
-# twice that time later; \"never\": no reply waits, and the program chooses the time, a second today.
+# When a journal is on the disk: \"always\": before a reply that tells of it. A time, as \"100ms\": no reply waits, and it is there about
+# twice that time later; a longer time is as that one. \"never\": no reply waits; today it is as \"100ms\".
 # sync = \"always\"
 
 # After which time a silent connection is ended.

@@ -157,12 +157,12 @@ where
     F::Entrance: Send,
     requires tables { (parts.table ≡ K.table) × (parts.seats ≡ K.seats) × (parts.codes ≡ K.codes) }
     requires names { (parts.rules ≡ K.rules) × (parts.names ≡ K.names) }
+    requires bound { parts.most_bytes ≡ K.most_bytes }
     requires tickets { (parts.tally ≡ K.tally) × (parts.queue ≡ K.queue) × (parts.accounts ≡ K.accounts) × (parts.shares ≡ K.shares) }
     requires shown { parts.histories ≡ K.histories }
     requires accounts { AreAccountsOf (F.names front.now) parts.names parts.accounts }
 {
     let (pool, shares) = Pool::<R, K>::new(rt, alloc, parts)?;
-    let pool = pool.bounded(setup.memory_each);
     let ended = run_pool(rt, alloc, listeners, front, &pool, shares, files, setup);
     pool.discard();
     ended
@@ -223,6 +223,7 @@ where
             // Accounts are restored with shares of their own.
             .saturating_add(accounts.len()),
     )?
-    .with_names(used);
+    .with_names(used)
+    .bounded(setup.memory_each);
     run_brand(rt, alloc, listeners, front, parts, accounts, setup)
 }

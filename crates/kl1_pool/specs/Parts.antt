@@ -11,7 +11,8 @@ use Rattle.kl1_journal_stamps.specs.Stamps.{HistoryId, ShownValue, AreNew, histo
 use Rattle.kl1_model_server.specs.laws.TextLaws.{AreNames}
 
 -- which table of names they have, and for how many accounts that was made; which table of codes; which rules the accounts keep to, and
--- what they are called; which names they had used at their last resets, those that had used some; which tally and which queue; and for how many accounts and shares these are
+-- what they are called; which names they had used at their last resets, those that had used some; how many bytes each may take; which
+-- tally and which queue; and for how many accounts and shares these are
 pub record PoolPartsValue : Type 0 where
   pub table : TableId
   pub seats : ℕ
@@ -19,6 +20,7 @@ pub record PoolPartsValue : Type 0 where
   pub rules : Rules
   pub names : List (List ℕ)
   pub used : List (List (List ℕ))
+  pub most_bytes : ℕ
   pub tally : TableId
   pub queue : TableId
   pub accounts : ℕ

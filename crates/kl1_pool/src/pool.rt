@@ -1,7 +1,6 @@
 // Accounts under locks, with what threads share besides.
 
 ghost use Rattle.std.specs.Prelude.{◌≡◌, ◌<◌, ◌≤◌, IfOk, All, slice_get, vec_len};
-ghost use Rattle.kl1_tally.specs.declared.amounts.TheConstants.{MOST_ACCOUNTS};
 ghost use Rattle.kl1_pool_tickets.specs.Counts.{Moved, Acts, new_counts};
 ghost use Rattle.kl1_pool_tickets.specs.declared.serving.TheConstants.{MOST_STEPS};
 ghost use Rattle.kl1_command.specs.Commands.{command_view};
@@ -13,8 +12,9 @@ use crate::gate::Gate;
 use crate::grants::Grants;
 use crate::locked_slot::LockedSlot;
 use crate::locked_slots::{drop_all, places_of};
-use crate::memory::reserve_of;
+use crate::memory::{reserve_of, was_sent};
 use crate::parts::PoolParts;
+use crate::pool_account::DueTicket;
 use crate::pool_ids::PoolIds;
 use crate::shared_tables::SharedTables;
 use kl1_command::Command;
@@ -35,6 +35,7 @@ pub struct Pool<'t, R: Wait, K: PoolIds> {
     pub(crate) most_bytes: u64,
     pub(crate) grants: Grants,
     pub ghost counted: { vec_len places ≡ K.accounts },
+    pub ghost bounded: { most_bytes ≡ K.most_bytes },
 }
 
 /// What becomes of a ticket if no turn was done.
@@ -45,6 +46,8 @@ const NO_TURN: TimeSlice = TimeSlice {
 
 impl<'t, R: Wait, K: PoolIds> Pool<'t, R, K> {
     /// The pool of these parts, in whose accounts nothing has happened, and its shares, which are at zero. By `rt` codes are put in.
+    /// An account that takes more bytes than it may gets no turns, and commands to it that take memory are answered as if memory was refused,
+    /// until it is reset; but messages to its shoens and answers go through as long as what is kept for them lasts, with a short turn after each.
     pub fn new(
         rt: &'t R,
         alloc: Global,
@@ -52,6 +55,7 @@ impl<'t, R: Wait, K: PoolIds> Pool<'t, R, K> {
     ) -> Result<(Pool<'t, R, K>, Vec<Share<K>>), AllocError>
         requires tables { (parts.table ≡ K.table) × (parts.seats ≡ K.seats) × (parts.codes ≡ K.codes) }
         requires names { (parts.rules ≡ K.rules) × (parts.names ≡ K.names) }
+        requires bound { parts.most_bytes ≡ K.most_bytes }
         requires tickets { (parts.tally ≡ K.tally) × (parts.queue ≡ K.queue) × (parts.accounts ≡ K.accounts) × (parts.shares ≡ K.shares) }
         requires shown { parts.histories ≡ K.histories }
         ensures shares { IfOk result (λ made. All (λ share. share ≡ new_counts) made.1.items) }
@@ -64,6 +68,7 @@ impl<'t, R: Wait, K: PoolIds> Pool<'t, R, K> {
             rules,
             seats,
             used,
+            most_bytes,
             tickets,
             shown,
         } = parts;
@@ -93,32 +98,11 @@ impl<'t, R: Wait, K: PoolIds> Pool<'t, R, K> {
                 tables,
                 common,
                 places,
-                most_bytes: u64::MAX,
+                most_bytes,
                 grants: Grants::new(),
             },
             shares,
         ))
-    }
-
-    /// The same pool, in which an account that takes more than `most_bytes` bytes gets no turns, and commands to it that take memory are
-    /// answered as if memory was refused, until it is reset.
-    pub fn bounded(self, most_bytes: u64) -> Pool<'t, R, K> {
-        let Pool {
-            rt,
-            tables,
-            common,
-            places,
-            most_bytes: _,
-            grants,
-        } = self;
-        Pool {
-            rt,
-            tables,
-            common,
-            places,
-            most_bytes,
-            grants,
-        }
     }
 
     /// How many accounts there are.
@@ -128,14 +112,14 @@ impl<'t, R: Wait, K: PoolIds> Pool<'t, R, K> {
         self.places.len()
     }
 
-    /// Does a command to an account under its lock; and whether its ticket is to be put, which then counts as out.
+    /// Does a command to an account under its lock; and its ticket that is to be put, if there is one.
     fn visit<W: Wait>(
         &self,
         rt: &W,
         account: usize,
         command: &Command,
         share: &mut Share<K>,
-    ) -> (Answer<K>, bool)
+    ) -> (Answer<K>, Option<DueTicket<K>>)
         requires within { account < K.accounts }
         ensures counted { Moved account (events_told result.0.performed) (steps_told result.0.performed) 0 0 share.old share.new }
         ensures account { result.0.account ≡ account }
@@ -145,18 +129,20 @@ impl<'t, R: Wait, K: PoolIds> Pool<'t, R, K> {
         let found = &mut *guard.account;
         // The lock tells nothing of which account lies under it. It is always this one.
         if found.account() != account {
-            return (Answer::misplaced(found, account, command), false);
+            return (Answer::misplaced(found, account, command), None);
         }
         if found.is_beyond(self.most_bytes, command) {
-            let answer = Answer::over(found, self.most_bytes, account, command);
-            return (answer, false);
+            return (Answer::over(found, account, command), None);
         }
-        let answer = found.perform(self.rt, &self.common, &self.tables, share, command);
-        if reserve_of(command) > 0 && found.is_over(self.most_bytes) {
+        let (answer, due) = found.act(self.rt, &self.common, &self.tables, share, command);
+        // What was sent over the bound is read, by one short turn.
+        if reserve_of(command) > 0
+            && was_sent(answer.performed())
+            && found.is_over(self.most_bytes)
+        {
             self.grants.grant(account);
         }
-        let wants = found.wants_ticket();
-        (answer, wants)
+        (answer, due)
     }
 
     /// Does a command to an account under its lock, as `PoolAccount::perform`. Afterwards a ticket of the account is put unless the
@@ -173,20 +159,26 @@ impl<'t, R: Wait, K: PoolIds> Pool<'t, R, K> {
         ensures account { result.account ≡ account }
         ensures command { result.command ≡ command_view command.now }
     {
-        let (answer, wants) = self.visit(rt, account, command, share);
-        if wants {
-            self.offer(rt, account, share);
+        let (answer, due) = self.visit(rt, account, command, share);
+        if let Some(due) = due {
+            self.offer(rt, account, due, share);
         }
         answer
     }
 
     /// Puts an account's ticket; if it can't be put, none is out.
-    pub(crate) fn offer<W: Wait>(&self, rt: &W, account: usize, share: &mut Share<K>)
-        requires within { account < MOST_ACCOUNTS }
+    pub(crate) fn offer<W: Wait>(
+        &self,
+        rt: &W,
+        account: usize,
+        due: DueTicket<K>,
+        share: &mut Share<K>,
+    )
+        requires within { account < K.accounts }
         ensures { Acts account 0 0 share.old share.new }
     {
-        if !self.common.offer(rt, account, share) {
-            self.clear_ticket(rt, account);
+        if let Some(unput) = due.put(rt, &self.common, account, share) {
+            self.places[account].lock(rt).account.take_back(unput);
         }
     }
 
@@ -208,7 +200,7 @@ impl<'t, R: Wait, K: PoolIds> Pool<'t, R, K> {
         share: &mut Share<K>,
     ) -> TimeSlice
         ensures few { result.steps ≤ MOST_STEPS }
-        ensures turn { IsTurn K.rules (slice_get K.names account) result }
+        ensures turn { IsTurn K.rules (slice_get K.names account) K.most_bytes result }
         ensures counted { Moved account result.steps result.steps 0 0 share.old share.new }
     {
         let Some(place) = self.places.get(account) else {
@@ -220,17 +212,14 @@ impl<'t, R: Wait, K: PoolIds> Pool<'t, R, K> {
         if found.account() != account {
             return NO_TURN;
         }
-        let is_over = found.is_over(self.most_bytes);
-        if is_over && !self.grants.take(account) {
+        let is_short = self.grants.take(account) && found.is_over(self.most_bytes);
+        if !found.may_turn(self.most_bytes, is_short) {
             found.clear_ticket();
             return NO_TURN;
         }
         gate.enter(number);
-        let slice = found.time_slice(self.rt, &self.common, &self.tables, share, is_over);
+        let slice = found.time_slice(self.rt, &self.common, &self.tables, share, is_short);
         gate.leave(number);
-        if !slice.again {
-            found.clear_ticket();
-        }
         slice
     }
 

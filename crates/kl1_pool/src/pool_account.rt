@@ -1,8 +1,9 @@
 // An account with its book.
 
+mod ticket;
 mod viewing;
 
-ghost use Rattle.std.specs.Prelude.{◌≡◌, ◌<◌, ◌≤◌, ◌^◌, ◌&&◌, if◌then◌else◌, [], Some, None, slice_get, IfOk, IsOk, IsTrue, OnErr, true, false, not, option_map};
+ghost use Rattle.std.specs.Prelude.{◌≡◌, ◌<◌, ◌≤◌, ◌^◌, [], Some, None, slice_get, IfOk, IsOk, IsTrue, OnErr, false, option_map};
 ghost use Rattle.kl1_model.specs.Event.{reduce as reduce_event, refused, journal_full};
 ghost use Rattle.kl1_model.specs.State.{has_runs};
 ghost use Rattle.kl1_model.specs.Choice.{first, quiet};
@@ -33,6 +34,7 @@ use kl1_user_events::{ClauseNo, Event, GoalNo, Listed, Refusal, Reply};
 use std::alloc::AllocError;
 use std::marker::{Model, PhantomData};
 use std::sync::Wait;
+pub(crate) use ticket::DueTicket;
 pub use viewing::BookTotals;
 
 /// An account with its journal and its book; what its journals counted that resets ended; whether its ticket is out; and which of its
@@ -235,19 +237,6 @@ impl<'t, R: Wait, K: PoolIds> PoolAccount<'t, R, K> {
         ensures { result ≡ room_in self.now.book }
     {
         MOST_EVENTS - self.book.events()
-    }
-
-    /// Whether a ticket of the account is to be put, which from then on counts as out: the account isn't quiet, and no ticket was
-    /// out.
-    pub fn wants_ticket(&mut self) -> bool
-        ensures wants { (f : Reading) → Fits self.new.held.0.names f → result ≡ (not self.old.is_out && not (quiet (kept_of f self.new.held).state)) }
-        ensures new { self.new ≡ record self.old { is_out = (if result then true else self.old.is_out) } }
-    {
-        if self.is_out || self.kept.quiet() {
-            return false;
-        }
-        self.is_out = true;
-        true
     }
 
     /// Notes that no ticket of the account is out.

@@ -55,6 +55,7 @@ fn is_same_by<'t, K: PoolIds, R: Wait>(
 ) -> Result<bool, AllocError>
     requires tables { (parts.table ≡ K.table) × (parts.seats ≡ K.seats) × (parts.codes ≡ K.codes) }
     requires names { (parts.rules ≡ K.rules) × (parts.names ≡ K.names) }
+    requires bound { parts.most_bytes ≡ K.most_bytes }
     requires tickets { (parts.tally ≡ K.tally) × (parts.queue ≡ K.queue) × (parts.accounts ≡ K.accounts) × (parts.shares ≡ K.shares) }
     requires shown { parts.histories ≡ K.histories }
     requires accounts { 1 ≤ parts.accounts }

@@ -1,7 +1,7 @@
 use Rattle.kl1_host_work.proofs.starting.run_brand.Given as goal
 
 abbrev pub ghosts-run_parts-K-PoolIds : goal.ghosts-run_parts-K-PoolIds
-ghosts-run_parts-K-PoolIds g a = record { table = a.parts.table; seats = a.parts.seats; codes = a.parts.codes; rules = a.parts.rules; names = a.parts.names }
+ghosts-run_parts-K-PoolIds g a = record { table = a.parts.table; seats = a.parts.seats; codes = a.parts.codes; rules = a.parts.rules; names = a.parts.names; most_bytes = a.parts.most_bytes }
 
 abbrev pub ghosts-run_parts-K-TicketIds : goal.ghosts-run_parts-K-TicketIds
 ghosts-run_parts-K-TicketIds g a = record { tally = a.parts.tally; queue = a.parts.queue; accounts = a.parts.accounts; shares = a.parts.shares }
