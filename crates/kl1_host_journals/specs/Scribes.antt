@@ -1,5 +1,5 @@
 -- What a scribe shows.
-use Rattle.std.specs.Prelude.{⊤, ⊥, ◌≡◌, ◌≤◌, ◌⊎◌, true, Option, Some, None}
+use Rattle.std.specs.Prelude.{⊤, ◌≡◌, ◌≤◌, ◌⊎◌, true, Option, Some, None}
 use Rattle.kl1_log.specs.declared.disk.Disk as disk
 use Rattle.kl1_host_journals.specs.declared.history.Naming as naming
 use Rattle.kl1_host_journals.specs.declared.kept_file.KeptFile.{KeptFile}

@@ -1,5 +1,5 @@
 -- Up to where those were told who wait for the disk.
-use Rattle.std.specs.Prelude.{⊥, ◌≡◌, Option, Some, None}
+use Rattle.std.specs.Prelude.{◌≡◌, Option, Some, None}
 use Rattle.kl1_log.specs.Receipts as receipts
 use Rattle.kl1_host_journals.specs.declared.history.Naming as naming
 use Rattle.kl1_host_journals.specs.declared.place.Place.{Place}

@@ -1,5 +1,5 @@
 use Rattle.kl1_log.proofs.Waits.{anew_file, anew_fits}
-use Rattle.kl1_log.proofs.noting.Waiting.note_reset.Goals as goal
+use Rattle.kl1_log.proofs.waiting.Waiting.note_reset.Goals as goal
 
 pub returns-clause-ok : goal.returns-clause-ok
 returns-clause-ok c = λ text.

@@ -2,7 +2,7 @@ use Rattle.std.proofs.Common.{◌≡◌, ℕ, List, [], sym, ap, ◌∙◌}
 use Rattle.kl1_sums.specs.Sums.{summed_text}
 use Rattle.kl1_log.specs.Deeds.{IsFile}
 use Rattle.kl1_log.proofs.Waits.{own_file, taken_file, taken_fits, anew_file, anew_fits}
-use Rattle.kl1_log.proofs.noting.Waiting.over.Goals as goal
+use Rattle.kl1_log.proofs.waiting.Waiting.over.Goals as goal
 
 pub returns-then-eq-clause-file : goal.returns-then-eq-clause-file
 returns-then-eq-clause-file c =
