@@ -1,5 +1,5 @@
 -- Answers in JSON.
-use Rattle.std.proofs.Common.{◌≡◌, ℕ, ◌==◌, Bool, true, false, ◌||◌, if◌then◌else◌, List, [], ◌∷◌, ◌++◌, map, codes, IsUtf8, Result, Ok, Err, IfOk, refl, sym, ap, ◌∙◌, append_assoc, append-nil}
+use Rattle.std.proofs.Common.{◌≡◌, ℕ, suc, ◌==◌, Bool, true, false, ◌||◌, if◌then◌else◌, List, [], ◌∷◌, ◌++◌, map, codes, IsUtf8, Option, Some, None, slice_get, Result, Ok, Err, IfOk, refl, sym, ap, ◌∙◌, append_assoc, append-nil}
 use Rattle.std.proofs.lemmas.List.{map-append}
 use Rattle.std.specs.declared.alloc.AllocError.{AllocError}
 use Rattle.std.specs.Str.{is_utf8}
@@ -19,7 +19,9 @@ use Rattle.kl1_host_door.specs.declared.answer.Cookie.TheVariants.{Kept, Set}
 use Rattle.kl1_host_door.specs.declared.status.Status.{Status}
 use Rattle.kl1_host_door.specs.declared.status.Status.TheVariants.{Good}
 use Rattle.kl1_host_door.specs.declared.session.WebSession.{WebSession}
-use Rattle.kl1_host_web.specs.Telling.{shown, text_data, lines_data, IsReply, IsLoad, IsSyntax}
+use Rattle.kl1_user_events.specs.declared.shoen_view.ShoenView.{ShoenView}
+use Rattle.kl1_host_door.specs.declared.limits.TheConstants.{SHOENS_A_PAGE}
+use Rattle.kl1_host_web.specs.Telling.{shown, text_data, lines_data, IsReply, IsLoad, IsSyntax, IsNamed, number_data, IsShoens}
 use Rattle.kl1_host_web.specs.Beginning.{IsWelcome}
 
 -- ---- bytes as texts
@@ -110,9 +112,13 @@ pub syntax_is : (v : Value) (result : Result Answer AllocError) → view v ≡ o
 syntax_is v (Ok answer) built head text = record { status = head.0; cookie_is = head.1; text = text (ap has_float built) ∙ ap compact_text built }
 syntax_is v (Err e) built head text = tt
 
-pub welcome_is : (session : WebSession) (name : List ℕ) (v : Value) (result : Result Answer AllocError) → view v ≡ object (member (codes "name") (string name) (member (codes "token") (string (shown session.token)) no_members)) → IfOk result (λ answer. (answer.status ≡ Good) × (answer.cookie ≡ Set session.id)) → IfOk result (λ answer. has_float (view v) ≡ false → answer.body.items ≡ compact_text (view v)) → IfOk result (IsWelcome session)
-welcome_is session name v (Ok answer) built head text = record { status = head.0; cookie = head.1; name = name; text = text (ap has_float built) ∙ ap compact_text built }
-welcome_is session name v (Err e) built head text = tt
+pub welcome_is : (names : ℕ → List ℕ) (session : WebSession) (v : Value) (result : Result Answer AllocError) → view v ≡ object (member (codes "name") (string (shown (names session.account))) (member (codes "token") (string (shown session.token)) no_members)) → IfOk result (λ answer. (answer.status ≡ Good) × (answer.cookie ≡ Set session.id)) → IfOk result (λ answer. has_float (view v) ≡ false → answer.body.items ≡ compact_text (view v)) → IfOk result (IsWelcome names session)
+welcome_is names session v (Ok answer) built head text = record { status = head.0; cookie = head.1; text = text (ap has_float built) ∙ ap compact_text built }
+welcome_is names session v (Err e) built head text = tt
+
+pub named_is : (name : List ℕ) (v : Value) (result : Result Answer AllocError) → view v ≡ object (member (codes "name") (string (shown name)) no_members) → IfOk result (λ answer. (answer.status ≡ Good) × (answer.cookie ≡ Kept)) → IfOk result (λ answer. has_float (view v) ≡ false → answer.body.items ≡ compact_text (view v)) → IfOk result (IsNamed name)
+named_is name v (Ok answer) built head text = record { status = head.0; cookie_is = head.1; text = text (ap has_float built) ∙ ap compact_text built }
+named_is name v (Err e) built head text = tt
 
 -- ---- reasons, of which none has a float
 
@@ -125,3 +131,15 @@ last (w ∷ ws) v exact so_far =
 -- one more reason
 pub one_reason : (values new : List Value) (v : Value) → new ≡ values ++ v ∷ [] → has_float (view v) ≡ false → items_have_float (items_of (map view values)) ≡ false → items_have_float (items_of (map view new)) ≡ false
 one_reason values new v pushed exact so_far = ap (λ l. items_have_float (items_of (map view l))) pushed ∙ last values v exact so_far
+
+-- ---- shoens
+
+number_float : (o : Option ShoenView) → has_float (number_data o) ≡ false
+number_float None = refl
+number_float (Some view) = refl
+
+pub shoens_are : (lists : ℕ → ℕ → List ShoenView → Type 0) (from : ℕ) (views : List ShoenView) (shoens : Items) (v : Value) (result : Result Answer AllocError) → lists from (suc SHOENS_A_PAGE) views → view v ≡ object (member (codes "next") (number_data (slice_get views SHOENS_A_PAGE)) (member (codes "shoens") (array shoens) no_members)) → items_have_float shoens ≡ false → IfOk result (λ answer. (answer.status ≡ Good) × (answer.cookie ≡ Kept)) → IfOk result (λ answer. has_float (view v) ≡ false → answer.body.items ≡ compact_text (view v)) → IfOk result (IsShoens lists from)
+shoens_are lists from views shoens v (Ok answer) listed built exact head text =
+    let none : has_float (view v) ≡ false = ap has_float built ∙ rw (number_float (slice_get views SHOENS_A_PAGE), exact) refl in
+    record { views = views; listed = listed; status = head.0; cookie_is = head.1; shoens = shoens; text = text none ∙ ap compact_text built }
+shoens_are lists from views shoens v (Err e) listed built exact head text = tt

@@ -90,7 +90,7 @@ restored_by rules name old new es r fresh kept keeps called names before restore
 
 -- a turn within its bytes
 turn_within : (most : ℕ) (short : Bool) (k : Kept) (t : TimeSlice) → bytes_taken k ≤ turn_bound most short → (short ≡ true → (t.steps ≤ MOST_GRANTED_STEPS) × (t.again ≡ false)) → IsTurnWithin most k t
-turn_within most true k t few is_short = inr (few, is_short refl)
+turn_within most true k t few is_short = inr (few, (is_short refl).0, (is_short refl).1)
 turn_within most false k t few is_short = inl few
 
 -- the turn of an account

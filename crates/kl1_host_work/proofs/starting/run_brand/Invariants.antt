@@ -1,3 +1,4 @@
+use Rattle.kl1_host_work.specs.OwnHistories.{books_at}
 use Rattle.kl1_host_work.proofs.starting.run_brand.Given as goal
 
 abbrev pub ghosts-run_parts-K-PoolIds : goal.ghosts-run_parts-K-PoolIds
@@ -8,3 +9,6 @@ ghosts-run_parts-K-TicketIds g a = record { tally = a.parts.tally; queue = a.par
 
 abbrev pub ghosts-run_parts-K-ShownIds : goal.ghosts-run_parts-K-ShownIds
 ghosts-run_parts-K-ShownIds g a = record { histories = a.parts.histories }
+
+abbrev pub ghosts-run_parts-K-Naming : goal.ghosts-run_parts-K-Naming
+ghosts-run_parts-K-Naming g a = record { books = books_at a.found.histories.items }
