@@ -1,6 +1,7 @@
 -- What is known of the file of an account that is linked with a journal.
-use Rattle.std.specs.Prelude.{⊤, ◌≡◌, ℕ}
+use Rattle.std.specs.Prelude.{⊤, ◌≡◌, ℕ, Some, slice_get}
 use Rattle.kl1_model_server.specs.Journal.{Journal}
+use Rattle.kl1_journal_stamps.specs.Stamps.{StampValue}
 use Rattle.kl1_log.specs.declared.disk.Disk as disk
 use Rattle.kl1_log.specs.Batches.{text_of}
 use Rattle.kl1_log.specs.LogFiles.{disk_of}
@@ -27,6 +28,12 @@ module _ {D J : Type 0} {g : disk.Ghosts D} {h : naming.Ghosts J} where
   IsLinkedIf (Unlinked file own) j generation = ⊤
   IsLinkedIf (Linked l) j generation = IsLinked l j generation
   IsLinkedIf (Failed fault) j generation = ⊤
+
+  -- a file that isn't linked yet takes the stamps of the account that it is of
+  abbrev pub Takes : Linkage D J g h → StampValue → Type 0
+  Takes (Unlinked file own) s = slice_get h.histories own.account ≡ Some s.history
+  Takes (Linked l) s = ⊤
+  Takes (Failed fault) s = ⊤
 
   -- a file that wasn't linked was shown a journal
   abbrev pub IsRead : Linkage D J g h → Linkage D J g h → Journal → ℕ → Type 0
