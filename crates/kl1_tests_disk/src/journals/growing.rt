@@ -30,7 +30,7 @@ impl NewAccount {
 }
 
 /// What becomes of a journal.
-#[derive(Drop)]
+#[derive(Clone, Copy)]
 pub(crate) enum Change {
     /// Its last entry is a run of so many reductions more.
     Run(u32),
