@@ -148,7 +148,7 @@ impl<J: Naming> Growing<J> {
     {
         match change {
             Change::Run(count) => {
-                for _ in 0..*count {
+                for _number in 0..*count {
                     self.run_on()?;
                 }
                 Ok(())
