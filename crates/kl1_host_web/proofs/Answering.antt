@@ -1,10 +1,11 @@
 -- Answers in JSON.
-use Rattle.std.proofs.Common.{◌≡◌, ℕ, suc, ◌==◌, Bool, true, false, ◌||◌, if◌then◌else◌, List, [], ◌∷◌, ◌++◌, map, codes, IsUtf8, Option, Some, None, slice_get, Result, Ok, Err, IfOk, refl, sym, ap, ◌∙◌, append_assoc, append-nil}
+use Rattle.std.proofs.Common.{◌≡◌, ◌<◌, ◌≤◌, ℕ, suc, length, get_or, ◌==◌, Bool, true, false, ◌||◌, if◌then◌else◌, List, [], ◌∷◌, ◌++◌, map, codes, IsUtf8, Option, Some, None, slice_get, Result, Ok, Err, IfOk, refl, sym, ap, ◌∙◌, append_assoc, append-nil}
 use Rattle.std.proofs.lemmas.List.{map-append}
+use Rattle.std.proofs.lemmas.Option.{slice_get_past, slice_get_read}
 use Rattle.std.specs.declared.alloc.AllocError.{AllocError}
 use Rattle.std.specs.Str.{is_utf8}
 use Rattle.std.proofs.lemmas.Str.{IsUtf8-from_is_utf8, is_utf8-from_IsUtf8}
-use Rattle.serde_json.specs.Data.{Data, string, array, object, Items, no_items, item, member, no_members}
+use Rattle.serde_json.specs.Data.{Data, null, number, unsigned, string, array, object, Items, no_items, item, member, no_members}
 use Rattle.serde_json.specs.View.{view, items_of}
 use Rattle.serde_json.specs.Written.{compact_text, has_float, items_have_float}
 use Rattle.serde_json.specs.declared.value.Value.{Value}
@@ -133,6 +134,13 @@ pub one_reason : (values new : List Value) (v : Value) → new ≡ values ++ v �
 one_reason values new v pushed exact so_far = ap (λ l. items_have_float (items_of (map view l))) pushed ∙ last values v exact so_far
 
 -- ---- shoens
+
+-- the number of the shoen at a place where there is none, and where there is one
+pub none_at : (views : List ShoenView) (place : ℕ) (d : Data) → length views ≤ place → d ≡ null → d ≡ number_data (slice_get views place)
+none_at views place d past e = e ∙ sym (ap number_data (slice_get_past views place past))
+
+pub one_at : (views : List ShoenView) (place : ℕ) (one : ShoenView) (d : Data) → place < length views → one ≡ get_or views place one → d ≡ number (unsigned one.number.0) → d ≡ number_data (slice_get views place)
+one_at views place one d within is e = e ∙ sym (ap number_data (slice_get_read views (length views) place one refl within is))
 
 number_float : (o : Option ShoenView) → has_float (number_data o) ≡ false
 number_float None = refl

@@ -153,19 +153,19 @@ fn shoen_value(alloc: Global, shoen: Option<ShoenNo>) -> Result<Value, AllocErro
 }
 
 /// A shoen.
-fn view_value(alloc: Global, view: &ShoenView) -> Result<Value, AllocError>
+fn view_value(alloc: Global, shoen: &ShoenView) -> Result<Value, AllocError>
     ensures { IfOk result (λ value. has_float (view value) ≡ false) }
 {
-    let parent = shoen_value(alloc, view.parent)?;
-    let charged = large_value(alloc, view.charged)?;
-    let allowance = large_value(alloc, view.allowance)?;
+    let parent = shoen_value(alloc, shoen.parent)?;
+    let charged = large_value(alloc, shoen.charged)?;
+    let allowance = large_value(alloc, shoen.allowance)?;
     json!(in alloc; {
-        "number": (view.number.0),
+        "number": (shoen.number.0),
         "parent": parent,
-        "condition": (condition_word(view.condition)),
+        "condition": (condition_word(shoen.condition)),
         "charged": charged,
         "allowance": allowance,
-        "alive": (view.alive)
+        "alive": (shoen.alive)
     })
 }
 

@@ -29,6 +29,25 @@ pub(crate) fn fresh_histories(
     Ok(fresh)
 }
 
+/// The last of these histories as that of the account whose number is how many are left; `None` if there is none.
+fn last_own<J: Naming>(fresh: &mut Vec<FreshHistory>) -> Option<OwnHistory<J>>
+    requires { AreFresh J.books fresh.old.items }
+    ensures { AreFresh J.books fresh.new.items }
+{
+    let Some(last) = fresh.pop() else {
+        return None;
+    };
+    let Ok(account) = u32::try_from(fresh.len()) else {
+        return None;
+    };
+    let own = OwnHistory {
+        account,
+        fresh: last,
+        of: PhantomData,
+    };
+    Some(own)
+}
+
 /// These histories, each as its account's: the first account's at last.
 pub(crate) fn own_histories<J: Naming>(
     alloc: Global,
@@ -39,14 +58,8 @@ pub(crate) fn own_histories<J: Naming>(
     let mut fresh = fresh;
     let mut own = Vec::with_capacity(alloc, fresh.len())?;
     for _ in 0..fresh.len() {
-        if let Some(last) = fresh.pop()
-            && let Ok(account) = u32::try_from(fresh.len())
-        {
-            own.push(OwnHistory {
-                account,
-                fresh: last,
-                of: PhantomData,
-            })?;
+        if let Some(last) = last_own(&mut fresh) {
+            own.push(last)?;
         }
     }
     Ok(own)

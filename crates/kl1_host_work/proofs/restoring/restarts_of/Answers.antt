@@ -1,7 +1,11 @@
-use Rattle.std.proofs.Common.{rules, map-id}
+use Rattle.std.proofs.Common.{refl, rules, map-id}
 use Rattle.std.proofs.lemmas.Iterator.Consumers.{YieldsList-end}
 use Rattle.std.proofs.lemmas.Iterator.Adapters.{YieldsList-from_vec}
+use Rattle.kl1_host_work.proofs.Shelves.{one_waits}
 use Rattle.kl1_host_work.proofs.restoring.restarts_of.Goals as goal
+
+pub loop-found-preserved : goal.loop-found-preserved
+loop-found-preserved g c = one_waits _ _ _ _ c.loop-found.yielded c.in-Some.found c.in_ok-push.ensures.items c.loop-found.invariant refl
 
 -- all of them were gone through
 pub returns : goal.returns
