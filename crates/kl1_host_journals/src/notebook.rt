@@ -1,6 +1,8 @@
 // What of an account's journal was noted for its file, in its history.
 
 ghost use Rattle.std.specs.Prelude.{◌≡◌, ◌≤◌, true, Some, slice_get, length, IfOk, IfErr, IfSome, IsTrue};
+ghost use Rattle.std.specs.Coded.{codes};
+ghost use Rattle.kl1_journal_entries.specs.Codes.{journal_code};
 ghost use Rattle.kl1_journal_stamps.specs.Stamps.{ComesAfter, IsAfter, IsStampOf};
 ghost use Rattle.kl1_log.specs.Waits.{account_of as account_of_waiting, taken_of, noted_of, mark_of};
 ghost use Rattle.kl1_log.specs.Batches.{text_after};
@@ -47,7 +49,7 @@ pub struct Notebook<J: Naming> {
     ghost lines: { (mark_of (waiting_of notes)).lines ≡ lines_of (last_of (log_of_history history)) },
     ghost run: { (mark_of (waiting_of notes)).run ≡ run_of (last_of (log_of_history history)) },
     ghost stamp_history: { slice_get J.histories (account_of_waiting (waiting_of notes)) ≡ Some stamp.history },
-    ghost stamp_journal: { stamp.journal ≡ (last_of (log_of_history history)).journal.journal },
+    ghost stamp_journal: { stamp.journal ≡ (last_of (log_of_history history)).journal.journal } by { Prim.hlevel (codes, journal_code) },
     ghost stamp_generation: { stamp.generation ≡ generation_of notes },
 }
 
