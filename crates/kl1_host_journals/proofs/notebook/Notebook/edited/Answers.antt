@@ -75,9 +75,9 @@ invariant_of-result g c =
           sym (ap (λ (n : Notes). (mark_of (waiting_of n)).lines) c.of.ensures) ∙ note_lines log new j base r same up ∙ sym (ap (λ (l : List Edition). lines_of (last_of l)) is);
       run =
           sym (ap (λ (n : Notes). (mark_of (waiting_of n)).run) c.of.ensures) ∙ note_run log new j base r same up ∙ sym (ap (λ (l : List Edition). run_of (last_of l)) is);
-      stamp_history = subst (λ (x : StampValue). slice_get g.J.ShownIds.histories (account_of_waiting (waiting_of c.args.notes)) ≡ Some x.history) (sym c.again-2.ensures) c.requires.history;
-      stamp_journal = ap (λ (x : StampValue). x.journal) c.again-2.ensures ∙ c.requires.stamp.0 ∙ sym (ap (λ (x : Rows). x.journal) c.of-2.ensures) ∙ sym (ap (λ (x : Edition). x.journal.journal) last);
-      stamp_generation = ap (λ (x : StampValue). x.generation) c.again-2.ensures ∙ c.requires.stamp.1 ∙ sym c.requires.takes.now;
+      stamp_history = subst (λ (x : StampValue). slice_get g.J.ShownIds.histories (account_of_waiting (waiting_of c.args.notes)) ≡ Some x.history) (sym c.again-in-Ok.ensures) c.requires.history;
+      stamp_journal = ap (λ (x : StampValue). x.journal) c.again-in-Ok.ensures ∙ c.requires.stamp.0 ∙ sym (ap (λ (x : Rows). x.journal) c.of-2.ensures) ∙ sym (ap (λ (x : Edition). x.journal.journal) last);
+      stamp_generation = ap (λ (x : StampValue). x.generation) c.again-in-Ok.ensures ∙ c.requires.stamp.1 ∙ sym c.requires.takes.now;
     }
 
 pub returns-in-Ok : goal.returns-in-Ok
