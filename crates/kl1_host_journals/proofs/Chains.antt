@@ -3,9 +3,9 @@ use Rattle.std.proofs.Common.{◌≡◌, ℕ, zero, suc, ◌≤◌, List, [], �
 use Rattle.std.proofs.lemmas.Bool.{cases_lt}
 use Rattle.std.proofs.lemmas.List.{append-nil}
 use mathlib.Core.List.{IsPrefix}
-use Rattle.kl1_log.specs.Later.{IsLater}
+use Rattle.kl1_journal_stamps.proofs.Growing.{growth_goes_on}
 use Rattle.kl1_host_journals.specs.declared.edition.Edition.{Edition}
-use Rattle.kl1_host_journals.specs.Editions.{last_of, StandsIn, Follows, MayFollow, AllFollow, IsChain, HaveGrown}
+use Rattle.kl1_host_journals.specs.Editions.{last_of, StandsIn, Follows, MayFollow, AllFollow, IsChain}
 
 -- each list begins with itself
 pub prefix_self : {A : Type 0} (xs : List A) → IsPrefix xs xs
@@ -49,6 +49,10 @@ stands_on d e f (inl a) (inr b) = inl (let same = b.0 in omega (arith, a, same))
 stands_on d e f (inr a) (inl b) = inl (let same = a.0 in omega (arith, b, same))
 stands_on d e f (inr a) (inr b) = inr (a.0 ∙ b.0, prefix_trans d.text e.text f.text a.1 b.1)
 
+later_than : (d e : Edition) → StandsIn d e → d.generation ≤ e.generation
+later_than d e (inl less) = omega (arith, less)
+later_than d e (inr stands) = let same = stands.0 in omega (arith, same)
+
 pub follows_on : (d e f : Edition) → Follows d e → Follows e f → Follows d f
 follows_on d e f a b = record {
   number = (let p = a.number in let q = b.number in omega (arith, p, q));
@@ -59,6 +63,10 @@ follows_on d e f a b = record {
       let two = b.same (omega (arith, p, q, is)) in
       (one.0 ∙ two.0, one.1 ∙ two.1);
   text = stands_on d e f a.text b.text;
+  grown = λ is.
+      let p = later_than d e a.text in
+      let q = later_than e f b.text in
+      growth_goes_on d.journal.journal e.journal.journal f.journal.journal (a.grown (omega (arith, p, q, is))) (b.grown (omega (arith, p, q, is)));
 }
 
 -- the last of editions with one more
@@ -157,16 +165,6 @@ pub same_text : (xs ys zs : List Edition) → IsChain zs → IsPrefix xs zs → 
 same_text [] ys zs chain p q one two n = absurd (omega (arith, one))
 same_text (c ∷ cs) [] zs chain p q one two n = absurd (omega (arith, two))
 same_text (c ∷ cs) (d ∷ ds) zs chain p q one two n = same_cases c cs d ds zs chain p q n (shorter (length (c ∷ cs)) (length (d ∷ ds)))
-
--- journals that have only grown, of which one is the last
-pub grown_before : (es : List Edition) (e : Edition) → HaveGrown (es ++ e ∷ []) → HaveGrown es
-grown_before [] e g = tt
-grown_before (d ∷ []) e g = (tt, tt)
-grown_before (d ∷ f ∷ fs) e g = (g.0, grown_before (f ∷ fs) e g.1)
-
-pub grown_last : (d : Edition) (ds : List Edition) (e : Edition) → HaveGrown ((d ∷ ds) ++ e ∷ []) → (last_of (d ∷ ds)).generation ≡ e.generation → IsLater (last_of (d ∷ ds)).journal.journal e.journal.journal
-grown_last d [] e g same = g.0 same
-grown_last d (f ∷ fs) e g same = grown_last f fs e g.1 same
 
 number_by : (d e : Edition) → (d ≡ e) ⊎ Follows d e → d.number ≤ e.number
 number_by d e (inl is) = omega (arith, ap (λ (x : Edition). x.number) is)

@@ -11,7 +11,7 @@ use Rattle.kl1_log.specs.Files.{FileState, Known, IfKnown, Bytes, content, MayLe
 use Rattle.kl1_log.proofs.Fronts.{appends_are_fronts}
 use Rattle.kl1_log.proofs.DeedsDone.{deeds_more}
 use Rattle.kl1_host_journals.specs.declared.edition.Edition.{Edition}
-use Rattle.kl1_host_journals.specs.Editions.{last_of, StandsIn, IsLastEdited, IsUpToDate}
+use Rattle.kl1_host_journals.specs.Editions.{last_of, StandsIn, IsUpToDate}
 use Rattle.kl1_host_journals.specs.Texts.{IsTextOf}
 use Rattle.kl1_host_journals.specs.Keeping.{IsReadWith, CrashesKeepDeeds, Keeps}
 use Rattle.kl1_host_journals.proofs.Noting.{last_edited}
@@ -54,7 +54,7 @@ rest_left s c nil none (inl l) =
     take_nil (suc m) = refl
 rest_left s c nil none (inr back) = absurd (none_of s.before c none back)
 
-read_by : (covered all : List Edition) (c : List ℕ) → 1 ≤ length covered → 1 ≤ length all → StandsIn (last_of covered) (last_of all) → IsLastEdited covered → IsLastEdited all → (last_of covered).generation ≡ (last_of all).generation → c ≡ (last_of all).text → IsReadWith c (last_of covered).journal.journal
+read_by : (covered all : List Edition) (c : List ℕ) → 1 ≤ length covered → 1 ≤ length all → StandsIn (last_of covered) (last_of all) → IsUpToDate covered → IsUpToDate all → (last_of covered).generation ≡ (last_of all).generation → c ≡ (last_of all).text → IsReadWith c (last_of covered).journal.journal
 read_by covered all c one two (inl less) was is same here = absurd (omega (arith, less, same))
 read_by covered all c one two (inr stands) was is same here =
     let d = last_of covered in
@@ -67,6 +67,6 @@ some_inj x y e = cc e
 
 pub kept_on : (k : Known) (covered all : List Edition) → is_at_rest k ≡ true → IsTextOf k (last_of all).text → 1 ≤ length covered → 1 ≤ length all → StandsIn (last_of covered) (last_of all) → IsUpToDate covered → IsUpToDate all → IfKnown k (Keeps covered all)
 kept_on None covered all rest text one two stands was is = tt
-kept_on (Some k) covered all rest text one two stands was is = λ c may grown wholly same.
+kept_on (Some k) covered all rest text one two stands was is = λ c may same.
     let both = and_parts (is_nil k.now.now.pending) (is_none k.now.before) rest in
-    read_by covered all c one two stands (was grown) (is wholly) same (rest_left k.now c both.0 both.1 may ∙ some_inj (content k.now.now) (last_of all).text text)
+    read_by covered all c one two stands was is same (rest_left k.now c both.0 both.1 may ∙ some_inj (content k.now.now) (last_of all).text text)

@@ -5,7 +5,8 @@ use Rattle.kl1_model.specs.declared.rules.Rules.TheVariants.{Four}
 use Rattle.kl1_model_server.specs.Journal.{Journal, new_journal}
 use Rattle.kl1_model_server.specs.JournalText.{journal_lines}
 use Rattle.kl1_log.specs.Deeds.{IsFile}
-use Rattle.kl1_log.specs.Later.{IsLater, last_run}
+use Rattle.kl1_journal_stamps.specs.Later.{IsLater}
+use Rattle.kl1_log.specs.Later.{last_run}
 use Rattle.kl1_host_journals.specs.declared.edition.Edition.{Edition}
 
 -- what a file is to hold of which nothing was noted
@@ -22,11 +23,13 @@ last_of (d ∷ e ∷ es) = last_of (e ∷ es)
 abbrev pub StandsIn : Edition → Edition → Type 0
 StandsIn d e = (d.generation < e.generation) ⊎ ((d.generation ≡ e.generation) × IsPrefix d.text e.text)
 
--- an edition may come after another: as many changes were noted, or more; if as many, the file is to hold the same
+-- an edition may come after another: as many changes were noted, or more; if as many, the file is to hold the same; and the journal of the
+-- same generation has grown
 pub record Follows (d e : Edition) : Type 0 where
   pub number : d.number ≤ e.number
   pub same : d.number ≡ e.number → (d.generation ≡ e.generation) × (d.text ≡ e.text)
   pub text : StandsIn d e
+  pub grown : d.generation ≡ e.generation → IsLater d.journal.journal e.journal.journal
 
 -- an edition may come after these, of which the last decides
 abbrev pub MayFollow : List Edition → Edition → Type 0
@@ -43,28 +46,14 @@ abbrev pub IsChain : List Edition → Type 0
 IsChain [] = ⊤
 IsChain (e ∷ es) = AllFollow e es × IsChain es
 
--- the journal of the same generation has grown
-abbrev pub GrowsInto : Edition → List Edition → Type 0
-GrowsInto d [] = ⊤
-GrowsInto d (e ∷ es) = d.generation ≡ e.generation → IsLater d.journal.journal e.journal.journal
-
--- the journals of each generation have only grown from note to note
-abbrev pub HaveGrown : List Edition → Type 0
-HaveGrown [] = ⊤
-HaveGrown (e ∷ es) = GrowsInto e es × HaveGrown es
-
 -- the text is a file of the journal that was noted
 abbrev pub IsEdited : Edition → Type 0
 IsEdited e = IsFile e.text e.journal.journal
 
 -- the last text is a file of the journal that was noted last
-abbrev pub IsLastEdited : List Edition → Type 0
-IsLastEdited [] = ⊤
-IsLastEdited (e ∷ es) = IsEdited (last_of (e ∷ es))
-
--- if the journals have only grown, the last text is a file of the last of them
 abbrev pub IsUpToDate : List Edition → Type 0
-IsUpToDate log = HaveGrown log → IsLastEdited log
+IsUpToDate [] = ⊤
+IsUpToDate (e ∷ es) = IsEdited (last_of (e ∷ es))
 
 -- an edition is the note of this journal, in this generation
 abbrev pub IsNoteOf : Edition → Journal → ℕ → Type 0

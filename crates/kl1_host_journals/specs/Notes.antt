@@ -2,7 +2,7 @@
 use Rattle.std.specs.Prelude.{◌≡◌, ◌+◌, ℕ, List}
 use mathlib.Core.List.{IsPrefix}
 use Rattle.kl1_model_server.specs.Journal.{Journal}
-use Rattle.kl1_log.specs.Later.{IsLater}
+use Rattle.kl1_journal_stamps.specs.Later.{IsLater}
 use Rattle.kl1_log.specs.Batches.{text_after}
 use Rattle.kl1_log.specs.Waits.{IsUpTo, CountsOn, Keeps}
 use Rattle.kl1_log.specs.declared.change.Change.{Change}

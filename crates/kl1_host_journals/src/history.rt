@@ -8,6 +8,7 @@ ghost use Rattle.kl1_host_journals.specs.FreshHistories.{books_of};
 use crate::edition::Edition;
 use crate::fresh_history::FreshHistory;
 use crate::place::Place;
+use kl1_journal_stamps::ShownIds;
 use logbook::{Gain, Offer, Plain, Play, Rule, Seen, Word};
 use std::alloc::AllocError;
 use std::marker::{Brand, PhantomData};
@@ -71,7 +72,7 @@ impl Plain<(), Edition, u64> for Look {
 }
 
 /// Which histories each account has, by its number.
-pub trait Naming {
+pub trait Naming: ShownIds {
     ghost use Rattle.std.specs.Prelude.{ℕ};
     ghost use Rattle.kl1_host_journals.specs.Books.{Books};
 

@@ -1,6 +1,7 @@
 // What of an account waits for its file, under a lock, and how far it is on disk.
 
-ghost use Rattle.std.specs.Prelude.{◌≤◌, IfSome};
+ghost use Rattle.std.specs.Prelude.{◌≡◌, ◌≤◌, Some, slice_get, IfSome};
+ghost use Rattle.kl1_journal_stamps.specs.Stamps.{IsStampOf};
 ghost use Rattle.kl1_host_journals.specs.Outgoings.{IsNotedFor};
 ghost use Rattle.kl1_host_journals.specs.Parcels.{end_of};
 ghost use Rattle.kl1_host_journals.specs.Places.{edition_of};
@@ -15,6 +16,7 @@ use crate::parcel::Parcel;
 use crate::place::Place;
 use crate::written::Written;
 use kl1_journal_entries::Journal;
+use kl1_journal_stamps::Stamp;
 use std::mem;
 use std::sync::atomic::{AtomicBool, Ordering};
 use std::sync::{Mutex, Wait};
@@ -65,21 +67,27 @@ impl<J: Naming> Keeper<J> {
         &self.bell
     }
 
-    /// Notes what has come to the journal of the account, and lets the leave to write wait until that is on disk.
+    /// Notes what has come to the journal of this account, which was shown with this stamp, and lets the leave to write wait until that is
+    /// on disk. The leave is lost if memory is refused, or if the notes are of another account or of a journal that was shown later, which
+    /// never is so.
     pub fn note_for<W: Wait, C: Connecting>(
         &self,
         rt: &W,
+        account: usize,
         journal: &Journal,
         generation: u64,
+        stamp: &Stamp,
         outgoing: Outgoing<J, C>,
     ) -> Outgoing<J, C>
+        requires history { slice_get J.histories account ≡ Some stamp.now.history }
+        requires stamp { IsStampOf journal.now.journal generation stamp.now }
         ensures { IsNotedFor journal.now.journal generation result }
     {
         let mut guard = self.notebook.lock(rt);
         let Some(notebook) = mem::replace(&mut *guard, None) else {
             return Outgoing::Lost;
         };
-        let (notebook, outgoing) = notebook.note_for(journal, generation, outgoing);
+        let (notebook, outgoing) = notebook.note_for(account, journal, generation, stamp, outgoing);
         *guard = notebook;
         outgoing
     }

@@ -1,6 +1,7 @@
 // A journal's file with what waits for it.
 
-ghost use Rattle.std.specs.Prelude.{◌≡◌, IfOk, IfErr};
+ghost use Rattle.std.specs.Prelude.{◌≡◌, Some, slice_get, IfOk, IfErr};
+ghost use Rattle.kl1_journal_stamps.specs.Stamps.{IsStampOf};
 ghost use Rattle.kl1_log.specs.Batches.{text_of};
 ghost use Rattle.kl1_log.specs.LogFiles.{disk_of, account_of as account_of_file, changes_of as changes_of_file};
 ghost use Rattle.kl1_log.specs.Receipts.{account_of, changes_of};
@@ -25,6 +26,7 @@ use crate::resting_file::RestingFile;
 use crate::stored::Stored;
 use crate::written::Written;
 use kl1_journal_entries::Journal;
+use kl1_journal_stamps::Stamp;
 use kl1_log::{Disk, LogError, LogFile, Waiting};
 use std::alloc::{AllocError, Global};
 use std::io;
@@ -62,7 +64,8 @@ impl From<AllocError> for LinkFault {
 }
 
 /// The file of this account with what waits for it, which is nothing: it is one of `journal`, in this generation. If its bytes aren't the
-/// text of the journal, each line with its sum, it is begun anew. `fresh` is the account's history, which begins with it.
+/// text of the journal, each line with its sum, it is begun anew. `fresh` is the account's history, which begins with it,
+/// and `stamp` the journal's.
 #[tactic(auto, using(crate::proofs::KeptFiles::read_text, crate::proofs::KeptFiles::written_text, crate::proofs::Resting::same_rests))]
 pub fn link<D: Disk + Drop, J: Naming>(
     alloc: Global,
@@ -71,8 +74,11 @@ pub fn link<D: Disk + Drop, J: Naming>(
     journal: &Journal,
     generation: u64,
     fresh: FreshHistory,
+    stamp: &Stamp,
 ) -> Result<Linked<D, J>, LinkFault>
-    requires { books_of fresh ≡ J.books account }
+    requires fresh { books_of fresh ≡ J.books account }
+    requires history { slice_get J.histories account ≡ Some stamp.now.history }
+    requires stamp { IsStampOf journal.now.journal generation stamp.now }
     ensures link { IfOk result (λ l. IsUpToIf (waiting_of (notes_of l.notebook)) (text_of (D.known (disk_of (file_of l.file)))) journal.now.journal) }
     ensures generation { IfOk result (λ l. generation_of (notes_of l.notebook) ≡ generation) }
     ensures account { IfOk result (λ l. (account_of_file (file_of l.file) ≡ account) × (account_of (receipt_of (stored_of l.written)) ≡ account)) }
@@ -105,6 +111,7 @@ pub fn link<D: Disk + Drop, J: Naming>(
                 notes,
                 history,
                 taken: place.again(),
+                stamp: stamp.again(),
             },
             written: Written {
                 stored: Stored { receipt, place },

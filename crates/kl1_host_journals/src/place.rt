@@ -58,7 +58,7 @@ impl<J: Naming> Place<J> {
         both.learn(&other.seen);
     }
 
-    /// That the last text is a file of the journal that was noted last, if the journals have only grown.
+    /// That the last text is a file of the journal that was noted last.
     pub fn shows_dated(&self)
         ensures { IsUpToDate self.now.seen.log }
     {

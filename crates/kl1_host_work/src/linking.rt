@@ -1,12 +1,14 @@
 // The file of an account, linked with the account's journal.
 
 ghost use Rattle.std.specs.Prelude.{◌<◌, IfOk, slice_get};
+ghost use Rattle.kl1_journal_stamps.specs.Stamps.{IsStampOf};
 ghost use Rattle.kl1_pool.specs.Showing.{IsSeenOfSome};
-ghost use Rattle.kl1_host_work.specs.Linkages.{IsRead, IsLinked};
+ghost use Rattle.kl1_host_work.specs.Linkages.{IsRead, IsLinked, Takes};
 
 use crate::histories::OwnHistory;
 use kl1_host_journals::{LinkFault, Linked, Naming, RestingFile, link};
 use kl1_journal_entries::Journal;
+use kl1_journal_stamps::Stamp;
 use kl1_log::Disk;
 use kl1_pool::{JournalReader, Pool, PoolIds};
 use std::alloc::Global;
@@ -37,13 +39,16 @@ fn linked<D: Disk + Drop, J: Naming>(
     linkage: Linkage<D, J>,
     journal: &Journal,
     ended: u64,
+    stamp: &Stamp,
 ) -> Linkage<D, J>
+    requires takes { Takes linkage stamp.now }
+    requires stamp { IsStampOf journal.now.journal ended stamp.now }
     ensures { IsRead linkage result journal.now.journal ended }
 {
     match linkage {
         Linkage::Unlinked(file, own) => {
             let OwnHistory { account, fresh, .. } = own;
-            match link(alloc, file, account, journal, ended, fresh) {
+            match link(alloc, file, account, journal, ended, fresh, stamp) {
                 Ok(linked) => Linkage::Linked(linked),
                 Err(fault) => Linkage::Failed(fault),
             }
@@ -53,13 +58,15 @@ fn linked<D: Disk + Drop, J: Naming>(
 }
 
 impl<D: Disk + Drop, J: Naming> JournalReader for Linking<D, J> {
-    ghost use Rattle.kl1_host_work.specs.Linkages.{IsRead};
+    ghost use Rattle.kl1_host_work.specs.Linkages.{IsRead, Takes};
+
+    ghost takes = { λ l s. Takes l.linkage s };
 
     ghost reads = { λ before after journal ended. IsRead before.linkage after.linkage journal ended };
 
-    fn read(&mut self, journal: &Journal, ended: u64) {
+    fn read(&mut self, journal: &Journal, ended: u64, stamp: &Stamp) {
         let linkage = mem::replace(&mut self.linkage, Linkage::Failed(LinkFault::Memory));
-        self.linkage = linked(self.alloc, linkage, journal, ended);
+        self.linkage = linked(self.alloc, linkage, journal, ended, stamp);
     }
 }
 

@@ -8,28 +8,35 @@ ghost use Rattle.kl1_host_work.specs.Noted.{is_lost, IsNoted};
 use crate::host::Host;
 use kl1_host_journals::{Connecting, Keeper, Naming, Outgoing};
 use kl1_journal_entries::Journal;
+use kl1_journal_stamps::Stamp;
 use kl1_pool::{JournalReader, Pool, PoolIds};
 use std::cell::Cell;
 use std::marker::Brand;
 use std::mem;
 use std::sync::Wait;
 
-/// Notes a journal that it is shown, and lets the leave to write of a connection wait for it.
+/// Notes a journal of an account that it is shown, and lets the leave to write of a connection wait for it.
 #[derive(Drop)]
 struct Noting<'k, W: Wait, J: Naming, C: Connecting> {
     rt: &'k W,
     keeper: &'k Keeper<J>,
+    account: usize,
     outgoing: Outgoing<J, C>,
 }
 
 impl<'k, W: Wait, J: Naming, C: Connecting> JournalReader for Noting<'k, W, J, C> {
+    ghost use Rattle.std.specs.Prelude.{◌≡◌, Some, slice_get};
     ghost use Rattle.kl1_host_journals.specs.Outgoings.{IsNotedFor};
+
+    ghost takes = { λ n s. slice_get J.histories n.account ≡ Some s.history };
 
     ghost reads = { λ before after journal ended. IsNotedFor journal ended after.outgoing };
 
-    fn read(&mut self, journal: &Journal, ended: u64) {
+    fn read(&mut self, journal: &Journal, ended: u64, stamp: &Stamp) {
         let outgoing = mem::replace(&mut self.outgoing, Outgoing::Lost);
-        self.outgoing = self.keeper.note_for(self.rt, journal, ended, outgoing);
+        self.outgoing = self
+            .keeper
+            .note_for(self.rt, self.account, journal, ended, stamp, outgoing);
     }
 }
 
@@ -48,6 +55,7 @@ pub(crate) fn note_for<'t, W: Wait, R: Wait, K: PoolIds + Naming, C: Connecting>
     let mut noting = Noting {
         rt,
         keeper,
+        account,
         outgoing,
     };
     let is_seen = pool.look(rt, account, &mut noting);

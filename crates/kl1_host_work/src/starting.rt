@@ -183,6 +183,7 @@ where
     requires names { (parts.rules ≡ K.rules) × (parts.names ≡ K.names) }
     requires bound { parts.most_bytes ≡ K.most_bytes }
     requires tickets { (parts.tally ≡ K.tally) × (parts.queue ≡ K.queue) × (parts.accounts ≡ K.accounts) × (parts.shares ≡ K.shares) }
+    requires shown { parts.histories ≡ K.histories }
     requires accounts { AreAccountsOf (F.names front.now) parts.names parts.accounts }
     requires histories { AreFresh K.books found.histories.items }
 {

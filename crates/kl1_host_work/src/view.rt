@@ -8,6 +8,7 @@ use crate::noting::note_told;
 use crate::visit::{Visit, now_of};
 use kl1_host_journals::{Connecting, Naming, Outgoing};
 use kl1_journal_entries::Journal;
+use kl1_journal_stamps::Stamp;
 use kl1_pool::{BookTotals, JournalReader, PoolIds};
 use kl1_user_events::{Extent, GoalNo, GoalView, Presence, ShoenNo, ShoenView, Usage};
 use std::alloc::AllocError;
@@ -42,9 +43,11 @@ struct SessionsReader {
 }
 
 impl JournalReader for SessionsReader {
+    ghost takes = { λ reader stamp. Unit {0} };
+
     ghost reads = { λ before after journal ended. Unit {0} };
 
-    fn read(&mut self, journal: &Journal, _ended: u64) {
+    fn read(&mut self, journal: &Journal, _ended: u64, _stamp: &Stamp) {
         self.sessions = journal.sessions();
     }
 }

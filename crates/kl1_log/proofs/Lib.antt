@@ -2,7 +2,6 @@ pub mod LinesCut
 pub mod EntriesMore
 pub mod Fronts
 pub mod DeedsDone
-pub mod Growing
 pub mod Moments
 pub mod Renaming
 pub mod Restoring

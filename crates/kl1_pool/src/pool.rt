@@ -57,6 +57,7 @@ impl<'t, R: Wait, K: PoolIds> Pool<'t, R, K> {
         requires names { (parts.rules ≡ K.rules) × (parts.names ≡ K.names) }
         requires bound { parts.most_bytes ≡ K.most_bytes }
         requires tickets { (parts.tally ≡ K.tally) × (parts.queue ≡ K.queue) × (parts.accounts ≡ K.accounts) × (parts.shares ≡ K.shares) }
+        requires shown { parts.histories ≡ K.histories }
         ensures shares { IfOk result (λ made. All (λ share. share ≡ new_counts) made.1.items) }
         ensures count { IfOk result (λ made. vec_len made.1 ≡ K.shares) }
     {
@@ -69,6 +70,7 @@ impl<'t, R: Wait, K: PoolIds> Pool<'t, R, K> {
             used,
             most_bytes,
             tickets,
+            shown,
         } = parts;
         let Opened {
             common,
@@ -88,6 +90,7 @@ impl<'t, R: Wait, K: PoolIds> Pool<'t, R, K> {
             seats,
             books,
             used.as_slice(),
+            shown,
         )?;
         Ok((
             Pool {

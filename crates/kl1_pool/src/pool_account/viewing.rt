@@ -1,13 +1,15 @@
 // What is shown of an account with its book.
 
-ghost use Rattle.std.specs.Prelude.{◌≡◌, [], nat_lt, slice_get, IfOk, IsTrue, false, option_map};
+ghost use Rattle.std.specs.Prelude.{◌≡◌, [], nat_lt, Some, slice_get, IfOk, IsTrue, false, option_map};
 ghost use Rattle.kl1_command.specs.Commands.{command_view};
 ghost use Rattle.kl1_journal.specs.Keeping.{Reading, Fits, kept_of};
+ghost use Rattle.kl1_journal_stamps.specs.Stamps.{StampValue};
 ghost use Rattle.kl1_user_events.specs.Viewing.{shoen_page, goal_page, goal_text, goal_term, AreAwaited, IsPresence, usage_of};
 ghost use Rattle.kl1_pool.specs.Counted.{reduces_in};
 ghost use Rattle.kl1_pool.specs.Memory.{bytes_taken, IsBeyond, IsWithin, IsWithinTurn};
 ghost use Rattle.kl1_pool.specs.Showing.{IsFound};
 
+use crate::looking::JournalReader;
 use crate::memory::{bound_of, bytes_of, takes_memory, turn_bound};
 use crate::named_atoms::NamedAtoms;
 use crate::pool_account::PoolAccount;
@@ -148,5 +150,22 @@ impl<'t, R: Wait, K: PoolIds> PoolAccount<'t, R, K> {
     {
         let mut entries = self.lent_journal().entries();
         entries.next().is_none()
+    }
+
+    /// Lets a reader read the journal, and how many events were counted before the last reset. Answers whether it did: it didn't if
+    /// the history of the account has other journals, which never is so.
+    pub fn look<L: JournalReader>(&mut self, reader: &mut L) -> bool
+        requires { (s : StampValue) → slice_get K.histories self.old.book.account ≡ Some s.history → L.takes reader.old s }
+        ensures same { self.new ≡ self.old }
+        ensures seen { IsTrue result → L.reads reader.old reader.new self.old.held.1 self.old.past.events }
+        ensures none { result ≡ false → reader.new ≡ reader.old }
+    {
+        let ended = self.past.events;
+        let journal = self.kept.lent_journal();
+        let Some(stamp) = self.shown.show(journal, ended) else {
+            return false;
+        };
+        reader.read(journal, ended, &stamp);
+        true
     }
 }

@@ -1,15 +1,13 @@
 // Files that fail.
 
-ghost use Rattle.std.specs.Prelude.{◌≡◌};
+ghost use Rattle.std.specs.Prelude.{◌≡◌, Some, slice_get};
 ghost use Rattle.kl1_host_journals.specs.FreshHistories.{books_of};
 
-use crate::journals::shelf::{
-    ENOUGH, FRESH, Faults, Shelf, journal_of, on_disk, only_scribe, write,
-};
+use crate::journals::growing::{Change, Growing, NewAccount};
+use crate::journals::shelf::{ENOUGH, FRESH, Faults, Shelf, on_disk, only_scribe, write};
 use kl1_host_journals::{
-    Connecting, FreshConnection, FreshHistory, Keeper, Naming, Outgoing, Scribe, SyncedWriter,
+    Connecting, FreshConnection, Keeper, Naming, Outgoing, Scribe, SyncedWriter,
 };
-use kl1_journal_entries::Journal;
 use kl1_log::Memory;
 use std::alloc::{AllocError, Global};
 use std::cell::Cell;
@@ -17,35 +15,36 @@ use std::io::Write;
 use std::marker::Brand;
 use std::sync::Wait;
 
-/// The texts of an account's journal, one after the other, each with its generation.
-const TEXTS: &[(u64, &[u8])] = &[
-    (0, b"journal 4 0 0\nrun 3\n"),
-    (0, b"journal 4 0 0\nrun 5\nstop 1\n"),
-    (2, b"journal 4 0 1\nname f\n"),
-    (2, b"journal 4 0 1\nname f\nrun 1\n"),
+/// What becomes of an account's journal before each note.
+const ROWS: &[&[Change]] = &[
+    &[Change::Run(3)],
+    &[Change::Run(2), Change::Reduction],
+    &[Change::Reset],
+    &[Change::Run(1)],
 ];
 
 /// The most that these cost.
 const MOST: usize = 200;
 
-/// The text of a file after the first `count` of the texts: a run that grew stands in pieces.
+/// The text of a file after the first `count` of the notes: a run that grew stands in pieces.
 fn file_after(count: usize) -> &'static [u8] {
     match count {
         0 => FRESH,
         1 => b"journal 4 0 0\nrun 3\n",
-        2 => b"journal 4 0 0\nrun 3\nrun 2\nstop 1\n",
+        2 => b"journal 4 0 0\nrun 3\nrun 2\nreduce 1 0\n",
         3 => b"journal 4 0 1\nname f\n",
         _ => b"journal 4 0 1\nname f\nrun 1\n",
     }
 }
 
-/// Notes a journal of account 0 for a connection, lets the scribe write it, and answers whether a reply that tells of it was written.
+/// Does changes to a journal of account 0, notes it for a connection, lets the scribe write it, and answers whether a reply that tells of it was written.
 fn is_told<R: Wait, J: Naming, C: Connecting>(
     rt: &R,
     alloc: Global,
     scribe: &mut Scribe<'_, Memory, J>,
     keepers: &[Keeper<J>],
-    journal: (u64, &Journal),
+    journal: &mut Growing<J>,
+    changes: &[Change],
     faults: &Faults,
     connection: FreshConnection,
 ) -> Result<bool, AllocError>
@@ -54,9 +53,9 @@ fn is_told<R: Wait, J: Naming, C: Connecting>(
     let Some(keeper) = keepers.first() else {
         return Ok(false);
     };
-    let (generation, journal) = journal;
+    journal.changed(alloc, changes)?;
     let leave = Outgoing::<J, C>::new(connection);
-    let outgoing = Cell::new(keeper.note_for(rt, journal, generation, leave));
+    let outgoing = Cell::new(journal.note(rt, keeper, leave));
     write(rt, scribe, faults);
     let mut out = Vec::new(alloc);
     let mut writer = SyncedWriter::new(&mut out, rt, keepers, &outgoing);
@@ -69,28 +68,36 @@ fn told_by<R: Wait, J: Naming>(
     rt: &R,
     alloc: Global,
     left: usize,
-    fresh: FreshHistory,
+    start: NewAccount,
 ) -> Result<Option<usize>, AllocError>
-    requires { books_of fresh ≡ J.books 0 }
+    requires books { books_of start.fresh ≡ J.books 0 }
+    requires history { slice_get J.histories 0 ≡ Some start.shown.history }
 {
     let mut shelf = Shelf::<J>::new(alloc);
-    if !shelf.add(alloc, 0, left, fresh)? {
+    if !shelf.add(alloc, 0, left, start)? {
         return Ok(Some(0));
     }
-    let Shelf { files, keepers } = shelf;
+    let Shelf {
+        files,
+        keepers,
+        mut journals,
+    } = shelf;
+    let Some(mut journal) = journals.pop() else {
+        return Ok(None);
+    };
     let faults = Faults::new();
     let Some(mut scribe) = only_scribe(keepers.as_slice(), files) else {
         return Ok(None);
     };
     let mut told = 0usize;
-    for (generation, text) in TEXTS {
-        let journal = journal_of(alloc, text)?;
+    for changes in ROWS {
         let is_told = is_told::<R, J, Brand>(
             rt,
             alloc,
             &mut scribe,
             keepers.as_slice(),
-            (*generation, &journal),
+            &mut journal,
+            *changes,
             &faults,
             FreshConnection::new(),
         )?;
@@ -103,13 +110,13 @@ fn told_by<R: Wait, J: Naming>(
     let has_told = bytes.as_slice() == file_after(told)
         || bytes.as_slice() == file_after(told.saturating_add(1));
     let is_stopped = keepers.iter().all(|keeper| keeper.on_disk().is_stopped());
-    let is_right = has_told && (told == TEXTS.len()) != is_stopped && faults.told() <= 1;
+    let is_right = has_told && (told == ROWS.len()) != is_stopped && faults.told() <= 1;
     Ok(if is_right { Some(told) } else { None })
 }
 
 /// `told_by`, with a new history.
 fn told_of<R: Wait>(rt: &R, alloc: Global, left: usize) -> Result<Option<usize>, AllocError> {
-    told_by::<R, Brand>(rt, alloc, left, FreshHistory::new())
+    told_by::<R, Brand>(rt, alloc, left, NewAccount::new())
 }
 
 /// Stops a file after each number of calls and bytes: no reply is written before its lines are on disk.
@@ -122,28 +129,35 @@ pub(crate) fn no_reply_comes_before_its_lines<R: Wait>(
             return Ok(false);
         }
     }
-    Ok(told_of(rt, alloc, ENOUGH)? == Some(TEXTS.len()))
+    Ok(told_of(rt, alloc, ENOUGH)? == Some(ROWS.len()))
 }
 
 /// `failed_file_stops_its_account_alone`, with two new histories and two new connections.
 fn failed_stops_alone<R: Wait, J: Naming, A: Connecting, B: Connecting>(
     rt: &R,
     alloc: Global,
-    fresh: FreshHistory,
-    other_fresh: FreshHistory,
+    start: NewAccount,
+    other_start: NewAccount,
     connection: FreshConnection,
     other_connection: FreshConnection,
 ) -> Result<bool, AllocError>
-    requires fresh { books_of fresh ≡ J.books 0 }
-    requires other_fresh { books_of other_fresh ≡ J.books 1 }
+    requires books { (books_of start.fresh ≡ J.books 0) × (books_of other_start.fresh ≡ J.books 1) }
+    requires histories { (slice_get J.histories 0 ≡ Some start.shown.history) × (slice_get J.histories 1 ≡ Some other_start.shown.history) }
     requires connection { connection.pen.book ≡ A.connection }
     requires other_connection { other_connection.pen.book ≡ B.connection }
 {
     let mut shelf = Shelf::<J>::new(alloc);
-    if !shelf.add(alloc, 0, ENOUGH, fresh)? || !shelf.add(alloc, 1, 7, other_fresh)? {
+    if !shelf.add(alloc, 0, ENOUGH, start)? || !shelf.add(alloc, 1, 7, other_start)? {
         return Ok(false);
     }
-    let Shelf { mut files, keepers } = shelf;
+    let Shelf {
+        mut files,
+        keepers,
+        mut journals,
+    } = shelf;
+    let (Some(mut two_journal), Some(mut one_journal)) = (journals.pop(), journals.pop()) else {
+        return Ok(false);
+    };
     let faults = Faults::new();
     let [first, second] = keepers.as_slice() else {
         return Ok(false);
@@ -153,9 +167,10 @@ fn failed_stops_alone<R: Wait, J: Naming, A: Connecting, B: Connecting>(
     };
     let mut one_scribe = Scribe::new(0, first, file);
     let mut two_scribe = Scribe::new(1, second, other);
-    let grown = journal_of(alloc, b"journal 4 0 0\nrun 3\n")?;
-    let one = first.note_for(rt, &grown, 0, Outgoing::<J, A>::new(connection));
-    let two = second.note_for(rt, &grown, 0, Outgoing::<J, B>::new(other_connection));
+    one_journal.changed(alloc, &[Change::Run(3)])?;
+    two_journal.changed(alloc, &[Change::Run(3)])?;
+    let one = one_journal.note(rt, first, Outgoing::<J, A>::new(connection));
+    let two = two_journal.note(rt, second, Outgoing::<J, B>::new(other_connection));
     for _ in 0..2usize {
         write(rt, &mut one_scribe, &faults);
         write(rt, &mut two_scribe, &faults);
@@ -175,8 +190,8 @@ pub(crate) fn failed_file_stops_its_account_alone<R: Wait>(
     failed_stops_alone::<R, Brand, Brand, Brand>(
         rt,
         alloc,
-        FreshHistory::new(),
-        FreshHistory::new(),
+        NewAccount::new(),
+        NewAccount::new(),
         FreshConnection::new(),
         FreshConnection::new(),
     )

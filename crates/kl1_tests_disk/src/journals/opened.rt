@@ -1,11 +1,12 @@
 // Files when a host starts.
 
-ghost use Rattle.std.specs.Prelude.{◌≡◌};
+ghost use Rattle.std.specs.Prelude.{◌≡◌, Some, slice_get};
 ghost use Rattle.kl1_host_journals.specs.FreshHistories.{books_of};
 
+use crate::journals::growing::NewAccount;
 use crate::journals::shelf::{ENOUGH, FRESH, bytes_on_disk, linked};
 use crate::sums::{file_of, text_in};
-use kl1_host_journals::{FreshHistory, Naming, OpenFault, open_file};
+use kl1_host_journals::{Naming, OpenFault, open_file};
 use kl1_log::Memory;
 use kl1_model::Rules;
 use std::alloc::{AllocError, Global};
@@ -37,12 +38,13 @@ fn linked_as<J: Naming>(
     bytes: &[u8],
     text: &[u8],
     left: usize,
-    fresh: FreshHistory,
+    start: NewAccount,
 ) -> Result<Option<Vec<u8>>, AllocError>
-    requires { books_of fresh ≡ J.books 3 }
+    requires books { books_of start.fresh ≡ J.books 3 }
+    requires history { slice_get J.histories 3 ≡ Some start.shown.history }
 {
-    match linked::<J>(alloc, 3, bytes, text, left, fresh)? {
-        Some(linked) => Ok(Some(bytes_on_disk(&linked.file)?)),
+    match linked::<J>(alloc, 3, bytes, text, left, start)? {
+        Some((linked, _journal)) => Ok(Some(bytes_on_disk(&linked.file)?)),
         None => Ok(None),
     }
 }
@@ -54,7 +56,7 @@ fn linked_bytes(
     text: &[u8],
     left: usize,
 ) -> Result<Option<Vec<u8>>, AllocError> {
-    linked_as::<Brand>(alloc, bytes, text, left, FreshHistory::new())
+    linked_as::<Brand>(alloc, bytes, text, left, NewAccount::new())
 }
 
 /// Whether a file with these bytes has the journal of a text on its disk, once it was linked with that.

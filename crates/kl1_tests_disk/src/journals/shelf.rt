@@ -1,11 +1,12 @@
 // Files in memory with their keepers.
 
-ghost use Rattle.std.specs.Prelude.{◌≡◌};
+ghost use Rattle.std.specs.Prelude.{◌≡◌, Some, slice_get};
 ghost use Rattle.kl1_host_journals.specs.FreshHistories.{books_of};
 
+use crate::journals::growing::{Growing, NewAccount};
 use crate::sums::{file_of, text_in};
 use kl1_host_journals::{
-    FaultTeller, FreshHistory, Keeper, KeptFile, LinkFault, Linked, Naming, Scribe, link, open_file,
+    FaultTeller, Keeper, KeptFile, LinkFault, Linked, Naming, Scribe, link, open_file,
 };
 use kl1_journal_entries::Journal;
 use kl1_log::{LogError, Memory};
@@ -55,35 +56,49 @@ pub(crate) fn journal_of(alloc: Global, text: &[u8]) -> Result<Journal, AllocErr
     }
 }
 
-/// A file in memory with these bytes, which does `left` calls and bytes, opened and linked with the journal of this text, of generation 0.
-/// None if a call of it failed.
+/// A file in memory with these bytes, which does `left` calls and bytes, opened and linked with the journal of this text, of generation 0;
+/// and that journal. None if a call of it failed.
 pub(crate) fn linked<J: Naming>(
     alloc: Global,
     account: u32,
     bytes: &[u8],
     text: &[u8],
     left: usize,
-    fresh: FreshHistory,
-) -> Result<Option<Linked<Memory, J>>, AllocError>
-    requires { books_of fresh ≡ J.books account }
+    start: NewAccount,
+) -> Result<Option<(Linked<Memory, J>, Growing<J>)>, AllocError>
+    requires books { books_of start.fresh ≡ J.books account }
+    requires history { slice_get J.histories account ≡ Some start.shown.history }
 {
-    let journal = journal_of(alloc, text)?;
+    let NewAccount { fresh, shown } = start;
+    let mut growing = Growing::<J>::new(account, journal_of(alloc, text)?, shown);
+    let Some(stamp) = growing.show() else {
+        return Ok(None);
+    };
     let disk = Memory::new(alloc, Vec::from_slice(alloc, bytes)?, left);
     let Ok(opened) = open_file(alloc, disk, Rules::Four, false) else {
         return Ok(None);
     };
-    match link(alloc, opened.into_file(), account, &journal, 0, fresh) {
-        Ok(linked) => Ok(Some(linked)),
+    match link(
+        alloc,
+        opened.into_file(),
+        account,
+        growing.journal(),
+        0,
+        fresh,
+        &stamp,
+    ) {
+        Ok(linked) => Ok(Some((linked, growing))),
         Err(LinkFault::Memory) => Err(AllocError),
         Err(_) => Ok(None),
     }
 }
 
-/// Files and keepers of accounts.
+/// Files, keepers and journals of accounts.
 #[derive(Drop)]
 pub(crate) struct Shelf<J: Naming> {
     pub(crate) files: Vec<KeptFile<Memory, J>>,
     pub(crate) keepers: Vec<Keeper<J>>,
+    pub(crate) journals: Vec<Growing<J>>,
 }
 
 impl<J: Naming> Shelf<J> {
@@ -92,6 +107,7 @@ impl<J: Naming> Shelf<J> {
         Shelf {
             files: Vec::new(alloc),
             keepers: Vec::new(alloc),
+            journals: Vec::new(alloc),
         }
     }
 
@@ -101,23 +117,24 @@ impl<J: Naming> Shelf<J> {
         alloc: Global,
         account: u32,
         left: usize,
-        fresh: FreshHistory,
+        start: NewAccount,
     ) -> Result<bool, AllocError>
-        requires { books_of fresh ≡ J.books account }
+        requires books { books_of start.fresh ≡ J.books account }
+        requires history { slice_get J.histories account ≡ Some start.shown.history }
     {
         let bytes = file_of(alloc, FRESH)?;
-        let Some(
-            Linked {
-                file,
-                notebook,
-                written,
-            },
-        ) = linked(alloc, account, bytes.as_slice(), FRESH, left, fresh)?
+        let Some((linked, journal)) = linked(alloc, account, bytes.as_slice(), FRESH, left, start)?
         else {
             return Ok(false);
         };
+        let Linked {
+            file,
+            notebook,
+            written,
+        } = linked;
         self.files.push(file)?;
         self.keepers.push(Keeper::new(notebook, written))?;
+        self.journals.push(journal)?;
         Ok(true)
     }
 }

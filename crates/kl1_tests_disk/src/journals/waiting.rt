@@ -1,13 +1,13 @@
 // Replies that wait for the disk.
 
-ghost use Rattle.std.specs.Prelude.{◌≡◌};
+ghost use Rattle.std.specs.Prelude.{◌≡◌, Some, slice_get};
 ghost use Rattle.kl1_host_journals.specs.FreshHistories.{books_of};
 
-use crate::journals::shelf::{ENOUGH, Faults, Shelf, journal_of, on_disk, only_scribe, write};
+use crate::journals::growing::{Change, Growing, NewAccount};
+use crate::journals::shelf::{ENOUGH, Faults, Shelf, on_disk, only_scribe, write};
 use kl1_host_journals::{
-    Connecting, FreshConnection, FreshHistory, Keeper, Naming, Outgoing, Scribe, SyncedWriter,
+    Connecting, FreshConnection, Keeper, Naming, Outgoing, Scribe, SyncedWriter,
 };
-use kl1_journal_entries::Journal;
 use kl1_log::Memory;
 use std::alloc::{AllocError, Global};
 use std::cell::Cell;
@@ -31,55 +31,66 @@ fn is_free<R: Wait, J: Naming, C: Connecting>(
     }
 }
 
-/// Whether the first reply of a connection waits, which tells of this journal of generation 0.
+/// Whether the first reply of a connection waits, which tells of this journal.
 fn first_waits<R: Wait, J: Naming, C: Connecting>(
     rt: &R,
     keeper: &Keeper<J>,
-    journal: &Journal,
+    journal: &mut Growing<J>,
     connection: FreshConnection,
 ) -> bool
     requires { connection.pen.book ≡ C.connection }
 {
     let outgoing = Outgoing::<J, C>::new(connection);
-    let reply = keeper.note_for(rt, journal, 0, outgoing);
+    let reply = journal.note(rt, keeper, outgoing);
     !is_free(rt, keeper, &reply)
 }
 
-/// Whether a reply of a connection waits, which tells of these journals one after another, each with its generation, until the scribe has
-/// written, and no longer.
+/// Whether a reply of a connection waits, which tells of a journal after each of these rows of changes, until the scribe has written, and no
+/// longer.
 fn waits_for_all<R: Wait, J: Naming, C: Connecting>(
     rt: &R,
+    alloc: Global,
     keeper: &Keeper<J>,
     scribe: &mut Scribe<'_, Memory, J>,
     faults: &Faults,
-    journals: &[(u64, &Journal)],
+    journal: &mut Growing<J>,
+    rows: &[&[Change]],
     connection: FreshConnection,
-) -> bool
+) -> Result<bool, AllocError>
     requires { connection.pen.book ≡ C.connection }
 {
     let mut reply = Outgoing::<J, C>::new(connection);
     let mut waits = true;
-    for (generation, journal) in journals {
-        reply = keeper.note_for(rt, *journal, *generation, reply);
+    for changes in rows {
+        journal.changed(alloc, *changes)?;
+        reply = journal.note(rt, keeper, reply);
         waits = waits && !is_free(rt, keeper, &reply);
     }
     write(rt, scribe, faults);
-    waits && is_free(rt, keeper, &reply)
+    Ok(waits && is_free(rt, keeper, &reply))
 }
 
 /// `reply_waits_for_its_lines`, with a new history.
 fn waits_for_its_lines<R: Wait, J: Naming>(
     rt: &R,
     alloc: Global,
-    fresh: FreshHistory,
+    start: NewAccount,
 ) -> Result<bool, AllocError>
-    requires { books_of fresh ≡ J.books 0 }
+    requires books { books_of start.fresh ≡ J.books 0 }
+    requires history { slice_get J.histories 0 ≡ Some start.shown.history }
 {
     let mut shelf = Shelf::<J>::new(alloc);
-    if !shelf.add(alloc, 0, ENOUGH, fresh)? {
+    if !shelf.add(alloc, 0, ENOUGH, start)? {
         return Ok(false);
     }
-    let Shelf { files, keepers } = shelf;
+    let Shelf {
+        files,
+        keepers,
+        mut journals,
+    } = shelf;
+    let Some(mut journal) = journals.pop() else {
+        return Ok(false);
+    };
     let faults = Faults::new();
     let Some(mut scribe) = only_scribe(keepers.as_slice(), files) else {
         return Ok(false);
@@ -87,21 +98,25 @@ fn waits_for_its_lines<R: Wait, J: Naming>(
     let Some(keeper) = keepers.as_slice().first() else {
         return Ok(false);
     };
-    let start = journal_of(alloc, b"journal 4 0 0\n")?;
-    let grown = journal_of(alloc, b"journal 4 0 0\nrun 3\n")?;
-    let longer = journal_of(alloc, b"journal 4 0 0\nrun 7\nstop 1\n")?;
-    let reading_waits = first_waits::<R, J, Brand>(rt, keeper, &start, FreshConnection::new());
+    let reading_waits = first_waits::<R, J, Brand>(
+        rt,
+        keeper,
+        &mut journal,
+        FreshConnection::new(),
+    );
     let waits = waits_for_all::<R, J, Brand>(
         rt,
+        alloc,
         keeper,
         &mut scribe,
         &faults,
-        &[(0, &grown), (0, &longer)],
+        &mut journal,
+        &[&[Change::Run(3)], &[Change::Run(4), Change::Reduction]],
         FreshConnection::new(),
-    );
-    let again_waits = first_waits::<R, J, Brand>(rt, keeper, &longer, FreshConnection::new());
+    )?;
+    let again_waits = first_waits::<R, J, Brand>(rt, keeper, &mut journal, FreshConnection::new());
     let bytes = on_disk(alloc, scribe.file())?;
-    let is_right = bytes.as_slice() == b"journal 4 0 0\nrun 3\nrun 4\nstop 1\n".as_slice();
+    let is_right = bytes.as_slice() == b"journal 4 0 0\nrun 3\nrun 4\nreduce 1 0\n".as_slice();
     Ok(!reading_waits && waits && !again_waits && is_right && faults.told() == 0)
 }
 
@@ -110,22 +125,30 @@ pub(crate) fn reply_waits_for_its_lines<R: Wait>(
     rt: &R,
     alloc: Global,
 ) -> Result<bool, AllocError> {
-    waits_for_its_lines::<R, Brand>(rt, alloc, FreshHistory::new())
+    waits_for_its_lines::<R, Brand>(rt, alloc, NewAccount::new())
 }
 
 /// `reset_begins_the_file_anew`, with a new history.
 fn begins_anew<R: Wait, J: Naming>(
     rt: &R,
     alloc: Global,
-    fresh: FreshHistory,
+    start: NewAccount,
 ) -> Result<bool, AllocError>
-    requires { books_of fresh ≡ J.books 0 }
+    requires books { books_of start.fresh ≡ J.books 0 }
+    requires history { slice_get J.histories 0 ≡ Some start.shown.history }
 {
     let mut shelf = Shelf::<J>::new(alloc);
-    if !shelf.add(alloc, 0, ENOUGH, fresh)? {
+    if !shelf.add(alloc, 0, ENOUGH, start)? {
         return Ok(false);
     }
-    let Shelf { files, keepers } = shelf;
+    let Shelf {
+        files,
+        keepers,
+        mut journals,
+    } = shelf;
+    let Some(mut journal) = journals.pop() else {
+        return Ok(false);
+    };
     let faults = Faults::new();
     let Some(mut scribe) = only_scribe(keepers.as_slice(), files) else {
         return Ok(false);
@@ -133,19 +156,22 @@ fn begins_anew<R: Wait, J: Naming>(
     let Some(keeper) = keepers.as_slice().first() else {
         return Ok(false);
     };
-    let before = journal_of(alloc, b"journal 4 0 0\nrun 3\n")?;
-    let after = journal_of(alloc, b"journal 4 0 1\nname f\nrun 1\n")?;
-    let later = journal_of(alloc, b"journal 4 0 1\nname f\nrun 1\nstop 1\n")?;
     let waits = waits_for_all::<R, J, Brand>(
         rt,
+        alloc,
         keeper,
         &mut scribe,
         &faults,
-        &[(0, &before), (3, &after), (3, &later)],
+        &mut journal,
+        &[
+            &[Change::Run(3)],
+            &[Change::Reset, Change::Run(1)],
+            &[Change::Reduction],
+        ],
         FreshConnection::new(),
-    );
+    )?;
     let bytes = on_disk(alloc, scribe.file())?;
-    let is_right = bytes.as_slice() == b"journal 4 0 1\nname f\nrun 1\nstop 1\n".as_slice();
+    let is_right = bytes.as_slice() == b"journal 4 0 1\nname f\nrun 1\nreduce 1 0\n".as_slice();
     Ok(waits && is_right)
 }
 
@@ -154,7 +180,7 @@ pub(crate) fn reset_begins_the_file_anew<R: Wait>(
     rt: &R,
     alloc: Global,
 ) -> Result<bool, AllocError> {
-    begins_anew::<R, Brand>(rt, alloc, FreshHistory::new())
+    begins_anew::<R, Brand>(rt, alloc, NewAccount::new())
 }
 
 /// Writes a reply that tells of a journal, and then calls the scribe for the last time. Answers whether it was written.
@@ -162,6 +188,7 @@ fn write_reply<R: Wait, J: Naming, C: Connecting>(
     rt: &R,
     alloc: Global,
     keepers: &[Keeper<J>],
+    journal: Growing<J>,
     connection: FreshConnection,
 ) -> bool
     requires { connection.pen.book ≡ C.connection }
@@ -169,12 +196,10 @@ fn write_reply<R: Wait, J: Naming, C: Connecting>(
     let outgoing = Cell::new(Outgoing::<J, C>::new(connection));
     let mut out = Vec::new(alloc);
     let mut is_written = false;
-    if let (Some(keeper), Ok(grown)) = (
-        keepers.first(),
-        journal_of(alloc, b"journal 4 0 0\nrun 3\n"),
-    ) {
+    let mut journal = journal;
+    if let (Some(keeper), Ok(())) = (keepers.first(), journal.changed(alloc, &[Change::Run(3)])) {
         let leave = outgoing.replace(Outgoing::Lost);
-        outgoing.set(keeper.note_for(rt, &grown, 0, leave));
+        outgoing.set(journal.note(rt, keeper, leave));
         let mut writer = SyncedWriter::new(&mut out, rt, keepers, &outgoing);
         is_written = writer.write_all(b"+ ran 3\n").is_ok();
     }
@@ -185,30 +210,43 @@ fn write_reply<R: Wait, J: Naming, C: Connecting>(
 }
 
 /// `write_reply` of a new connection.
-fn reply_is_written<R: Wait, J: Naming>(rt: &R, alloc: Global, keepers: &[Keeper<J>]) -> bool {
-    write_reply::<R, J, Brand>(rt, alloc, keepers, FreshConnection::new())
+fn reply_is_written<R: Wait, J: Naming>(
+    rt: &R,
+    alloc: Global,
+    keepers: &[Keeper<J>],
+    journal: Growing<J>,
+) -> bool {
+    write_reply::<R, J, Brand>(rt, alloc, keepers, journal, FreshConnection::new())
 }
 
 /// `writer_waits_for_the_scribe`, with a new history.
 fn waits_for_the_scribe<R: Threads + Wait + Clock + Sync, J: Naming + Send + Sync>(
     rt: &R,
     alloc: Global,
-    fresh: FreshHistory,
+    start: NewAccount,
 ) -> Result<bool, AllocError>
-    requires { books_of fresh ≡ J.books 0 }
+    requires books { books_of start.fresh ≡ J.books 0 }
+    requires history { slice_get J.histories 0 ≡ Some start.shown.history }
 {
     let mut shelf = Shelf::<J>::new(alloc);
-    if !shelf.add(alloc, 0, ENOUGH, fresh)? {
+    if !shelf.add(alloc, 0, ENOUGH, start)? {
         return Ok(false);
     }
-    let Shelf { files, keepers } = shelf;
+    let Shelf {
+        files,
+        keepers,
+        mut journals,
+    } = shelf;
+    let Some(journal) = journals.pop() else {
+        return Ok(false);
+    };
     let faults = Faults::new();
     let shared = keepers.as_slice();
     let Some(mut scribe) = only_scribe(shared, files) else {
         return Ok(false);
     };
     let is_written = thread::scope(thread::scope_env(), rt, |scope| {
-        let Ok(writing) = scope.spawn(move || reply_is_written(rt, alloc, shared)) else {
+        let Ok(writing) = scope.spawn(move || reply_is_written(rt, alloc, shared, journal)) else {
             return false;
         };
         scribe.work(rt, Duration::from_secs(3_600), &faults);
@@ -223,5 +261,5 @@ pub(crate) fn writer_waits_for_the_scribe<R: Threads + Wait + Clock + Sync>(
     rt: &R,
     alloc: Global,
 ) -> Result<bool, AllocError> {
-    waits_for_the_scribe::<R, Brand>(rt, alloc, FreshHistory::new())
+    waits_for_the_scribe::<R, Brand>(rt, alloc, NewAccount::new())
 }

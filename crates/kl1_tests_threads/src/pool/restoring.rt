@@ -5,6 +5,7 @@ use crate::pool::play::answered;
 use crate::report::Text;
 use crate::rows::cut;
 use kl1_journal_entries::Journal;
+use kl1_journal_stamps::Stamp;
 use kl1_pool::{Command, JournalReader, Performed, Pool, PoolIds, RestoreEnd, Restored, Share};
 use std::sync::Wait;
 use std::thread;
@@ -17,9 +18,11 @@ struct Copy {
 }
 
 impl JournalReader for Copy {
+    ghost takes = { λ _ _. Unit {0} };
+
     ghost reads = { λ _ _ _ _. Unit {0} };
 
-    fn read(&mut self, journal: &Journal, ended: u64) {
+    fn read(&mut self, journal: &Journal, ended: u64, _stamp: &Stamp) {
         self.ended = ended;
         match journal.text_lines(self.text.alloc) {
             Ok(lines) => {

@@ -27,6 +27,7 @@ fn done<'t, J: Job + Sync, R: Threads + Wait + Clock + Sync, K: PoolIds + Send +
     requires names { (parts.rules ≡ K.rules) × (parts.names ≡ K.names) }
     requires bound { parts.most_bytes ≡ K.most_bytes }
     requires tickets { (parts.tally ≡ K.tally) × (parts.queue ≡ K.queue) × (parts.accounts ≡ K.accounts) × (parts.shares ≡ K.shares) }
+    requires shown { parts.histories ≡ K.histories }
     requires some { 0 < parts.shares }
 {
     let (pool, mut shares) = Pool::<R, K>::new(rt, alloc, parts)?;

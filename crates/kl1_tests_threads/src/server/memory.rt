@@ -57,6 +57,7 @@ fn is_same_by<'t, K: PoolIds, R: Wait>(
     requires names { (parts.rules ≡ K.rules) × (parts.names ≡ K.names) }
     requires bound { parts.most_bytes ≡ K.most_bytes }
     requires tickets { (parts.tally ≡ K.tally) × (parts.queue ≡ K.queue) × (parts.accounts ≡ K.accounts) × (parts.shares ≡ K.shares) }
+    requires shown { parts.histories ≡ K.histories }
     requires accounts { 1 ≤ parts.accounts }
 {
     let keys = [alice(alloc)?];

@@ -7,5 +7,8 @@ ghosts-run_parts-K-PoolIds g a = record { table = a.parts.table; seats = a.parts
 abbrev pub ghosts-run_parts-K-TicketIds : goal.ghosts-run_parts-K-TicketIds
 ghosts-run_parts-K-TicketIds g a = record { tally = a.parts.tally; queue = a.parts.queue; accounts = a.parts.accounts; shares = a.parts.shares }
 
+abbrev pub ghosts-run_parts-K-ShownIds : goal.ghosts-run_parts-K-ShownIds
+ghosts-run_parts-K-ShownIds g a = record { histories = a.parts.histories }
+
 abbrev pub ghosts-run_parts-K-Naming : goal.ghosts-run_parts-K-Naming
 ghosts-run_parts-K-Naming g a = record { books = books_at a.found.histories.items }

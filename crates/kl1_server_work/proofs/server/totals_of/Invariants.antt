@@ -5,3 +5,6 @@ ghosts-totals-K-PoolIds g a = record { table = a.parts.table; seats = a.parts.se
 
 abbrev pub ghosts-totals-K-TicketIds : goal.ghosts-totals-K-TicketIds
 ghosts-totals-K-TicketIds g a = record { tally = a.parts.tally; queue = a.parts.queue; accounts = a.parts.accounts; shares = a.parts.shares }
+
+abbrev pub ghosts-totals-K-ShownIds : goal.ghosts-totals-K-ShownIds
+ghosts-totals-K-ShownIds g a = record { histories = a.parts.histories }

@@ -5,3 +5,6 @@ ghosts-done-K-PoolIds g a = record { table = a.parts.table; seats = a.parts.seat
 
 abbrev pub ghosts-done-K-TicketIds : goal.ghosts-done-K-TicketIds
 ghosts-done-K-TicketIds g a = record { tally = a.parts.tally; queue = a.parts.queue; accounts = a.parts.accounts; shares = a.parts.shares }
+
+abbrev pub ghosts-done-K-ShownIds : goal.ghosts-done-K-ShownIds
+ghosts-done-K-ShownIds g a = record { histories = a.parts.histories }

@@ -5,3 +5,6 @@ ghosts-is_same_by-K-PoolIds g a = record { table = a.parts.table; seats = a.part
 
 abbrev pub ghosts-is_same_by-K-TicketIds : goal.ghosts-is_same_by-K-TicketIds
 ghosts-is_same_by-K-TicketIds g a = record { tally = a.parts.tally; queue = a.parts.queue; accounts = a.parts.accounts; shares = a.parts.shares }
+
+abbrev pub ghosts-is_same_by-K-ShownIds : goal.ghosts-is_same_by-K-ShownIds
+ghosts-is_same_by-K-ShownIds g a = record { histories = a.parts.histories }

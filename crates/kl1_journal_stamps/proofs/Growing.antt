@@ -4,11 +4,11 @@ use Rattle.kl1_model.specs.State.{State}
 use Rattle.kl1_model.specs.Event.{Event, load, start, control, reduce, read, login, logout, reset, answer, is_refused}
 use Rattle.kl1_model.specs.Choice.{is_in_run}
 use Rattle.kl1_model.specs.Step.{step}
-use Rattle.kl1_model_server.specs.Journal.{Entry, runs, Journal, without_last, entered, stepped, with_event}
+use Rattle.kl1_model_server.specs.Journal.{Entry, loads, starts, sends, steps, answers, runs, Journal, without_last, entered, stepped, with_event}
 use Rattle.kl1_model_server.specs.laws.HistoryLaws.{EndsInRun}
 use Rattle.kl1_model_server.proofs.RunsKept.{run_with, reduction_run, run_goes_on}
-use Rattle.kl1_log.specs.Later.{Grows, GrowsBefore, AreLater, IsLater, run_length}
-use Rattle.kl1_log.specs.laws.LogLaws.{EventsGrow, GrowthBegins, GrowthGoesOn}
+use Rattle.kl1_journal_stamps.specs.Later.{Grows, GrowsBefore, AreLater, IsLater}
+use Rattle.kl1_journal_stamps.specs.laws.GrowthLaws.{EventsGrow, GrowthBegins, GrowthGoesOn}
 
 stays_before : (ds : List Entry) (d : Entry) → GrowsBefore ds d d
 stays_before [] d = inl refl
@@ -26,8 +26,17 @@ run_later : (es : List Entry) (m n : ℕ) → m ≤ n → AreLater (es ++ runs m
 run_later [] m n more = (inr (m, n, refl, refl, more), tt)
 run_later (d ∷ ds) m n more = (stays_before (ds ++ runs m ∷ []) d, run_later ds m n more)
 
+-- how many reductions an entry has if it is a run, or else 0
+abbrev run_length : Entry → ℕ
+run_length (loads text) = 0
+run_length (starts allowance low high t) = 0
+run_length (sends n m) = 0
+run_length (steps goal clause) = 0
+run_length (answers n report t) = 0
+run_length (runs n) = n
+
 same_run : (m n : ℕ) → runs m ≡ runs n → m ≡ n
-same_run m n h = ap (λ (e : Entry). run_length e) h
+same_run m n h = ap run_length h
 
 grows_on : (d e f : Entry) → Grows d e → Grows e f → Grows d f
 grows_on d e f (inl is) next = subst (λ (x : Entry). Grows x f) (sym is) next
@@ -56,22 +65,23 @@ growth_begins j = record { rules = refl; names = refl; entries = same_later j.en
 pub growth_goes_on : GrowthGoesOn
 growth_goes_on i j k l m = record { rules = l.rules ∙ m.rules; names = l.names ∙ m.names; entries = later_on i.entries j.entries k.entries l.entries m.entries }
 
-entered_later : (j : Journal) (e : Entry) → IsLater j (entered j e)
+pub entered_later : (j : Journal) (e : Entry) → IsLater j (entered j e)
 entered_later j e = record { rules = refl; names = refl; entries = one_later j.entries e }
+
+-- a reduction that makes the last run longer by one
+pub run_later_by_one : (j : Journal) (goal clause m : ℕ) → EndsInRun j.entries (suc m) → IsLater j (stepped j goal clause (suc (suc m)))
+run_later_by_one j goal clause m ends = record {
+  rules = refl;
+  names = refl;
+  entries = subst (λ (es : List Entry). AreLater es (without_last j.entries ++ runs (suc (suc m)) ∷ [])) (ends m refl) (run_later (without_last j.entries) (suc m) (suc (suc m)) (omega arith));
+}
 
 -- a reduction by the length of the last run after it
 stepped_later : (j : Journal) (s : State) (goal clause n : ℕ) (in_run : Bool) → n ≡ run_with in_run s → EndsInRun j.entries s.run → IsLater j (stepped j goal clause n)
 stepped_later j s goal clause zero in_run is ends = entered_later j _
 stepped_later j s goal clause (suc zero) in_run is ends = entered_later j _
 stepped_later j s goal clause (suc (suc m)) false is ends = absurd (omega (arith, is))
-stepped_later j s goal clause (suc (suc m)) true is ends =
-    let before : s.run ≡ suc m = run_goes_on s.run m (sym is) in
-    let last : without_last j.entries ++ runs (suc m) ∷ [] ≡ j.entries = subst (λ n. without_last j.entries ++ runs n ∷ [] ≡ j.entries) before (ends m before) in
-    record {
-      rules = refl;
-      names = refl;
-      entries = subst (λ (es : List Entry). AreLater es (without_last j.entries ++ runs (suc (suc m)) ∷ [])) last (run_later (without_last j.entries) (suc m) (suc (suc m)) (omega arith));
-    }
+stepped_later j s goal clause (suc (suc m)) true is ends = run_later_by_one j goal clause m (subst (λ n. EndsInRun j.entries n) (run_goes_on s.run m (sym is)) ends)
 
 accepted_later : (j : Journal) (s : State) (e : Event) → (e ≡ reset → ⊥) → is_refused (step s e).reply ≡ false → EndsInRun j.entries s.run → IsLater j (with_event j e (step s e).state)
 accepted_later j s (load text) none a ends = entered_later j _
