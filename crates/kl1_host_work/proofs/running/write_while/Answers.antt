@@ -14,13 +14,15 @@ either_quiet false x w = tt
 pub scoped-requires : goal.scoped-requires
 scoped-requires g c =
     let t = c.type_bounds in
-    record { at = λ x. (
-      c.requires,
-      (
-        record { owned = t.send-D.owned; leaving = λ k. either_quiet (k (of_param 0)) },
-        record { owned = t.send-J.owned; leaving = λ k. either_quiet (k (of_param 1)) },
-        record { shared = t.sync-J.shared },
-        record { shared = t.sync-R.shared },
-        record { shared = t.sync-T.shared },
-      ),
-    ) }
+    record {
+      at = λ x. (
+        c.requires,
+        (
+          record { owned = t.send-D.owned; leaving = λ k. either_quiet (k (of_param 0)) },
+          record { owned = t.send-J.owned; leaving = λ k. either_quiet (k (of_param 1)) },
+          record { shared = t.sync-J.shared },
+          record { shared = t.sync-R.shared },
+          record { shared = t.sync-T.shared },
+        ),
+      );
+    }
