@@ -21,11 +21,6 @@ impl Budget {
         self.left.load(Ordering::SeqCst)
     }
 
-    /// How many bytes may still be loaded.
-    pub(crate) fn left(&self) -> u64 {
-        self.left.load(Ordering::SeqCst)
-    }
-
     /// Counts a source that was loaded. Of loads at the same time some may go over the budget.
     pub(crate) fn spend(&self, bytes: usize) {
         let bytes = bytes as u64;

@@ -2,7 +2,7 @@
 
 mod viewing;
 
-ghost use Rattle.std.specs.Prelude.{◌≡◌, ◌↔◌, ℕ, [], IfOk, IsOk, IsTrue, OnErr, option_map};
+ghost use Rattle.std.specs.Prelude.{◌≡◌, ◌↔◌, ℕ, [], IfOk, IsOk, IsTrue, OnErr, OnOk, option_map};
 ghost use Rattle.kl1_model.specs.Event.{reduce as reduce_event};
 ghost use Rattle.kl1_model.specs.Choice.{first, quiet};
 ghost use Rattle.kl1_model_server.specs.Journal.{fresh_kept, done};
@@ -121,6 +121,31 @@ impl<A: AtomSource, C: CodeSource> JournaledAccount<A, C> {
             source: PhantomData,
             alloc,
         })
+    }
+
+    /// Begins the account anew in its place: of this name, of the same rules, in which nothing has happened since the reset at which it had used
+    /// `texts`. Its seat knew the built-in names alone, and knows these after it; if memory is refused, it may know some of them.
+    pub fn begin_as(
+        &mut self,
+        name: AccountName,
+        names: &mut A,
+        texts: &[AtomText],
+    ) -> Result<(), AllocError>
+        requires of { A.is_of names.old self.old.0 }
+        requires nothing { A.knows self.old.0 ≡ [] }
+        requires names { MayBeNames texts.now }
+        ensures fresh { OnOk result ((f : Reading) → kept_of f self.new.1 ≡ kept_since_reset self.old.1.0.rules name texts.now) }
+        ensures modules { OnOk result (self.new.1.0.modules ≡ []) }
+        ensures of { OnOk result (A.is_of names.new self.new.0) }
+        ensures place { OnOk result (A.place self.new.0 ≡ A.place self.old.0) }
+    {
+        let rules = self.journal.rules();
+        let journal = Journal::with_names(self.alloc, rules, texts, 0)?;
+        let user =
+            UserState::with_names(self.alloc, name, rules, 0, names, &mut self.seat, texts)?;
+        self.user = user;
+        self.journal = journal;
+        Ok(())
     }
 
     /// Tells a caller's proof that for each reading of its names the account is the replay of its journal, whose entries are all

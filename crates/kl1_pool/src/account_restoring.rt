@@ -10,7 +10,7 @@ use crate::account_host::AccountHost;
 use crate::pool::Pool;
 use crate::pool_account::PoolAccount;
 use crate::pool_ids::PoolIds;
-use crate::restoring::{RestoreEnd, Restored, restore_all};
+use crate::restoring::{Meter, RestoreEnd, Restored, Unmetered, restore_all};
 use crate::shared_tables::SharedTables;
 use kl1_journal_entries::Journal;
 use kl1_pool_tickets::{PoolShared, Share};
@@ -27,13 +27,14 @@ const NOT_RESTORED: Restored = Restored {
 impl<'t, R: Wait, K: PoolIds> PoolAccount<'t, R, K> {
     /// Does the entries of a journal to the account, one after another, until one isn't accepted whole. Book and `share` get an event for
     /// each that is done, and for each step of a run, and a step for each reduction.
-    pub fn restore(
+    pub fn restore<M: Meter>(
         &mut self,
         rt: &'t R,
         alloc: Global,
         common: &PoolShared<K>,
         tables: &SharedTables<'t, K>,
         share: &mut Share<K>,
+        meter: &M,
         journal: &Journal,
     ) -> Restored
         ensures restored { (f : Reading) → Fits self.new.held.0.names f → IsRestored (kept_of f self.old.held).state journal.now.journal.entries result (kept_of f self.new.held).state }
@@ -41,20 +42,21 @@ impl<'t, R: Wait, K: PoolIds> PoolAccount<'t, R, K> {
         ensures out { self.new.is_out ≡ self.old.is_out }
         ensures before { (f : Reading) → Fits self.new.held.0.names f → Fits self.old.held.0.names f }
     {
-        let restored = self.restore_as_host(rt, alloc, common, tables, share, journal);
+        let restored = self.restore_as_host(rt, alloc, common, tables, share, meter, journal);
         // Called for the fact that it proves: some reading fits the names.
         self.shows_counts();
         restored
     }
 
     /// `restore`, where what is counted is told of each reading that fits.
-    fn restore_as_host(
+    fn restore_as_host<M: Meter>(
         &mut self,
         rt: &'t R,
         alloc: Global,
         common: &PoolShared<K>,
         tables: &SharedTables<'t, K>,
         share: &mut Share<K>,
+        meter: &M,
         journal: &Journal,
     ) -> Restored
         ensures restored { (f : Reading) → Fits self.new.held.0.names f → IsRestored (kept_of f self.old.held).state journal.now.journal.entries result (kept_of f self.new.held).state }
@@ -69,17 +71,18 @@ impl<'t, R: Wait, K: PoolIds> PoolAccount<'t, R, K> {
             tables,
             rt,
         };
-        restore_all(alloc, &mut host, journal)
+        restore_all(alloc, &mut host, meter, journal)
     }
 
     /// `restore`, and what is told of it by those who don't see the account.
-    fn restore_counted(
+    fn restore_counted<M: Meter>(
         &mut self,
         rt: &'t R,
         alloc: Global,
         common: &PoolShared<K>,
         tables: &SharedTables<'t, K>,
         share: &mut Share<K>,
+        meter: &M,
         journal: &Journal,
     ) -> Restored
         ensures restored { IsRestoredBySome K.rules (slice_get K.names self.old.book.account) journal.now.journal.entries result }
@@ -88,7 +91,7 @@ impl<'t, R: Wait, K: PoolIds> PoolAccount<'t, R, K> {
         // This and the next one are called for the facts that they prove: the account is the replay of its journal, and some reading fits
         // the names.
         self.shows_counts();
-        let restored = self.restore(rt, alloc, common, tables, share, journal);
+        let restored = self.restore(rt, alloc, common, tables, share, meter, journal);
         self.shows_counts();
         restored
     }
@@ -97,12 +100,13 @@ impl<'t, R: Wait, K: PoolIds> PoolAccount<'t, R, K> {
 impl<'t, R: Wait, K: PoolIds> Pool<'t, R, K> {
     /// Does the entries of a journal to an account under its lock, as `PoolAccount::restore`; and whether its ticket is to be put, which
     /// then counts as out.
-    fn restore_locked<W: Wait>(
+    fn restore_locked<W: Wait, M: Meter>(
         &self,
         rt: &W,
         alloc: Global,
         account: usize,
         journal: &Journal,
+        meter: &M,
         share: &mut Share<K>,
     ) -> (Restored, bool)
         requires within { account < K.accounts }
@@ -110,6 +114,7 @@ impl<'t, R: Wait, K: PoolIds> Pool<'t, R, K> {
         ensures counted { Moved account (events_of journal.now.journal.entries result.0) (steps_of journal.now.journal.entries result.0) 0 0 share.old share.new }
     {
         let mut guard = self.places[account].lock(rt);
+        let access = guard.access;
         let found = &mut *guard.account;
         // As in `visit`.
         if found.account() != account {
@@ -121,14 +126,16 @@ impl<'t, R: Wait, K: PoolIds> Pool<'t, R, K> {
             &self.common,
             &self.tables,
             share,
+            meter,
             journal,
         );
-        let wants = found.wants_ticket();
+        let wants = access.barred().is_none() && found.wants_ticket();
         (restored, wants)
     }
 
     /// Does the entries of a journal to an account, one after another, until one isn't accepted whole, all under its lock, as
-    /// `PoolAccount::restore`. Afterwards a ticket of the account is put unless the account is quiet or one is out.
+    /// `PoolAccount::restore`. Afterwards a ticket of the account is put unless the account is quiet or one is out, or nobody may go on
+    /// with it yet.
     pub fn restore<W: Wait>(
         &self,
         rt: &W,
@@ -141,7 +148,24 @@ impl<'t, R: Wait, K: PoolIds> Pool<'t, R, K> {
         ensures restored { IsRestoredOf K.rules (slice_get K.names account) journal.now.journal.entries result }
         ensures counted { Acts account (events_of journal.now.journal.entries result) (steps_of journal.now.journal.entries result) share.old share.new }
     {
-        let (restored, wants) = self.restore_locked(rt, alloc, account, journal, share);
+        self.restore_metered(rt, alloc, account, journal, &Unmetered, share)
+    }
+
+    /// Like `restore`; `meter` is told how far it is, and may end it, which is told as want of memory.
+    pub fn restore_metered<W: Wait, M: Meter>(
+        &self,
+        rt: &W,
+        alloc: Global,
+        account: usize,
+        journal: &Journal,
+        meter: &M,
+        share: &mut Share<K>,
+    ) -> Restored
+        requires within { account < K.accounts }
+        ensures restored { IsRestoredOf K.rules (slice_get K.names account) journal.now.journal.entries result }
+        ensures counted { Acts account (events_of journal.now.journal.entries result) (steps_of journal.now.journal.entries result) share.old share.new }
+    {
+        let (restored, wants) = self.restore_locked(rt, alloc, account, journal, meter, share);
         if wants {
             self.offer(rt, account, share);
         }

@@ -11,6 +11,7 @@ ghost use Rattle.kl1_pool.specs.PoolAccounts.{HasCounted};
 ghost use Rattle.kl1_pool.specs.Answers.{IsGiven};
 ghost use Rattle.kl1_pool.specs.Memory.{IsBeyond};
 
+use crate::access::Barred;
 use crate::account_host::AccountHost;
 use crate::pool_account::PoolAccount;
 use crate::pool_ids::PoolIds;
@@ -83,6 +84,22 @@ impl<K: PoolIds> Answer<K> {
         // It is asked for only because of what is known of it.
         let _found = found.account();
         let _most = most;
+        Answer {
+            performed: Performed::Memory,
+            account: Snapshot::of(&account),
+            command: Snapshot::of(command),
+            of: PhantomData,
+        }
+    }
+
+    /// The answer to a command to an account that nobody may command: as if memory was refused. Nothing is done.
+    pub(crate) fn barred(barred: Barred, account: usize, command: &Command) -> Answer<K>
+        ensures account { result.account ≡ account }
+        ensures command { result.command ≡ command_view command.now }
+        ensures told { told_in result.performed ≡ told_steps 0 }
+    {
+        // It is asked for only because of what it tells.
+        let _barred = barred.access();
         Answer {
             performed: Performed::Memory,
             account: Snapshot::of(&account),

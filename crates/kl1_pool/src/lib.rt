@@ -3,10 +3,12 @@
 
 ghost use Rattle.kl1_pool.specs.laws.EndedLaws.{SameEndedGrows};
 
+mod access;
 mod account_host;
 mod account_restoring;
 mod answer;
 mod counting;
+mod founding;
 mod gate;
 mod gathering;
 mod grants;
@@ -41,7 +43,7 @@ pub use parts::PoolParts;
 pub use pool::Pool;
 pub use pool_account::{BookTotals, PoolAccount};
 pub use pool_ids::PoolIds;
-pub use restoring::{RestoreEnd, Restored};
+pub use restoring::{Meter, RestoreEnd, Restored, Unmetered};
 pub use shared_tables::SharedTables;
 pub use totals_before_reset::TotalsBeforeReset;
 pub use turn::Turn;

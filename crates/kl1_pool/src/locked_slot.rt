@@ -7,6 +7,7 @@ ghost use Rattle.kl1_model_server.specs.laws.TextLaws.{AreNames};
 ghost use Rattle.kl1_pool_tickets.specs.Parts.{IsNewBook};
 ghost use Rattle.kl1_pool.specs.Parts.{IsFreshSeat};
 
+use crate::access::Access;
 use crate::pool_account::PoolAccount;
 use crate::pool_ids::PoolIds;
 use crate::shared_tables::SharedTables;
@@ -61,6 +62,7 @@ pub(crate) trait Fresh: Drop {
 #[derive(Drop)]
 pub struct LockedSlot<'t, R: Wait, K: PoolIds> {
     pub(crate) account: CachePadded<PoolAccount<'t, R, K>>,
+    pub(crate) access: Access,
 }
 
 impl<'t, R: Wait, K: PoolIds> Fresh for LockedSlot<'t, R, K> {
@@ -88,7 +90,10 @@ impl<'t, R: Wait, K: PoolIds> Fresh for LockedSlot<'t, R, K> {
         let mut atoms = tables.atoms();
         let kept = JournaledAccount::with_names(alloc, name, rules, &mut atoms, seat, texts)?;
         let account = CachePadded::new(PoolAccount::new(kept, book));
-        Ok(LockedSlot { account })
+        Ok(LockedSlot {
+            account,
+            access: Access::Open,
+        })
     }
 }
 

@@ -41,7 +41,7 @@ impl<'t, R: Wait, K: PoolIds> Pool<'t, R, K> {
         let guard = self.places[account].lock(rt);
         let found = &*guard.account;
         // As in `visit`.
-        if !found.is_at(account) {
+        if !guard.access.shows() || !found.is_at(account) {
             return false;
         }
         found.look(reader);

@@ -139,10 +139,14 @@ impl<'t, R: Wait, K: PoolIds> Pool<'t, R, K> {
         ensures command { result.0.command ≡ command_view command.now }
     {
         let mut guard = self.places[account].lock(rt);
+        let access = guard.access;
         let found = &mut *guard.account;
         // The lock tells nothing of which account lies under it. It is always this one.
         if found.account() != account {
             return (Answer::misplaced(found, account, command), false);
+        }
+        if let Some(barred) = access.barred() {
+            return (Answer::barred(barred, account, command), false);
         }
         if found.is_beyond(self.most_bytes, command) {
             let answer = Answer::over(found, self.most_bytes, account, command);
@@ -212,9 +216,14 @@ impl<'t, R: Wait, K: PoolIds> Pool<'t, R, K> {
             return NO_TURN;
         };
         let mut guard = place.lock(rt);
+        let access = guard.access;
         let found = &mut *guard.account;
         // As in `visit`.
         if found.account() != account {
+            return NO_TURN;
+        }
+        if access.barred().is_some() {
+            found.clear_ticket();
             return NO_TURN;
         }
         let is_over = found.is_over(self.most_bytes);

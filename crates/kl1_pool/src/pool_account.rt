@@ -24,10 +24,11 @@ use crate::named_atoms::NamedAtoms;
 use crate::pool_ids::PoolIds;
 use crate::totals_before_reset::TotalsBeforeReset;
 use kl1_codes::SharedCodes;
-use kl1_journal::JournaledAccount;
+use kl1_journal::{AccountName, JournaledAccount};
 use kl1_journal_entries::Journal;
 use kl1_pool_tickets::{Booked, Share};
 use kl1_tally::{BookSeat, Tally};
+use kl1_text::AtomText;
 use kl1_user_events::{ClauseNo, Event, GoalNo, Listed, Refusal, Reply};
 use std::alloc::AllocError;
 use std::marker::{Model, PhantomData};
@@ -177,6 +178,16 @@ impl<'t, R: Wait, K: PoolIds> PoolAccount<'t, R, K> {
         ensures { IfOk result (λ lines. lines ≡ page_of self.now.held.1 from count) }
     {
         self.kept.journal(from, count)
+    }
+
+    /// Begins the account anew in its place, as `JournaledAccount::begin_as`: its book tells nothing yet.
+    pub(crate) fn begin_in(
+        &mut self,
+        names: &mut NamedAtoms<'t, K>,
+        name: AccountName,
+        texts: &[AtomText],
+    ) -> Result<(), AllocError> {
+        self.kept.begin_as(name, names, texts)
     }
 
     /// The journal, lent.

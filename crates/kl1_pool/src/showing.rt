@@ -27,7 +27,7 @@ impl<'t, R: Wait, K: PoolIds> Pool<'t, R, K> {
         let guard = self.places[account].lock(rt);
         let found = &*guard.account;
         // As in `visit`.
-        if !found.is_at(account) {
+        if !guard.access.shows() || !found.is_at(account) {
             return Err(AllocError);
         }
         found.shoens_from(from, count)
@@ -47,7 +47,7 @@ impl<'t, R: Wait, K: PoolIds> Pool<'t, R, K> {
         let guard = self.places[account].lock(rt);
         let found = &*guard.account;
         // As in `visit`.
-        if !found.is_at(account) {
+        if !guard.access.shows() || !found.is_at(account) {
             return Err(AllocError);
         }
         found.goals_from(from, count)
@@ -65,9 +65,10 @@ impl<'t, R: Wait, K: PoolIds> Pool<'t, R, K> {
         ensures { IfOk result (λ shown. IsOfSome K.rules (slice_get K.names account) (λ s. option_map (λ text. text.items) shown ≡ goal_text extent s goal.0)) }
     {
         let mut guard = self.places[account].lock(rt);
+        let access = guard.access;
         let found = &mut *guard.account;
         // As in `visit`.
-        if !found.is_at(account) {
+        if !access.shows() || !found.is_at(account) {
             return Err(AllocError);
         }
         found.goal_text(&mut self.tables.atoms(), goal, extent)
@@ -86,7 +87,7 @@ impl<'t, R: Wait, K: PoolIds> Pool<'t, R, K> {
         let guard = self.places[account].lock(rt);
         let found = &*guard.account;
         // As in `visit`.
-        if !found.is_at(account) {
+        if !guard.access.shows() || !found.is_at(account) {
             return Err(AllocError);
         }
         found.awaited(&self.tables.source(self.rt), goal)
@@ -107,7 +108,7 @@ impl<'t, R: Wait, K: PoolIds> Pool<'t, R, K> {
         let guard = self.places[account].lock(rt);
         let found = &*guard.account;
         // As in `visit`.
-        if !found.is_at(account) {
+        if !guard.access.shows() || !found.is_at(account) {
             return Err(AllocError);
         }
         found.presence(goal, variable, most)
@@ -121,7 +122,7 @@ impl<'t, R: Wait, K: PoolIds> Pool<'t, R, K> {
         let guard = self.places[account].lock(rt);
         let found = &*guard.account;
         // As in `visit`.
-        if !found.is_at(account) {
+        if !guard.access.shows() || !found.is_at(account) {
             return Err(AllocError);
         }
         Ok(found.usage())
@@ -135,7 +136,7 @@ impl<'t, R: Wait, K: PoolIds> Pool<'t, R, K> {
         let guard = self.places[account].lock(rt);
         let found = &*guard.account;
         // As in `visit`.
-        if !found.is_at(account) {
+        if !guard.access.shows() || !found.is_at(account) {
             return None;
         }
         // Called for the fact that it proves: what the book tells.
@@ -151,7 +152,7 @@ impl<'t, R: Wait, K: PoolIds> Pool<'t, R, K> {
         let guard = self.places[account].lock(rt);
         let found = &*guard.account;
         // As in `visit`.
-        if !found.is_at(account) {
+        if !guard.access.shows() || !found.is_at(account) {
             return None;
         }
         Some(found.bytes())
