@@ -4,6 +4,7 @@
 mod bell;
 mod in_folder;
 mod keeper;
+mod keeper_place;
 mod linking;
 mod notes;
 mod on_disk;
@@ -17,6 +18,7 @@ mod synced_writer;
 pub use bell::Bell;
 pub use in_folder::open_in_folder;
 pub use keeper::Keeper;
+pub use keeper_place::KeeperPlace;
 pub use linking::{LinkFault, Linked, link};
 pub use notes::Notes;
 pub use on_disk::OnDisk;

@@ -8,6 +8,7 @@ ghost use Rattle.kl1_host_journals.specs.Gates.{writer_behind};
 ghost use Rattle.kl1_host_journals.specs.Outgoings.{IsFreed};
 
 use crate::keeper::Keeper;
+use crate::keeper_place::KeeperPlace;
 use kl1_log::Unsent;
 use std::io::{Result, Write};
 use std::sync::Wait;
@@ -76,18 +77,23 @@ impl Outgoing {
     }
 
     /// Waits until the leave is here; `Lost` if it won't be. It rings for the account's scribe if not all is on disk yet.
-    pub fn freed<W: Wait>(self, rt: &W, keepers: &[Keeper]) -> Outgoing
+    pub fn freed<W: Wait>(self, rt: &W, keepers: &[KeeperPlace]) -> Outgoing
         ensures { IsFreed self result }
     {
         match self {
             Outgoing::Free(permit) => Outgoing::Free(permit),
-            Outgoing::Waits(account, unsent) => match keepers.get(account) {
+            Outgoing::Waits(account, unsent) => match keeper_of(keepers, account) {
                 Some(keeper) => handed_out(rt, keeper, unsent),
                 None => Outgoing::Lost,
             },
             Outgoing::Lost => Outgoing::Lost,
         }
     }
+}
+
+/// The keeper of an account, if it is there.
+fn keeper_of(keepers: &[KeeperPlace], account: usize) -> Option<&Keeper> {
+    keepers.get(account)?.get()
 }
 
 /// A leave that waits, once all is on disk for which it does; `Lost` if that won't be.

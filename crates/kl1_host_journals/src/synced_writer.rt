@@ -3,7 +3,7 @@
 ghost use Rattle.std.specs.Prelude.{◌≡◌};
 ghost use Rattle.kl1_host_journals.specs.SyncedWriters.{writer_of};
 
-use crate::keeper::Keeper;
+use crate::keeper_place::KeeperPlace;
 use crate::outgoing::{Gate, Outgoing, SendPermit};
 use std::cell::Cell;
 use std::io::{Error, ErrorKind, Result, Write};
@@ -14,13 +14,18 @@ use std::sync::Wait;
 pub struct SyncedWriter<'c, T: Write, R: Wait> {
     gate: Gate<T>,
     rt: &'c R,
-    keepers: &'c [Keeper],
+    keepers: &'c [KeeperPlace],
     outgoing: &'c Cell<Outgoing>,
 }
 
 impl<'c, T: Write, R: Wait> SyncedWriter<'c, T, R> {
     /// A writer over `writer`, of a connection whose leave to write is `outgoing`, to accounts of these keepers.
-    pub fn new(writer: T, rt: &'c R, keepers: &'c [Keeper], outgoing: &'c Cell<Outgoing>) -> Self
+    pub fn new(
+        writer: T,
+        rt: &'c R,
+        keepers: &'c [KeeperPlace],
+        outgoing: &'c Cell<Outgoing>,
+    ) -> Self
         ensures { writer_of result ≡ writer }
     {
         SyncedWriter {

@@ -97,10 +97,12 @@ pub(crate) fn serve_pages<'p, 't, F: Front, W: Wait + Clock, R: Wait, K: PoolIds
     share: Share<K>,
 ) -> Share<K> {
     let outgoing = Cell::new(Outgoing::new());
+    visit.note_page();
+    let host = desk.host.of_now();
     let mut performer = HostHandler {
         rt,
         pool: desk.pool,
-        host: desk.host,
+        host,
         outgoing: &outgoing,
         history: History::new(share),
     };
@@ -111,8 +113,8 @@ pub(crate) fn serve_pages<'p, 't, F: Front, W: Wait + Clock, R: Wait, K: PoolIds
         visit: Some(visit),
     };
     let answers = desk.board.answers();
-    let mut source = FailureCounter::new(VisitReader::new(rt, visit, desk.limits, answers));
-    let writer = SyncedWriter::new(visit.stream(), rt, desk.host.keepers, &outgoing);
+    let mut source = FailureCounter::new(VisitReader::new(rt, visit, host.live.limits(), answers));
+    let writer = SyncedWriter::new(visit.stream(), rt, host.keepers, &outgoing);
     let mut sink = FailureCounter::new(writer);
     desk.front
         .serve_pages(address, &mut source, &mut sink, &mut performer, &view);

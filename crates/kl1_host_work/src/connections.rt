@@ -5,9 +5,10 @@ ghost use Rattle.kl1_host_work.specs.Fronts.{AreAccountsOf};
 
 use crate::board::Board;
 use crate::connection::{serve_lines, serve_pages};
+use crate::failing::Failing;
 use crate::front::{Front, HostEvent};
 use crate::host::Host;
-use crate::lobby::{Admission, Limits, Lobby};
+use crate::lobby::{Admission, Lobby};
 use crate::visit::Visit;
 use kl1_pool::{Pool, PoolIds, Share};
 use std::alloc::Global;
@@ -37,7 +38,7 @@ pub(crate) struct Desk<'d, 't, F: Front, R: Wait, K: PoolIds> {
     pub(crate) lobby: &'d Lobby<K>,
     pub(crate) board: &'d Board,
     pub(crate) host: Host<'d>,
-    pub(crate) limits: Limits,
+    pub(crate) failing: &'d Failing,
     pub(crate) alloc: Global,
 }
 
@@ -49,7 +50,7 @@ impl<'d, 't, F: Front, R: Wait, K: PoolIds> Desk<'d, 't, F, R, K> {
         lobby: &'d Lobby<K>,
         board: &'d Board,
         host: Host<'d>,
-        limits: Limits,
+        failing: &'d Failing,
         alloc: Global,
     ) -> Self
         ensures { result.front.now ≡ front.now }
@@ -60,7 +61,7 @@ impl<'d, 't, F: Front, R: Wait, K: PoolIds> Desk<'d, 't, F, R, K> {
             lobby,
             board,
             host,
-            limits,
+            failing,
             alloc,
         }
     }
@@ -77,14 +78,16 @@ fn serve_client<'t, F: Front, W: Wait + Clock, R: Wait, K: PoolIds>(
     requires { AreAccountsOf (F.names desk.now.front.now) K.names K.accounts }
 {
     desk.front.tell(HostEvent::Opened(address));
+    // Before the door, whose keys are of this edition or of a newer one.
+    let host = desk.host.of_now();
     let door = desk.front.door(address);
     let (served, share) = serve_lines(
         rt,
         desk.alloc,
         visit,
         desk.pool,
-        desk.host,
-        desk.limits,
+        host,
+        host.live.limits(),
         door,
         share,
     );
@@ -141,7 +144,7 @@ fn arrival_of<'t, F: Front, N: Wait + Clock, R: Wait, K: PoolIds>(
     address: SocketAddr,
 ) -> Received {
     for _ in rt.forever() {
-        match desk.lobby.admit(rt, &visit, address, desk.limits) {
+        match desk.lobby.admit(rt, &visit, address, desk.host.live.limits()) {
             Admission::Open(number) => {
                 return Received::Open(Arrival {
                     visit,

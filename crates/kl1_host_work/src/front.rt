@@ -6,6 +6,8 @@ ghost use Rattle.kl1_command.specs.declared.performed.Performed.TheVariants.{Mem
 ghost use Rattle.kl1_session.specs.Conversations.{Done};
 ghost use Rattle.kl1_host_work.specs.Fronts.{OpensByName};
 
+use crate::start_fault::StartFault;
+use crate::steering::Steering;
 use kl1_command::{Command, Performed};
 use kl1_lines::{Sink, Source};
 use kl1_log::LogError;
@@ -47,6 +49,12 @@ pub enum HostEvent {
     DiskFreed { account: usize },
     /// An account was refused a source, since it has loaded as many bytes as it may.
     CodesFull { account: usize },
+    /// All accounts of the start are restored.
+    AllRestored,
+    /// The account of a place that came while the host runs can't be restored.
+    Unrestored { account: usize, fault: StartFault },
+    /// An account has left the host: its file is closed.
+    Left { account: usize },
     /// A host that was asked to stop waits for this account, which is in the midst of a reduction.
     AwaitsEnd { account: usize },
 }
@@ -185,6 +193,7 @@ pub trait Front {
         host: &V,
     );
 
-    /// Attends to a host, in the thread that runs it, and may do commands. The host stops when it returns.
-    fn attend<P: Performer, V: HostView>(&self, performer: &mut P, host: &V);
+    /// Attends to a host, in the thread that runs it, from the moment at which clients are let in, and may do commands. The host stops when it
+    /// returns, which is soon once `host` has failed.
+    fn attend<P: Performer, V: HostView + Steering>(&self, performer: &mut P, host: &V);
 }

@@ -67,8 +67,9 @@ fn is_loaded(performed: &Performed) -> bool {
 impl<'p, 't, W: Wait, R: Wait, K: PoolIds> HostHandler<'p, 't, W, R, K> {
     /// Whether a command is answered as if memory was refused: the account is stopped, or it has loaded what it may.
     fn is_refused(&self, account: usize, command: &Command) -> bool {
-        let is_stopped = match self.host.keepers.get(account) {
-            Some(keeper) => keeper.on_disk().is_stopped(),
+        // So is one that isn't there, or for which the connection's keys are too old.
+        let is_stopped = match self.host.keeper(account) {
+            Some(keeper) => keeper.on_disk().is_stopped() || !self.host.lets_in(account),
             None => true,
         };
         let left = self.left(account, command);

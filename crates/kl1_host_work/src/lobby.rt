@@ -243,6 +243,18 @@ impl<K: PoolIds> Lobby<K> {
         self.visitors.lock(rt).open.len()
     }
 
+    /// Ends those connections, once they are answered, of which a key has let in to one of these accounts last; and, if `others`, those of
+    /// browsers and of who has shown no key.
+    pub(crate) fn end_those<W: Wait>(&self, rt: &W, accounts: &[usize], others: bool) {
+        let guard = self.visitors.lock(rt);
+        for visitor in guard.open.iter() {
+            let visit = &*visitor.visit;
+            if visit.is_of(accounts) || (others && visit.is_open_to_all()) {
+                visit.end_reading();
+            }
+        }
+    }
+
     /// Lets nobody in from now on, and ends the connections that are open.
     pub(crate) fn close<W: Wait>(&self, rt: &W) {
         let mut guard = self.visitors.lock(rt);

@@ -90,7 +90,7 @@ pub(crate) fn note_told<'t, W: Wait, R: Wait, K: PoolIds>(
 )
     requires { account < K.accounts }
 {
-    let Some(keeper) = host.keepers.get(account) else {
+    let Some(keeper) = host.keeper(account) else {
         return;
     };
     if host.syncing.replies_wait {

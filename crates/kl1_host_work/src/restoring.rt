@@ -1,24 +1,18 @@
-// Accounts restored from their files.
+// An account restored from its file.
 
-ghost use Rattle.std.specs.Prelude.{◌≡◌, ◌<◌, ◌++◌, ◌∷◌, [], map, slice_get, IfOk, OnOk};
+ghost use Rattle.std.specs.Prelude.{◌≡◌, ◌<◌, slice_get, IfOk};
 ghost use Rattle.kl1_host_work.specs.Restarts.{IsAllRestored};
-ghost use Rattle.kl1_host_work.specs.Standings.{IsStandingOf, IsRestarted, AreRestored};
-ghost use Rattle.kl1_host_work.specs.Stages.{AreWaiting, AreStanding};
+ghost use Rattle.kl1_host_work.specs.Standings.{IsStandingOf};
 
-use crate::budget::Budget;
-use crate::front::{Front, HostEvent};
-use crate::host::FileRoom;
 use crate::linking::link_account;
-use crate::sources::Sources;
+use crate::place::Place;
 use crate::start_fault::StartFault;
-use kl1_host_journals::{Keeper, Linked, OpenedFile};
-use kl1_journal_entries::Journal;
-use kl1_log::{Disk, LogFile};
+use kl1_host_journals::{Linked, OpenedFile};
+use kl1_journal_entries::{Entry, Journal};
+use kl1_log::Disk;
 use kl1_pool::{AccountName, Pool, PoolIds, RestoreEnd, Share};
-use std::alloc::{AllocError, Global};
+use std::alloc::Global;
 use std::sync::Wait;
-use std::thread::Threads;
-use std::{mem, thread};
 
 /// An account with its file, and with the journal with which it begins, which was read from that.
 #[derive(Drop)]
@@ -27,18 +21,31 @@ pub struct AccountFile<D: Disk> {
     pub opened: OpenedFile<D>,
 }
 
-/// The accounts' files, and what all threads share of them.
+/// An account whose entries are done, and whose file is linked with its journal.
 #[derive(Drop)]
-pub(crate) struct Shelf<D: Disk> {
-    pub(crate) files: Vec<LogFile<D>>,
-    pub(crate) keepers: Vec<Keeper>,
-    pub(crate) budgets: Vec<Budget>,
-    pub(crate) rooms: Vec<FileRoom>,
-    pub(crate) sources: Vec<Sources>,
-    alloc: Global,
+pub(crate) struct Standing<D: Disk> {
+    pub(crate) linked: Linked<D>,
+    pub(crate) entries: u64,
 }
 
-/// Does the entries of a journal to an account in which nothing has happened; answers how many they are.
+/// How many events are done when the entries of a journal are.
+fn events_of(journal: &Journal) -> u64 {
+    let mut events = 0u64;
+    let mut entries = journal.entries();
+    for _ in 0..u64::MAX {
+        let Some(entry) = entries.next() else {
+            break;
+        };
+        events = events.saturating_add(match entry {
+            Entry::Run(reductions) => reductions,
+            _ => 1,
+        });
+    }
+    events
+}
+
+/// Does the entries of a journal to an account in which nothing has happened; answers how many they are. The place is told how far it is, and
+/// may end it.
 #[tactic(auto, using(crate::proofs::Restarts::all_restored))]
 fn restore_account<'t, W: Wait, R: Wait, K: PoolIds>(
     rt: &W,
@@ -46,12 +53,13 @@ fn restore_account<'t, W: Wait, R: Wait, K: PoolIds>(
     pool: &Pool<'t, R, K>,
     account: usize,
     journal: &Journal,
+    place: &Place,
     share: &mut Share<K>,
 ) -> Result<u64, StartFault>
     requires { account < K.accounts }
     ensures { IfOk result (λ n. IsAllRestored K.rules (slice_get K.names account) journal.now.journal.entries n) }
 {
-    let restored = pool.restore(rt, alloc, account, journal, share);
+    let restored = pool.restore_metered(rt, alloc, account, journal, place, share);
     match restored.end {
         RestoreEnd::All => Ok(restored.entries),
         RestoreEnd::Memory => Err(StartFault::Memory),
@@ -65,190 +73,29 @@ fn restore_account<'t, W: Wait, R: Wait, K: PoolIds>(
     }
 }
 
-impl<D: Disk + Drop> Shelf<D> {
-    /// No files, with room for this number of them.
-    fn new(alloc: Global, accounts: usize) -> Result<Self, AllocError>
-        ensures { IfOk result (λ s. s.files.items ≡ []) }
-    {
-        Ok(Shelf {
-            files: Vec::with_capacity(alloc, accounts)?,
-            keepers: Vec::with_capacity(alloc, accounts)?,
-            budgets: Vec::with_capacity(alloc, accounts)?,
-            rooms: Vec::with_capacity(alloc, accounts)?,
-            sources: Vec::with_capacity(alloc, accounts)?,
-            alloc,
-        })
-    }
-
-    /// Adds the file of the next account.
-    fn add(&mut self, linked: Linked<D>, bytes: u64) -> Result<(), AllocError>
-        ensures { OnOk result (self.new.files.items ≡ self.old.files.items ++ linked.file ∷ []) }
-    {
-        let Linked {
-            file,
-            notes,
-            receipt,
-        } = linked;
-        self.rooms.push(file.disk().room())?;
-        self.files.push(file)?;
-        self.keepers.push(Keeper::new(notes, receipt))?;
-        self.budgets.push(Budget::new(bytes))?;
-        self.sources.push(Sources::new(self.alloc))?;
-        Ok(())
-    }
-}
-
-/// An account whose entries are done, and whose file is linked with its journal.
-#[derive(Drop)]
-struct Standing<D: Disk> {
-    linked: Linked<D>,
-    entries: u64,
-}
-
-/// How far it is with an account.
-#[derive(Drop)]
-enum Stage<D: Disk> {
-    /// It isn't restored yet.
-    Waits(AccountFile<D>),
-    /// It is restored.
-    Stands(Standing<D>),
-    /// It can't be restored.
-    Fails(StartFault),
-}
-
-/// An account that is restored, with a share for that.
-#[derive(Drop)]
-struct Restart<D: Disk, K: PoolIds> {
-    share: Share<K>,
-    stage: Stage<D>,
-}
-
-/// Restores an account from its file, and links that with the account's journal: all entries of the file's journal are done to the account,
-/// and what waits for the file makes it one of the account's journal.
-fn stand<'t, D: Disk + Drop, W: Wait, R: Wait, K: PoolIds>(
+/// Restores the account of a place from its file, and links that with the account's journal: the account is begun with the name and the used
+/// names of the file, all entries of the file's journal are done to it, and what waits for the file makes it one of the account's journal.
+pub(crate) fn stand<'t, D: Disk + Drop, W: Wait, R: Wait, K: PoolIds>(
     rt: &W,
     alloc: Global,
     pool: &Pool<'t, R, K>,
     account: usize,
     found: AccountFile<D>,
+    place: &Place,
     share: &mut Share<K>,
 ) -> Result<Standing<D>, StartFault>
     requires { account < K.accounts }
     ensures { IfOk result (IsStandingOf K.rules (slice_get K.names account) found.opened.journal.journal) }
 {
-    let AccountFile { opened, .. } = found;
-    let entries = restore_account(rt, alloc, pool, account, opened.journal(), share)?;
+    let AccountFile { name, opened } = found;
+    let journal = opened.journal();
+    place.begin(rt, events_of(journal));
+    if !pool.found(rt, account, name, journal.names())? {
+        return Err(StartFault::Accounts);
+    }
+    let entries = restore_account(rt, alloc, pool, account, journal, place, share)?;
     match link_account(rt, alloc, pool, account, opened.into_file()) {
         Ok(linked) => Ok(Standing { linked, entries }),
         Err(fault) => Err(StartFault::Unlinked { account, fault }),
     }
-}
-
-/// Restores an account from its file.
-fn restore_one<'t, D: Disk + Drop, W: Wait, R: Wait, K: PoolIds>(
-    rt: &W,
-    alloc: Global,
-    pool: &Pool<'t, R, K>,
-    account: usize,
-    restart: &mut Restart<D, K>,
-)
-    ensures { IsRestarted K.rules (slice_get K.names account) restart.old.stage restart.new.stage }
-{
-    let Restart { share, stage } = restart;
-    let before = mem::replace(stage, Stage::Fails(StartFault::Accounts));
-    let Stage::Waits(found) = before else {
-        return;
-    };
-    if account < pool.accounts() {
-        *stage = match stand(rt, alloc, pool, account, found, share) {
-            Ok(standing) => Stage::Stands(standing),
-            Err(fault) => Stage::Fails(fault),
-        };
-    }
-}
-
-/// Accounts that are to be restored from these files, each with a share.
-fn restarts_of<D: Disk + Drop, K: PoolIds>(
-    alloc: Global,
-    files: Vec<AccountFile<D>>,
-    shares: Vec<Share<K>>,
-) -> Result<Vec<Restart<D, K>>, StartFault>
-    ensures { IfOk result (λ restarts. AreWaiting files.items (map (λ r. r.stage) restarts.items)) }
-{
-    let mut shares = shares;
-    let mut restarts = Vec::with_capacity(alloc, files.len())?;
-    for found in files {
-        let Some(share) = shares.pop() else {
-            return Err(StartFault::Memory);
-        };
-        restarts.push(Restart {
-            share,
-            stage: Stage::Waits(found),
-        })?;
-    }
-    Ok(restarts)
-}
-
-/// How many threads restore accounts: as many as there are processors.
-fn lanes<R: Threads>(rt: &R) -> usize
-    ensures { 0 < result }
-{
-    match thread::available_parallelism(rt) {
-        Ok(processors) => processors.get(),
-        Err(_) => 1,
-    }
-}
-
-/// The files of accounts that stand, in order, each of which may load sources of `bytes` bytes; tells `front` of each. If some don't stand, the
-/// fault of the first of them is told.
-fn shelf_of<F: Front, D: Disk + Drop, K: PoolIds>(
-    alloc: Global,
-    front: &F,
-    restarts: Vec<Restart<D, K>>,
-    bytes: u64,
-) -> Result<Shelf<D>, StartFault>
-    ensures { IfOk result (λ shelf. AreStanding (map (λ r. r.stage) restarts.items) shelf.files.items) }
-{
-    let mut shelf = Shelf::new(alloc, restarts.len())?;
-    for (account, restart) in restarts.into_iter().enumerate() {
-        let Restart { stage, .. } = restart;
-        match stage {
-            Stage::Stands(standing) => {
-                let Standing { linked, entries } = standing;
-                shelf.add(linked, bytes)?;
-                front.tell(HostEvent::Restored { account, entries });
-            }
-            Stage::Fails(fault) => return Err(fault),
-            Stage::Waits(_) => return Err(StartFault::Accounts),
-        }
-    }
-    Ok(shelf)
-}
-
-/// Restores the accounts of a pool from their files, each with one of the shares, several at the same time; then tells `front` of each, in
-/// order. If some can't be restored, the fault of the first of them is told. Each may load sources of `bytes` bytes.
-pub(crate) fn restore_all<'t, F: Front, D: Disk + Drop + Send, N, R: Wait + Sync, K>(
-    rt: &N,
-    alloc: Global,
-    pool: &Pool<'t, R, K>,
-    front: &F,
-    files: Vec<AccountFile<D>>,
-    bytes: u64,
-    shares: Vec<Share<K>>,
-) -> Result<Shelf<D>, StartFault>
-where
-    N: Threads + Wait + Sync,
-    K: PoolIds + Send + Sync,
-    ensures { IfOk result (λ shelf. AreRestored K.rules K.names files.items shelf.files.items) }
-{
-    let mut restarts = restarts_of(alloc, files, shares)?;
-    thread::for_each_mut(
-        rt,
-        restarts.as_mut_slice(),
-        lanes(rt),
-        &|account: usize, restart: &mut Restart<D, K>| {
-            restore_one(rt, alloc, pool, account, restart)
-        },
-    );
-    shelf_of(alloc, front, restarts, bytes)
 }

@@ -7,15 +7,15 @@ use crate::filling::close_rooms;
 use crate::front::{Front, HostEvent};
 use crate::handler::HostHandler;
 use crate::host::Host;
+use crate::keeping::{Opener, keep};
 use crate::noting::note;
 use crate::start_fault::StartFault;
 use crate::view::View;
 use crate::watching::{tell_waits, watch};
-use kl1_host_journals::{Bell, FaultTeller, Keeper, Outgoing, Scribe};
+use kl1_host_journals::{Bell, FaultTeller, Outgoing};
 use kl1_log::{Disk, LogError, LogFile};
 use kl1_pool::{Gate, Pool, PoolIds, Share, worker};
 use kl1_pool_history::History;
-use std::alloc::{AllocError, Global};
 use std::cell::Cell;
 use std::net::{Net, TcpListener, TcpStream};
 use std::sync::Wait;
@@ -35,14 +35,22 @@ impl Gate for OpenGate {
 
 /// Tells a front of faults.
 #[derive(Drop)]
-struct Telling<'f, F: Front> {
-    front: &'f F,
+pub(crate) struct Telling<'f, F: Front> {
+    pub(crate) front: &'f F,
 }
 
 impl<F: Front> FaultTeller for Telling<'_, F> {
     fn tell(&self, account: usize, error: LogError) {
         self.front.tell(HostEvent::Stopped { account, error });
     }
+}
+
+/// The shares of workers, of the program, and of those who keep places.
+#[derive(Drop)]
+pub(crate) struct Shares<K: PoolIds> {
+    pub(crate) workers: Vec<Share<K>>,
+    pub(crate) attending: Share<K>,
+    pub(crate) places: Vec<Share<K>>,
 }
 
 /// Goes on with accounts until the pool is closed, and gives the share back.
@@ -59,8 +67,8 @@ fn work<'t, W: Wait, R: Wait, K: PoolIds>(
 
 /// Notes what has come to each account.
 fn note_all<'t, W: Wait, R: Wait, K: PoolIds>(rt: &W, pool: &Pool<'t, R, K>, host: Host<'_>) {
-    for (account, keeper) in host.keepers.iter().enumerate() {
-        if account < pool.accounts() {
+    for account in 0..pool.accounts() {
+        if let Some(keeper) = host.keeper(account) {
             note(rt, pool, keeper, account);
         }
     }
@@ -96,7 +104,11 @@ fn attend<'p, 't, F: Front, N: Wait + Clock, R: Wait, K: PoolIds>(
     let mut performer = HostHandler {
         rt,
         pool: desk.pool,
-        host: desk.host,
+        // The program has the newest keys.
+        host: Host {
+            edition: u64::MAX,
+            ..desk.host
+        },
         outgoing: &outgoing,
         history: History::new(share),
     };
@@ -109,6 +121,13 @@ fn attend<'p, 't, F: Front, N: Wait + Clock, R: Wait, K: PoolIds>(
     desk.front.attend(&mut performer, &view);
 }
 
+/// Ends what is waited for or restored at places.
+fn end_places<W: Wait>(rt: &W, host: Host<'_>) {
+    for place in host.places {
+        place.end(rt);
+    }
+}
+
 /// Lets nobody in any more, and ends the connections that are open.
 fn close_doors<'t, F: Front, N, R: Wait, K: PoolIds>(
     rt: &N,
@@ -119,6 +138,7 @@ where
     N: Net<Listener = TcpListener, Stream = TcpStream> + Wait,
 {
     desk.lobby.close(rt);
+    end_places(rt, desk.host);
     // Who waits for the disk isn't to wait for room on it.
     close_rooms(desk.host);
     wake(rt, listeners.clients);
@@ -213,48 +233,24 @@ where
     )
 }
 
-/// The scribes of accounts with these keepers and files, in order.
-fn scribes_of<D: Disk + Drop>(
-    alloc: Global,
-    keepers: &[Keeper],
-    files: Vec<LogFile<D>>,
-) -> Result<Vec<Scribe<'_, D>>, AllocError> {
-    let mut scribes = Vec::with_capacity(alloc, files.len())?;
-    for (account, (keeper, file)) in keepers.iter().zip(files).enumerate() {
-        scribes.push(Scribe::new(account, keeper, file))?;
-    }
-    Ok(scribes)
-}
-
-/// Writes for an account until its bell says that it is to end, and gives the file back.
-fn write_on<D: Disk + Drop, W: Wait + Clock, T: FaultTeller>(
-    rt: &W,
-    scribe: Scribe<'_, D>,
-    period: Duration,
-    faults: &T,
-) -> LogFile<D> {
-    let mut scribe = scribe;
-    scribe.work(rt, period, faults);
-    scribe.into_file()
-}
-
-/// Lets each scribe write in a thread of its own while `run` runs, which is told whether all of these could be made, and which ends their
-/// bells. Answers the files, or that some thread couldn't be made.
-fn write_while<D: Disk + Drop + Send, R, T: FaultTeller + Sync, G: FnOnce(bool) -> bool>(
+/// Lets the place of each account be kept in a thread of its own while `run` runs, which is told whether all of these could be made, and which
+/// ends them. Answers the files, or why an account of the start isn't there, or that some thread couldn't be made.
+fn keep_while<'t, F: Front + Sync, D: Disk + Drop + Send, O: Opener<D> + Sync, R, K, G: FnOnce(bool) -> bool>(
     rt: &R,
-    alloc: Global,
-    scribes: Vec<Scribe<'_, D>>,
-    period: Duration,
-    faults: &T,
+    desk: &Desk<'_, 't, F, R, K>,
+    opener: &O,
+    firsts: usize,
+    shares: Vec<Share<K>>,
     run: G,
 ) -> Result<Vec<LogFile<D>>, StartFault>
 where
     R: Threads + Wait + Clock + Sync,
+    K: PoolIds + Send + Sync,
     requires { (there : _) → G.pre run there }
 {
-    // No memory is asked for once a scribe is there, so that nothing keeps `run` from ending it.
-    let handles = Vec::with_capacity(alloc, scribes.len())?;
-    let back = Vec::with_capacity(alloc, scribes.len())?;
+    // No memory is asked for once one is there, so that nothing keeps `run` from ending it.
+    let handles = Vec::with_capacity(desk.alloc, shares.len())?;
+    let back = Vec::with_capacity(desk.alloc, shares.len())?;
     thread::scope(
         thread::scope_env(),
         rt,
@@ -264,22 +260,27 @@ where
             let mut handles = handles;
             let mut back = back;
             let mut all_are_there = true;
-            for scribe in scribes {
-                match scope.spawn(move || write_on(rt, scribe, period, faults)) {
+            let mut account = 0usize;
+            for share in shares {
+                let is_first = account < firsts;
+                match scope.spawn(move || keep(rt, desk, opener, account, is_first, share)) {
                     Ok(handle) => {
                         let _ = handles.push(handle);
                     }
                     Err(_) => all_are_there = false,
                 }
+                account = account.saturating_add(1);
             }
             let all_were_there = run(all_are_there);
             for handle in handles {
-                let _ = back.push(handle.join(rt));
+                if let Some(file) = handle.join(rt) {
+                    let _ = back.push(file);
+                }
             }
-            if all_were_there {
-                Ok(back)
-            } else {
-                Err(StartFault::Threads)
+            match desk.failing.take(rt) {
+                Some(fault) => Err(fault),
+                None if all_were_there => Ok(back),
+                None => Err(StartFault::Threads),
             }
         },
     )
@@ -301,36 +302,44 @@ where
     requires { AreAccountsOf (F.names desk.now.front.now) K.names K.accounts }
 {
     let all_are_there = scribes_are_there && run_accounts(rt, listeners, desk, workers, attending);
+    // No account comes from here on, so each scribe that is there hears its bell.
+    end_places(rt, desk.host);
     note_all(rt, desk.pool, desk.host);
-    for keeper in desk.host.keepers {
-        keeper.bell().end(rt);
+    for place in desk.host.keepers {
+        if let Some(keeper) = place.get() {
+            keeper.bell().end(rt);
+        }
     }
     all_are_there
 }
 
-/// Runs a host until its program has attended to it, with a scribe for each account in a thread of its own: replies that wait for the disk
-/// need them as long as a connection is open. Answers the files.
-pub(crate) fn run_threads<'t, F: Front + Sync, D: Disk + Drop + Send, R, K: PoolIds + Send + Sync>(
+/// Runs a host until its program has attended to it, with each place kept in a thread of its own: replies that wait for the disk need these as
+/// long as a connection is open. The accounts of the first places come at once. Answers the files.
+pub(crate) fn run_threads<'t, F: Front + Sync, D: Disk + Drop + Send, O: Opener<D> + Sync, R, K>(
     rt: &R,
     listeners: Listeners<'_>,
     desk: &Desk<'_, 't, F, R, K>,
-    workers: Vec<Share<K>>,
-    attending: Share<K>,
-    files: Vec<LogFile<D>>,
+    opener: &O,
+    firsts: usize,
+    shares: Shares<K>,
 ) -> Result<Vec<LogFile<D>>, StartFault>
 where
     R: Net<Listener = TcpListener, Stream = TcpStream> + Threads + Wait + Clock + Sync,
     F::Entrance: Send,
+    K: PoolIds + Send + Sync,
     requires { AreAccountsOf (F.names desk.now.front.now) K.names K.accounts }
 {
-    let faults = Telling { front: desk.front };
-    let scribes = scribes_of(desk.alloc, desk.host.keepers, files)?;
-    write_while(
+    let Shares {
+        workers,
+        attending,
+        places,
+    } = shares;
+    keep_while(
         rt,
-        desk.alloc,
-        scribes,
-        desk.host.syncing.period,
-        &faults,
+        desk,
+        opener,
+        firsts,
+        places,
         move |there: bool| -> bool
             requires { AreAccountsOf (F.names desk.now.front.now) K.names K.accounts }
         { run_noted(rt, listeners, desk, workers, attending, there) },

@@ -82,9 +82,7 @@ impl<F: Front, N: Wait + Clock, R: Wait, K: PoolIds> HostView for View<'_, '_, '
     }
 
     fn is_stopped(&self, account: usize) -> bool {
-        let desk = self.desk;
-        let keepers = desk.host.keepers;
-        match keepers.get(account) {
+        match self.desk.host.keeper(account) {
             Some(keeper) => keeper.on_disk().is_stopped(),
             None => true,
         }

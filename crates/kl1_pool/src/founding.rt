@@ -91,14 +91,13 @@ impl<'t, R: Wait, K: PoolIds> Pool<'t, R, K> {
         }
     }
 
-    /// Lets a reader read the journal of an account, as `look`, after which nothing more is done to the account, and it is as after a reset,
-    /// so that its memory is free. All of it is under the account's lock. Answers whether it did.
-    pub fn close_account<W: Wait, L: JournalReader>(
+    /// Lets a reader read the journal of an account, as `look`, after which nothing more is done to the account, all under its lock. Answers
+    /// whether it did: it didn't if the reader asks to come again.
+    pub fn close_account<W: Wait, L: LastReader>(
         &self,
         rt: &W,
         account: usize,
         reader: &mut L,
-        share: &mut Share<K>,
     ) -> bool
         requires within { account < K.accounts }
         ensures seen { IsTrue result → IsSeenOfSome K.rules (slice_get K.names account) (λ j ended. L.reads reader.old reader.new j ended) }
@@ -107,12 +106,29 @@ impl<'t, R: Wait, K: PoolIds> Pool<'t, R, K> {
         if !guard.access.shows() || !guard.account.is_at(account) {
             return false;
         }
+        guard.account.look(reader);
+        if !reader.is_done() {
+            return false;
+        }
         guard.access = Access::Closed;
-        let found = &mut *guard.account;
-        found.look(reader);
-        // If it isn't done, the memory is taken until the end.
-        let reset = Command::Does(Event::Reset);
-        let _ = found.perform(self.rt, &self.common, &self.tables, share, &reset);
         true
     }
+
+    /// Frees the memory of an account to which nothing more is done, as a reset does; if memory is refused for that, it isn't.
+    pub fn clear_account<W: Wait>(&self, rt: &W, account: usize, share: &mut Share<K>)
+        requires within { account < K.accounts }
+    {
+        let mut guard = self.places[account].lock(rt);
+        guard.access = Access::Closed;
+        let reset = Command::Does(Event::Reset);
+        let _ = guard
+            .account
+            .perform(self.rt, &self.common, &self.tables, share, &reset);
+    }
+}
+
+/// What reads the journal of an account for the last time.
+pub trait LastReader: JournalReader {
+    /// Whether it has read it, and needn't come again.
+    fn is_done(&self) -> bool;
 }

@@ -30,6 +30,7 @@ mod working;
 
 pub use answer::Answer;
 pub use counting::MOST_EVENTS;
+pub use founding::LastReader;
 pub use gate::Gate;
 pub use gathering::gather;
 pub use kl1_command::{Command, FirstStep, Performed, Steps};

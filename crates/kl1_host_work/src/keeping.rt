@@ -1,0 +1,204 @@
+// Who keeps the place of an account: restores the account from its file, and is then its scribe.
+
+ghost use Rattle.std.specs.Prelude.{◌<◌};
+
+use crate::connections::Desk;
+use crate::front::{Front, HostEvent};
+use crate::place::Place;
+use crate::restoring::{AccountFile, Standing, stand};
+use crate::running::Telling;
+use crate::start_fault::StartFault;
+use kl1_host_journals::{Keeper, Linked, OpenFault, Scribe};
+use kl1_journal_entries::Journal;
+use kl1_log::{Disk, LogFile};
+use kl1_pool::{JournalReader, LastReader, PoolIds, Share};
+use std::sync::Wait;
+use std::time::Clock;
+
+/// Opens the files of accounts.
+pub trait Opener<D: Disk> {
+    /// The file of the account of this place, with its name.
+    fn open(&self, account: usize) -> Result<AccountFile<D>, OpenFault>;
+}
+
+/// Restores the account of a place from its file.
+fn bring_up<'t, F: Front, W: Wait + Clock, R: Wait, K: PoolIds, D: Disk + Drop, O: Opener<D>>(
+    rt: &W,
+    desk: &Desk<'_, 't, F, R, K>,
+    opener: &O,
+    account: usize,
+    place: &Place,
+    share: &mut Share<K>,
+) -> Result<Standing<D>, StartFault>
+    requires { account < K.accounts }
+{
+    match opener.open(account) {
+        Ok(found) => stand(rt, desk.alloc, desk.pool, account, found, place, share),
+        Err(fault) => Err(StartFault::Unopened { account, fault }),
+    }
+}
+
+/// Takes in that the account of a place can't be restored: one of the start ends the host, any other is told.
+fn tell_fault<'t, F: Front, W: Wait, R: Wait, K: PoolIds>(
+    rt: &W,
+    desk: &Desk<'_, 't, F, R, K>,
+    account: usize,
+    place: &Place,
+    fault: StartFault,
+    is_first: bool,
+) {
+    let was_ended = place.is_ended();
+    if place.end_leave(rt) {
+        desk.front.tell(HostEvent::Left { account });
+        return;
+    }
+    place.fail(rt);
+    if is_first && !was_ended {
+        desk.failing.fail(rt, account, fault);
+    } else if !was_ended {
+        desk.front.tell(HostEvent::Unrestored { account, fault });
+    }
+}
+
+/// Lets all threads see an account that is restored, until it leaves or the host ends, and writes to its file meanwhile. Gives the file back if
+/// the account is still there.
+fn serve_file<'t, F: Front, W: Wait + Clock, R: Wait, K: PoolIds, D: Disk + Drop>(
+    rt: &W,
+    desk: &Desk<'_, 't, F, R, K>,
+    account: usize,
+    standing: Standing<D>,
+    is_first: bool,
+    share: &mut Share<K>,
+) -> Option<LogFile<D>>
+    requires { account < K.accounts }
+{
+    let host = desk.host;
+    let place = host.places.get(account)?;
+    let keeper_place = host.keepers.get(account)?;
+    let Standing { linked, entries } = standing;
+    let Linked {
+        file,
+        notes,
+        receipt,
+    } = linked;
+    if let (Some(room), Some(room_place)) = (file.disk().room(), host.rooms.get(account)) {
+        let _ = room_place.set(rt, room);
+    }
+    keeper_place.put(rt, Keeper::new(notes, receipt));
+    let keeper = keeper_place.get()?;
+    if place.open(rt) {
+        desk.pool.open_account(rt, account, share);
+        desk.front.tell(HostEvent::Restored { account, entries });
+        if is_first && desk.failing.count_in() {
+            desk.front.tell(HostEvent::AllRestored);
+        }
+        let faults = Telling { front: desk.front };
+        let mut scribe = Scribe::new(account, keeper, file);
+        scribe.work(rt, host.syncing.period, &faults);
+        return end_file(rt, desk, account, keeper, scribe.into_file(), share);
+    }
+    end_file(rt, desk, account, keeper, file, share)
+}
+
+/// Gives the file of an account back, unless it has left: then nobody waits for its file any more.
+fn end_file<'t, F: Front, W: Wait, R: Wait, K: PoolIds, D: Disk + Drop>(
+    rt: &W,
+    desk: &Desk<'_, 't, F, R, K>,
+    account: usize,
+    keeper: &Keeper,
+    file: LogFile<D>,
+    share: &mut Share<K>,
+) -> Option<LogFile<D>>
+    requires { account < K.accounts }
+{
+    let place = desk.host.places.get(account)?;
+    if !place.is_leaving(rt) {
+        return Some(file);
+    }
+    keeper.on_disk().stop(rt);
+    // It is closed before anybody is told that it may be moved.
+    drop(file);
+    desk.pool.clear_account(rt, account, share);
+    let _ = place.end_leave(rt);
+    desk.front.tell(HostEvent::Left { account });
+    None
+}
+
+/// Waits for the account of a place to come, restores it from its file, and writes to that until the account leaves or the host ends: then
+/// the file is given back. `is_first` tells whether the account is one of the start.
+pub(crate) fn keep<'t, F: Front, W: Wait + Clock, R: Wait, K: PoolIds, D: Disk + Drop, O: Opener<D>>(
+    rt: &W,
+    desk: &Desk<'_, 't, F, R, K>,
+    opener: &O,
+    account: usize,
+    is_first: bool,
+    share: Share<K>,
+) -> Option<LogFile<D>> {
+    let mut share = share;
+    let mut is_first = is_first;
+    let place = desk.host.places.get(account)?;
+    if account >= desk.pool.accounts() {
+        return None;
+    }
+    for _ in rt.forever() {
+        if !place.await_order(rt) {
+            return None;
+        }
+        match bring_up(rt, desk, opener, account, place, &mut share) {
+            Ok(standing) => {
+                return serve_file(rt, desk, account, standing, is_first, &mut share);
+            }
+            Err(fault) => {
+                if place.is_leaving(rt) {
+                    desk.pool.clear_account(rt, account, &mut share);
+                }
+                tell_fault(rt, desk, account, place, fault, is_first);
+            }
+        }
+        is_first = false;
+    }
+    None
+}
+
+/// Notes the journal of an account that leaves.
+#[derive(Drop)]
+struct LastNote<'k, W: Wait> {
+    rt: &'k W,
+    keeper: &'k Keeper,
+    is_noted: bool,
+}
+
+impl<'k, W: Wait> JournalReader for LastNote<'k, W> {
+    ghost reads = { λ before after journal ended. Unit {0} };
+
+    fn read(&mut self, journal: &Journal, ended: u64) {
+        self.is_noted = self.keeper.note(self.rt, journal, ended).is_ok();
+    }
+}
+
+impl<'k, W: Wait> LastReader for LastNote<'k, W> {
+    fn is_done(&self) -> bool {
+        self.is_noted
+    }
+}
+
+/// Ends what is done to the account of a place that is leaving: what was done to it is noted a last time, and its scribe writes that and ends.
+/// It waits for an account that is in the midst of a reduction. If memory is refused, it is to be called again.
+pub(crate) fn close_up<'t, F: Front, W: Wait, R: Wait, K: PoolIds>(
+    rt: &W,
+    desk: &Desk<'_, 't, F, R, K>,
+    account: usize,
+)
+    requires { account < K.accounts }
+{
+    if let Some(keeper) = desk.host.keeper(account) {
+        let mut last = LastNote {
+            rt,
+            keeper,
+            is_noted: false,
+        };
+        if desk.pool.close_account(rt, account, &mut last) {
+            keeper.bell().end(rt);
+        }
+    }
+}
