@@ -5,9 +5,11 @@ use crate::program::Program;
 use crate::web::disk_of;
 use kl1_host_front::{Number, put_account_status, put_host};
 use kl1_host_web::{LoginKeys, Machine};
-use kl1_host_work::{HostView, Performer};
+use kl1_host_work::{HostView, Performer, Standing, Steering};
+use kl1_lines::put_decimal;
 use kl1_session::Key;
 use std::alloc::AllocError;
+use std::fs::File;
 use std::random::RandomSource;
 use std::rt::Files;
 use std::sync::Wait;
@@ -15,9 +17,9 @@ use std::time::Clock;
 
 /// The program with what can be seen of its host, and what does commands for it.
 #[derive(Drop)]
-pub struct Attending<'p, 'f, R, K: LoginKeys, P: Performer, V: HostView>
+pub struct Attending<'p, 'f, R, K: LoginKeys, P: Performer, V: HostView + Steering>
 where
-    R: Wait + Clock + Eprint + Files + RandomSource,
+    R: Wait + Clock + Eprint + Files<File = File> + RandomSource,
 {
     pub program: &'p Program<'f, R, K>,
     pub performer: &'p mut P,
@@ -31,14 +33,46 @@ fn number(name: &'static [u8], number: u64) -> Number<'static> {
     Number { name, number }
 }
 
-impl<R, K: LoginKeys, P: Performer, V: HostView> Attending<'_, '_, R, K, P, V>
+/// The word for an account that isn't there, and how many of its events are done of how many; `None` if it is there.
+fn word_of(standing: Standing) -> Option<(&'static [u8], u64, u64)> {
+    match standing {
+        Standing::Open => None,
+        Standing::Restores { done, all } => Some((b"restores", done, all)),
+        Standing::Fails => Some((b"fails", 0, 0)),
+        Standing::Leaving => Some((b"leaves", 0, 0)),
+        Standing::Free | Standing::Left => Some((b"left", 0, 0)),
+    }
+}
+
+/// Puts the line of an account that isn't there.
+fn put_standing(
+    out: &mut Vec<u8>,
+    name: &[u8],
+    word: &[u8],
+    done: u64,
+    all: u64,
+) -> Result<(), AllocError> {
+    out.extend_from_slice(b"account ")?;
+    out.extend_from_slice(name)?;
+    if all > 0 {
+        out.extend_from_slice(b" done ")?;
+        put_decimal(out, done)?;
+        out.extend_from_slice(b" all ")?;
+        put_decimal(out, all)?;
+    }
+    out.extend_from_slice(b" ")?;
+    out.extend_from_slice(word)?;
+    out.extend_from_slice(b"\n")
+}
+
+impl<R, K: LoginKeys, P: Performer, V: HostView + Steering> Attending<'_, '_, R, K, P, V>
 where
-    R: Wait + Clock + Eprint + Files + RandomSource,
+    R: Wait + Clock + Eprint + Files<File = File> + RandomSource,
 {
     /// Whether some account is in the midst of a reduction for long.
     fn is_some_busy(&self) -> bool {
         self.host.ask_all();
-        for account in 0..self.program.keys.len() {
+        for account in 0..self.program.keys.keys().len() {
             if self.host.is_busy(account) {
                 return true;
             }
@@ -50,6 +84,9 @@ where
     fn put_account(&self, out: &mut Vec<u8>, account: usize, key: &Key) -> Result<(), AllocError> {
         let program = self.program;
         let name = key.name.as_slice();
+        if let Some((word, done, all)) = word_of(self.host.standing(account)) {
+            return put_standing(out, name, word, done, all);
+        }
         let (sight, age) = self.host.sight(account);
         let Some(sight) = sight else {
             // It was in the midst of a reduction since the start.
@@ -78,9 +115,9 @@ where
     }
 }
 
-impl<R, K: LoginKeys, P: Performer, V: HostView> Attendant for Attending<'_, '_, R, K, P, V>
+impl<R, K: LoginKeys, P: Performer, V: HostView + Steering> Attendant for Attending<'_, '_, R, K, P, V>
 where
-    R: Wait + Clock + Eprint + Files + RandomSource,
+    R: Wait + Clock + Eprint + Files<File = File> + RandomSource,
 {
     fn put_status(&self, out: &mut Vec<u8>) -> Result<(), AllocError> {
         let seconds = match self.program.begun.elapsed(self.program.rt) {
@@ -93,8 +130,11 @@ where
         ];
         put_host(out, &numbers)?;
         self.host.ask_all();
-        for (account, key) in self.program.keys.iter().enumerate() {
-            self.put_account(out, account, key)?;
+        for (account, key) in self.program.keys.keys().iter().enumerate() {
+            // One that was removed has no name.
+            if !key.name.is_empty() {
+                self.put_account(out, account, key)?;
+            }
         }
         Ok(())
     }
@@ -109,5 +149,17 @@ where
                 self.program.end_idle(self.performer, self.host);
             }
         }
+    }
+
+    fn is_over(&self) -> bool {
+        self.host.has_failed()
+    }
+
+    fn reload(&mut self, settings: bool, out: &mut Vec<u8>) -> Result<(), AllocError> {
+        self.read_anew(settings, out)
+    }
+
+    fn close(&mut self, name: &[u8], out: &mut Vec<u8>) -> Result<(), AllocError> {
+        self.send_away(name, out)
     }
 }

@@ -1,26 +1,29 @@
 // What a host asks of this program.
 
-ghost use Rattle.std.specs.Prelude.{◌≡◌};
-ghost use Rattle.kl1_session.specs.Views.{entries_view};
-ghost use Rattle.kl1_host_front.specs.Sums.{opened_by_sum};
-ghost use Rattle.kl1_host_work.specs.Fronts.{names_in};
+ghost use Rattle.std.specs.Prelude.{◌≡◌, []};
 ghost use Rattle.kl1_host.specs.Ends.{end_word};
 
 use crate::attending::Attending;
 use crate::control::answer_until_stop;
+use crate::fault::Fault;
+use crate::keyring::Keyring;
 use crate::log::Log;
 use crate::logins::LoginLog;
 use crate::machine::ThisMachine;
 use crate::paces::{PacedLine, Paces};
-use crate::started::note_started;
+use crate::start_words::start_fault;
+use crate::started::{Arrivals, note_started};
 use crate::web::{WebAccounts, is_local};
-use kl1_host_front::{Field, Number, Pauses, PausingDoor, address_number};
+use kl1_host_front::{Field, Number, Pauses, PausingDoor, Settings, address_number};
 use kl1_host_web::{AskedRecord, LoginKeys, Page, Service, SessionBook, Site};
-use kl1_host_work::{Front, HostEvent, HostView, Listeners, Performer};
+use kl1_host_work::{
+    Front, HostEvent, HostView, Listeners, Performer, StartFault, Steering,
+};
 use kl1_lines::{Sink, Source};
 use kl1_log::LogError;
-use kl1_session::{Disconnect, Key};
+use kl1_session::Disconnect;
 use std::alloc::{AllocError, Global};
+use std::fs::File;
 use std::io::Write;
 use std::net::{Ipv4Addr, SocketAddr, SocketAddrV4, TcpListener};
 use std::os::unix::net::{UnixListener, UnixStream};
@@ -31,22 +34,22 @@ use std::time::{Clock, Instant};
 
 /// The program around a host.
 #[derive(Drop)]
-pub struct Program<'f, R: Wait + Clock + Eprint + Files + RandomSource, K: LoginKeys> {
+pub struct Program<'f, R: Wait + Clock + Eprint + Files<File = File> + RandomSource, K: LoginKeys> {
     pub rt: &'f R,
     pub alloc: Global,
     pub folder: &'f str,
-    pub keys: &'f [Key],
-    /// How many bytes an account may take in memory, its journal may have on disk, and its sources may have.
-    pub memory_each: u64,
-    pub disk_each: u64,
-    pub codes_each: u64,
+    pub keys: &'f Keyring,
+    /// What was set at the start.
+    pub settings: &'f Settings,
+    /// What is set now, of what may change.
+    pub set: &'f Mutex<SetNow>,
+    /// Which accounts are there, and whether all of the start have come.
+    pub arrivals: &'f Mutex<Arrivals>,
     pub pauses: &'f Mutex<Pauses>,
     /// The sessions of browsers.
     pub sessions: &'f Mutex<SessionBook<K>>,
     /// The names by which browsers know the host.
     pub sites: &'f [Site],
-    /// After how many seconds without a request a browser's session ends.
-    pub idle: u64,
     pub machine: ThisMachine<'f, R>,
     pub paces: &'f Paces,
     pub log: &'f Log<'f, R>,
@@ -56,8 +59,27 @@ pub struct Program<'f, R: Wait + Clock + Eprint + Files + RandomSource, K: Login
     pub begun: Instant,
     /// Who asked it to stop, and waits for its end.
     pub asker: &'f Mutex<Option<UnixStream>>,
-    /// The sessions are opened by these keys.
-    pub ghost are_keys: { opened_by_sum (entries_view keys.now) ≡ K.opens },
+}
+
+/// What is set of a host, of what may change while it runs.
+#[derive(Clone, Copy)]
+pub struct SetNow {
+    /// After how many seconds without a request a browser's session ends.
+    pub idle: u64,
+    /// How many bytes the journal of an account may have on disk, and its sources may have.
+    pub disk_each: u64,
+    pub codes_each: u64,
+}
+
+impl SetNow {
+    /// What settings say.
+    pub fn of(settings: &Settings) -> Self {
+        SetNow {
+            idle: settings.idle.div_ceil(1_000),
+            disk_each: settings.disk_each,
+            codes_each: settings.codes_each,
+        }
+    }
 }
 
 /// The word for how a connection ended.
@@ -71,19 +93,18 @@ fn end_of(ended: Disconnect) -> &'static [u8]
     }
 }
 
-impl<'f, R: Wait + Clock + Eprint + Files + RandomSource, K: LoginKeys> Program<'f, R, K> {
+impl<'f, R: Wait + Clock + Eprint + Files<File = File> + RandomSource, K: LoginKeys> Program<'f, R, K> {
     /// Who lets in whoever connects from this address.
-    fn door_of(&self, address: SocketAddr) -> PausingDoor<'f, R, LoginLog<'f, R>>
-        ensures { result.keys.now ≡ self.now.keys.now }
-    {
+    fn door_of(&self, address: SocketAddr) -> PausingDoor<'f, R, LoginLog<'f, R>> {
+        let keys = self.keys.keys();
         PausingDoor {
             rt: self.rt,
-            keys: self.keys,
+            keys,
             pauses: self.pauses,
             address: address_number(address.ip()),
             teller: LoginLog {
                 log: self.log,
-                accounts: self.keys,
+                accounts: keys,
                 address,
             },
         }
@@ -95,14 +116,12 @@ impl<'f, R: Wait + Clock + Eprint + Files + RandomSource, K: LoginKeys> Program<
         address: SocketAddr,
         performer: &'p mut P,
         host: &'w V,
-    ) -> WebAccounts<'p, 'w, 'f, R, P, V>
-        ensures { result.door.keys.now ≡ self.now.keys.now }
-    {
+    ) -> WebAccounts<'p, 'w, 'f, R, P, V> {
         WebAccounts {
             rt: self.rt,
             alloc: self.alloc,
             folder: self.folder,
-            most_bytes: self.memory_each,
+            most_bytes: self.settings.memory_each,
             door: self.door_of(address),
             performer,
             host,
@@ -119,7 +138,7 @@ impl<'f, R: Wait + Clock + Eprint + Files + RandomSource, K: LoginKeys> Program<
             page: Page {
                 sessions: self.sessions,
                 sites: self.sites,
-                idle: self.idle,
+                idle: self.set.lock(self.rt).idle,
             },
             is_local,
         }
@@ -133,9 +152,79 @@ impl<'f, R: Wait + Clock + Eprint + Files + RandomSource, K: LoginKeys> Program<
         self.service(true).end_idle(&mut accounts);
     }
 
+    /// Ends the sessions of browsers of an account.
+    pub fn end_account<P: Performer, V: HostView>(
+        &self,
+        performer: &mut P,
+        host: &V,
+        account: usize,
+    ) {
+        // As in `end_idle`.
+        let address = SocketAddr::V4(SocketAddrV4::new(Ipv4Addr::LOCALHOST, 0));
+        let mut accounts = self.accounts_of(address, performer, host);
+        self.service(true).end_account(&mut accounts, account);
+    }
+
+    /// Takes in what is set anew.
+    pub fn set_amounts(&self, settings: &Settings) {
+        *self.set.lock(self.rt) = SetNow::of(settings);
+    }
+
+    /// Takes in that an account is there, or isn't any more, and notes which have started, once all of the start have come. If that can't be
+    /// noted, a later start doesn't miss one.
+    fn note_arrival(&self, account: usize, is_there: bool) {
+        let mut guard = self.arrivals.lock(self.rt);
+        let arrivals = &mut *guard;
+        if let Some(place) = arrivals.are_there.get_mut(account) {
+            *place = is_there;
+        }
+        self.note_all(arrivals);
+    }
+
+    /// Takes in that all accounts of the start have come.
+    fn note_ready(&self) {
+        let mut guard = self.arrivals.lock(self.rt);
+        let arrivals = &mut *guard;
+        arrivals.is_ready = true;
+        self.note_all(arrivals);
+    }
+
+    /// Notes which accounts have started: each has a journal on the disk, if only its heading.
+    fn note_all(&self, arrivals: &Arrivals) {
+        if arrivals.is_ready {
+            let _ = note_started(
+                self.rt,
+                self.alloc,
+                self.folder,
+                self.keys.keys(),
+                &arrivals.are_there,
+            );
+        }
+    }
+
+    /// Tells that an account which came while the host runs can't be restored, and why.
+    fn tell_unrestored(&self, account: usize, fault: StartFault) {
+        let name = self.name_of(account);
+        let who = Field {
+            name: b"account",
+            value: name,
+        };
+        let keys = self.keys.keys();
+        match start_fault(self.rt, self.alloc, self.folder, keys, fault) {
+            Ok(Fault::Words(_, words)) => {
+                let why = Field {
+                    name: b"error",
+                    value: words.as_bytes(),
+                };
+                self.log.tell(b"unrestored", &[who, why]);
+            }
+            _ => self.log.tell(b"unrestored", &[who]),
+        }
+    }
+
     /// The name of an account, by its number.
-    pub fn name_of(&self, account: usize) -> &[u8] {
-        match self.keys.get(account) {
+    pub fn name_of(&self, account: usize) -> &'f [u8] {
+        match self.keys.keys().get(account) {
             Some(key) => key.name.as_slice(),
             None => b"",
         }
@@ -178,7 +267,7 @@ impl<'f, R: Wait + Clock + Eprint + Files + RandomSource, K: LoginKeys> Program<
         };
         let most = Number {
             name: b"memory_each",
-            number: self.memory_each,
+            number: self.settings.memory_each,
         };
         self.log
             .tell_account(event, self.name_of(account), &[taken, most]);
@@ -211,7 +300,7 @@ impl<'f, R: Wait + Clock + Eprint + Files + RandomSource, K: LoginKeys> Program<
     fn tell_disk(&self, event: &[u8], account: usize) {
         let most = Number {
             name: b"disk_each",
-            number: self.disk_each,
+            number: self.set.lock(self.rt).disk_each,
         };
         self.log.tell_account(event, self.name_of(account), &[most]);
     }
@@ -220,7 +309,7 @@ impl<'f, R: Wait + Clock + Eprint + Files + RandomSource, K: LoginKeys> Program<
     fn tell_codes(&self, account: usize) {
         let most = Number {
             name: b"codes_each",
-            number: self.codes_each,
+            number: self.set.lock(self.rt).codes_each,
         };
         self.log
             .tell_account(b"codes_full", self.name_of(account), &[most]);
@@ -238,22 +327,22 @@ impl<'f, R: Wait + Clock + Eprint + Files + RandomSource, K: LoginKeys> Program<
         }
     }
 
-    /// Tells that a host is ready, and where.
-    fn tell_ready(&self) -> Result<(), AllocError> {
+    /// Tells an event of a host with where it listens.
+    fn tell_where(&self, event: &[u8]) -> Result<(), AllocError> {
         let listen = local_of(self.alloc, self.listeners.clients)?;
         let listen = Field {
             name: b"listen",
             value: listen.as_bytes(),
         };
         match self.listeners.browsers {
-            None => self.log.tell(b"ready", &[listen]),
+            None => self.log.tell(event, &[listen]),
             Some(browsers) => {
                 let web = local_of(self.alloc, browsers)?;
                 let web = Field {
                     name: b"web",
                     value: web.as_bytes(),
                 };
-                self.log.tell(b"ready", &[listen, web]);
+                self.log.tell(event, &[listen, web]);
             }
         }
         Ok(())
@@ -280,21 +369,33 @@ fn local_of(alloc: Global, listener: &TcpListener) -> Result<String, AllocError>
 
 impl<'f, R, K> Front for Program<'f, R, K>
 where
-    R: Wait + Clock + Eprint + Files + RandomSource + Sync,
+    R: Wait + Clock + Eprint + Files<File = File> + RandomSource + Sync,
     K: LoginKeys + Send + Sync,
 {
     type Entrance = PausingDoor<'f, R, LoginLog<'f, R>>;
 
-    ghost names = { λ p. names_in (entries_view p.keys.now) };
+    // To come: the names that places were given, each once.
+    ghost names = { λ p. [] };
 
-    #[tactic(auto, using(crate::proofs::Doors::opened_by_name, kl1_host_work::proofs::NamesInOrder::length_names))]
     fn door(&self, address: SocketAddr) -> PausingDoor<'f, R, LoginLog<'f, R>> {
         self.door_of(address)
     }
 
     fn tell(&self, event: HostEvent) {
         match event {
-            HostEvent::Restored { account, entries } => self.tell_restored(account, entries),
+            HostEvent::Restored { account, entries } => {
+                self.tell_restored(account, entries);
+                self.note_arrival(account, true);
+            }
+            HostEvent::AllRestored => {
+                self.note_ready();
+                let _ = self.tell_where(b"ready");
+            }
+            HostEvent::Unrestored { account, fault } => self.tell_unrestored(account, fault),
+            HostEvent::Left { account } => {
+                self.tell_of(b"left", account);
+                self.note_arrival(account, false);
+            }
             HostEvent::Opened(_) => {}
             HostEvent::TurnedAway(address) => self.log.tell_of(b"turned_away", address, &[]),
             HostEvent::Unserved(address) => {
@@ -339,10 +440,8 @@ where
             .serve(source, sink, &mut accounts);
     }
 
-    fn attend<P: Performer, V: HostView>(&self, performer: &mut P, host: &V) {
-        // Each has a journal on the disk now, if only its heading. If that can't be noted, a later start doesn't miss one.
-        let _ = note_started(self.rt, self.alloc, self.folder, self.keys);
-        let _ = self.tell_ready();
+    fn attend<P: Performer, V: HostView + Steering>(&self, performer: &mut P, host: &V) {
+        let _ = self.tell_where(b"listening");
         let mut attending = Attending {
             program: self,
             performer,
@@ -350,7 +449,9 @@ where
             last: 0,
         };
         let asker = answer_until_stop(self.rt, self.alloc, self.socket, &mut attending);
-        *self.asker.lock(self.rt) = Some(asker);
-        self.log.tell(b"stop", &[]);
+        if let Some(asker) = asker {
+            *self.asker.lock(self.rt) = Some(asker);
+            self.log.tell(b"stop", &[]);
+        }
     }
 }

@@ -31,8 +31,7 @@ fn bad_settings(alloc: Global, path: &str, bad: &BadSettings) -> Result<Fault, F
 }
 
 /// What the host of a folder is set to.
-pub fn settings_of<R: Files + AllocGlobal>(rt: &R, folder: &str) -> Result<Settings, Fault> {
-    let alloc = rt.alloc();
+pub fn settings_of<R: Files>(rt: &R, alloc: Global, folder: &str) -> Result<Settings, Fault> {
     let path = path_in(alloc, folder, SETTINGS)?;
     if let Err(error) = refuse_pipe(rt, path.as_str()) {
         return Err(fault_in_folder(alloc, path.as_str(), &error));

@@ -174,6 +174,8 @@ pub enum SessionTest {
     IsCalled([u8; SECRET_BYTES]),
     /// Whether its last request was before this second.
     IsIdle(u64),
+    /// Whether it is of the account of this number.
+    IsOf(usize),
 }
 
 /// Whether a session passes a test.
@@ -183,6 +185,7 @@ fn passes(test: SessionTest, session: &WebSession) -> bool
     match test {
         SessionTest::IsCalled(id) => is_same_key(&session.id, &id),
         SessionTest::IsIdle(before) => session.last < before,
+        SessionTest::IsOf(account) => session.account == account,
     }
 }
 

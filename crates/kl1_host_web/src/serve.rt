@@ -159,6 +159,23 @@ impl<'p, R: Wait, M: Machine, K: LoginKeys> Service<'p, R, M, K> {
         }
     }
 
+    /// Ends the sessions of browsers of an account: each is taken out of the book and logged out, until there is none.
+    pub fn end_account<A: Accounts>(&self, accounts: &mut A, account: usize)
+        ensures house { A.house accounts.new ≡ A.house accounts.old }
+    {
+        for _ in self.rt.forever() {
+            let mut guard = self.page.sessions.lock(self.rt);
+            let book = &mut *guard;
+            let (session, change) = book.take(SessionTest::IsOf(account));
+            accounts.note_change(change);
+            drop(guard);
+            match session {
+                Some(session) => log_out(accounts, session.account),
+                None => return,
+            }
+        }
+    }
+
     /// Begins the session of a browser to which a session of its account is open. If it can't begin, or can't be told, that is closed again,
     /// so that a login that fails leaves nothing open.
     fn begin<A: Accounts>(&self, accounts: &mut A, account: usize) -> Result<Answer, AllocError>
