@@ -20,6 +20,12 @@ pub const STARTED: &str = "started";
 /// These names while they are written anew.
 pub const NEW_STARTED: &str = "started.new";
 
+/// The file that who changes the accounts has locked.
+pub const ACCOUNTS_LOCK: &str = "accounts.lock";
+
+/// The folder of accounts that were exported.
+pub const EXPORTED: &str = "exported";
+
 /// The folder of the journals.
 pub const JOURNALS: &str = "journals";
 

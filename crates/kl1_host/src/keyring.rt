@@ -49,6 +49,38 @@ impl Keyring {
         }
     }
 
+    /// What the account of a place is called, or was.
+    pub fn name_of(&self, account: usize) -> &[u8] {
+        let last = self.last.load(Ordering::SeqCst);
+        for back in 0..last.saturating_add(1) {
+            if let Some(edition) = self.editions.get(last.saturating_sub(back))
+                && let Some(keys) = edition.get()
+                && let Some(key) = keys.get(account)
+                && !key.name.is_empty()
+            {
+                return key.name.as_slice();
+            }
+        }
+        b""
+    }
+
+    /// The place of the account that was called so last, in any edition.
+    pub fn place_of(&self, name: &[u8]) -> Option<usize> {
+        if name.is_empty() {
+            return None;
+        }
+        let last = self.last.load(Ordering::SeqCst);
+        for back in 0..last.saturating_add(1) {
+            if let Some(edition) = self.editions.get(last.saturating_sub(back))
+                && let Some(keys) = edition.get()
+                && let Some(place) = keys.iter().rposition(|key| key.name.as_slice() == name)
+            {
+                return Some(place);
+            }
+        }
+        None
+    }
+
     /// Adds an edition; `false` if there are as many as may be. One thread at a time adds some.
     pub fn add<W: Wait>(&self, rt: &W, keys: Vec<Key>) -> bool {
         let next = self.last.load(Ordering::SeqCst).saturating_add(1);

@@ -224,10 +224,7 @@ impl<'f, R: Wait + Clock + Eprint + Files<File = File> + RandomSource, K: LoginK
 
     /// The name of an account, by its number.
     pub fn name_of(&self, account: usize) -> &'f [u8] {
-        match self.keys.keys().get(account) {
-            Some(key) => key.name.as_slice(),
-            None => b"",
-        }
+        self.keys.name_of(account)
     }
 
     /// Tells that an account is restored.

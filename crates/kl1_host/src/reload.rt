@@ -197,21 +197,18 @@ where
 
     /// Lets the account of this name leave, and puts how far that is: nothing is changed in files. The first time its sessions end.
     pub fn send_away(&mut self, name: &[u8], out: &mut Vec<u8>) -> Result<(), AllocError> {
-        let mut word: &[u8] = b"unknown\n";
-        for account in 0..self.program.keys.keys().len() {
-            if self.program.name_of(account) != name || name.is_empty() {
-                continue;
+        let Some(account) = self.program.keys.place_of(name) else {
+            return out.extend_from_slice(b"unknown\n");
+        };
+        self.host.send_away(account);
+        let word: &[u8] = match self.host.standing(account) {
+            Standing::Left | Standing::Free => b"left\n",
+            _ => {
+                self.program
+                    .end_account(self.performer, self.host, account);
+                b"leaving\n"
             }
-            self.host.send_away(account);
-            word = match self.host.standing(account) {
-                Standing::Left | Standing::Free => b"left\n",
-                _ => {
-                    self.program
-                        .end_account(self.performer, self.host, account);
-                    b"leaving\n"
-                }
-            };
-        }
+        };
         out.extend_from_slice(word)
     }
 }

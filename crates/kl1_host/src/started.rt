@@ -11,7 +11,7 @@ use std::os::unix::fs::OpenOptionsExt;
 use std::rt::Files;
 
 /// The names of accounts that have started before, each with a line feed; none if there is no such file.
-fn names_in<R: Files + AllocGlobal>(rt: &R, folder: &str) -> Result<Vec<u8>, Fault> {
+pub fn names_in<R: Files + AllocGlobal>(rt: &R, folder: &str) -> Result<Vec<u8>, Fault> {
     let alloc = rt.alloc();
     let path = path_in(alloc, folder, STARTED)?;
     match fs::read(rt, path.as_str()) {
