@@ -68,3 +68,10 @@ pub fn read_file<R: Files>(rt: &R, alloc: Global, path: &str) -> io::Result<Vec<
     File::open(rt, path)?.read_to_end(&mut bytes)?;
     Ok(bytes)
 }
+
+/// The text that a file holds.
+pub fn read_text<R: Files>(rt: &R, alloc: Global, path: &str) -> io::Result<String> {
+    let mut text = String::new(alloc);
+    File::open(rt, path)?.read_to_string(&mut text)?;
+    Ok(text)
+}

@@ -210,15 +210,15 @@ impl<'f, R: Wait + Clock + Eprint + Files<File = File> + RandomSource, K: LoginK
             value: name,
         };
         let keys = self.keys.keys();
-        match start_fault(self.rt, self.alloc, self.folder, keys, fault) {
-            Ok(Fault::Words(_, words)) => {
-                let why = Field {
-                    name: b"error",
-                    value: words.as_bytes(),
-                };
-                self.log.tell(b"unrestored", &[who, why]);
-            }
-            _ => self.log.tell(b"unrestored", &[who]),
+        let told = start_fault(self.rt, self.alloc, self.folder, keys, fault);
+        if let Ok(Fault::Words(_, words)) = &told {
+            let why = Field {
+                name: b"error",
+                value: words.as_bytes(),
+            };
+            self.log.tell(b"unrestored", &[who, why]);
+        } else {
+            self.log.tell(b"unrestored", &[who]);
         }
     }
 

@@ -27,7 +27,7 @@ pub fn put_fault(out: &mut Vec<u8>, fault: &Fault) -> Result<(), AllocError> {
         Fault::Lines(lines) => out.extend_from_slice(lines.as_slice())?,
         _ => out.extend_from_slice(b"memory was refused")?,
     }
-    out.push(b'\n')
+    out.extend_from_slice(b"\n")
 }
 
 /// What settings say that may be set while a host runs.

@@ -1,10 +1,9 @@
 // The settings of a folder.
 
 use crate::fault::{BAD, Fault, fault_in_folder};
-use crate::folder::{SETTINGS, path_in, refuse_pipe};
+use crate::folder::{SETTINGS, path_in, read_text, refuse_pipe};
 use kl1_host_front::{BadSettings, Settings, settings_in};
 use std::alloc::Global;
-use std::fs;
 use std::rt::Files;
 
 /// The words for settings that aren't taken.
@@ -36,7 +35,7 @@ pub fn settings_of<R: Files>(rt: &R, alloc: Global, folder: &str) -> Result<Sett
     if let Err(error) = refuse_pipe(rt, path.as_str()) {
         return Err(fault_in_folder(alloc, path.as_str(), &error));
     }
-    let text = match fs::read_to_string(rt, path.as_str()) {
+    let text = match read_text(rt, alloc, path.as_str()) {
         Ok(text) => text,
         Err(error) => return Err(fault_in_folder(alloc, path.as_str(), &error)),
     };

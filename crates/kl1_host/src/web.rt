@@ -240,6 +240,10 @@ impl<'w, R: Wait + Clock + Eprint + Files, P: Performer, V: HostView> Accounts
         self.record.changed(change);
     }
 
+    fn restoring(&self, account: usize) -> Option<(u64, u64)> {
+        self.host.restoring(account)
+    }
+
     fn measures(&self, account: usize) -> Measures {
         let bytes = match self.door.keys.get(account) {
             Some(key) => disk_of(self.rt, self.alloc, self.folder, key.name.as_slice()),

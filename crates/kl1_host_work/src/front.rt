@@ -87,6 +87,9 @@ pub trait HostView {
     /// Whether an account's file gets nothing more, and the account no commands.
     fn is_stopped(&self, account: usize) -> bool;
 
+    /// How many events are done of how many, if an account is being restored.
+    fn restoring(&self, account: usize) -> Option<(u64, u64)>;
+
     /// How many connections are open.
     fn connections(&self) -> usize;
 

@@ -5,6 +5,7 @@ ghost use Rattle.std.specs.Prelude.{◌<◌};
 use crate::connections::Desk;
 use crate::front::{Front, HostView, Sight};
 use crate::noting::note_told;
+use crate::place::Standing;
 use crate::visit::{Visit, now_of};
 use kl1_host_journals::Outgoing;
 use kl1_journal_entries::Journal;
@@ -85,6 +86,13 @@ impl<F: Front, N: Wait + Clock, R: Wait, K: PoolIds> HostView for View<'_, '_, '
         match self.desk.host.keeper(account) {
             Some(keeper) => keeper.on_disk().is_stopped(),
             None => true,
+        }
+    }
+
+    fn restoring(&self, account: usize) -> Option<(u64, u64)> {
+        match self.desk.host.places.get(account)?.standing(self.rt) {
+            Standing::Restores { done, all } => Some((done, all)),
+            _ => None,
         }
     }
 
