@@ -28,10 +28,10 @@ pub fn let_go(rt: &HostRuntime, folder: &str, name: &str) -> Result<Option<File>
         }
         // One that starts doesn't answer yet.
         if let Some(answer) = asked_of(rt, folder, line.as_str())? {
-            if answer.as_slice() == b"left\n" || answer.as_slice() == b"unknown\n" {
+            if answer.as_slice() == b"left\n".as_slice() || answer.as_slice() == b"unknown\n".as_slice() {
                 return Ok(None);
             }
-            if answer.as_slice() != b"leaving\n" && !answer.is_empty() {
+            if answer.as_slice() != b"leaving\n".as_slice() && !answer.is_empty() {
                 let words = format!(in alloc; "{folder}: the host there is another version")?;
                 return Err(Fault::Words(BAD, words));
             }
