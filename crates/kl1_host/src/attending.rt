@@ -3,11 +3,14 @@
 use crate::control::Attendant;
 use crate::program::Program;
 use crate::web::disk_of;
+use kl1_command::Command;
 use kl1_host_front::{Number, put_account_status, put_host};
 use kl1_host_web::{LoginKeys, Machine};
 use kl1_host_work::{HostView, Performer, Standing, Steering};
 use kl1_lines::put_decimal;
+use kl1_model::limits::MOST_ACCOUNTS;
 use kl1_session::Key;
+use kl1_user_events::Event;
 use std::alloc::AllocError;
 use std::fs::File;
 use std::random::RandomSource;
@@ -26,6 +29,8 @@ where
     pub host: &'p V,
     /// The second in which sessions of browsers were looked at last.
     pub last: u64,
+    /// How many sessions of browsers of each account were taken out of the book, and aren't logged out of yet.
+    pub logouts: [u64; MOST_ACCOUNTS],
 }
 
 /// A number with its name.
@@ -78,6 +83,40 @@ where
             }
         }
         false
+    }
+
+    /// Takes the sessions of browsers of an account out of the book.
+    pub fn forget_browsers(&mut self, account: usize) {
+        let count = self
+            .program
+            .forget_account(self.performer, self.host, account);
+        if let Some(logouts) = self.logouts.get_mut(account) {
+            *logouts = logouts.saturating_add(count);
+        }
+    }
+
+    /// Logs out of sessions that were taken out of the book, of accounts that are there and in no long reduction.
+    fn log_out(&mut self) {
+        for account in 0..self.logouts.len() {
+            let count = self.logouts[account];
+            if count == 0 {
+                continue;
+            }
+            if !matches!(self.host.standing(account), Standing::Open) {
+                self.logouts[account] = 0;
+                continue;
+            }
+            self.host.ask_all();
+            if self.host.is_busy(account) {
+                continue;
+            }
+            self.logouts[account] = 0;
+            for _ in 0..count {
+                let _ = self
+                    .performer
+                    .perform(account, &Command::Does(Event::Logout));
+            }
+        }
     }
 
     /// Puts the line of an account after others.
@@ -144,6 +183,7 @@ where
         let second = self.program.machine.seconds();
         if second != self.last {
             self.last = second;
+            self.log_out();
             // A logout waits for its account, and who asks isn't to wait for that: they are ended later.
             if !self.is_some_busy() {
                 self.program.end_idle(self.performer, self.host);

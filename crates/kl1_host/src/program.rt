@@ -21,6 +21,7 @@ use kl1_host_work::{
 };
 use kl1_lines::{Sink, Source};
 use kl1_log::LogError;
+use kl1_model::limits::MOST_ACCOUNTS;
 use kl1_session::Disconnect;
 use std::alloc::{AllocError, Global};
 use std::fs::File;
@@ -152,17 +153,17 @@ impl<'f, R: Wait + Clock + Eprint + Files<File = File> + RandomSource, K: LoginK
         self.service(true).end_idle(&mut accounts);
     }
 
-    /// Ends the sessions of browsers of an account.
-    pub fn end_account<P: Performer, V: HostView>(
+    /// Takes the sessions of browsers of an account out of the book; answers how many.
+    pub fn forget_account<P: Performer, V: HostView>(
         &self,
         performer: &mut P,
         host: &V,
         account: usize,
-    ) {
+    ) -> u64 {
         // As in `end_idle`.
         let address = SocketAddr::V4(SocketAddrV4::new(Ipv4Addr::LOCALHOST, 0));
         let mut accounts = self.accounts_of(address, performer, host);
-        self.service(true).end_account(&mut accounts, account);
+        self.service(true).forget_account(&mut accounts, account)
     }
 
     /// Takes in what is set anew.
@@ -444,6 +445,7 @@ where
             performer,
             host,
             last: 0,
+            logouts: [0; MOST_ACCOUNTS],
         };
         let asker = answer_until_stop(self.rt, self.alloc, self.socket, &mut attending);
         if let Some(asker) = asker {

@@ -169,8 +169,7 @@ where
             self.host.send_away(*account);
         }
         for account in &changed {
-            self.program
-                .end_account(self.performer, self.host, *account);
+            self.forget_browsers(*account);
         }
         for account in &added {
             let _ = self.host.bring(*account);
@@ -204,8 +203,7 @@ where
         let word: &[u8] = match self.host.standing(account) {
             Standing::Left | Standing::Free => b"left\n",
             _ => {
-                self.program
-                    .end_account(self.performer, self.host, account);
+                self.forget_browsers(account);
                 b"leaving\n"
             }
         };

@@ -159,21 +159,22 @@ impl<'p, R: Wait, M: Machine, K: LoginKeys> Service<'p, R, M, K> {
         }
     }
 
-    /// Ends the sessions of browsers of an account: each is taken out of the book and logged out, until there is none.
-    pub fn end_account<A: Accounts>(&self, accounts: &mut A, account: usize)
+    /// Takes the sessions of browsers of an account out of the book; answers how many. They aren't logged out of here: that waits for the account.
+    pub fn forget_account<A: Accounts>(&self, accounts: &mut A, account: usize) -> u64
         ensures house { A.house accounts.new ≡ A.house accounts.old }
     {
+        let mut count = 0u64;
         for _ in self.rt.forever() {
             let mut guard = self.page.sessions.lock(self.rt);
             let book = &mut *guard;
             let (session, change) = book.take(SessionTest::IsOf(account));
             accounts.note_change(change);
-            drop(guard);
-            match session {
-                Some(session) => log_out(accounts, session.account),
-                None => return,
+            if session.is_none() {
+                break;
             }
+            count = count.saturating_add(1);
         }
+        count
     }
 
     /// Begins the session of a browser to which a session of its account is open. If it can't begin, or can't be told, that is closed again,

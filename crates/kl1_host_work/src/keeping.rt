@@ -53,9 +53,11 @@ fn tell_fault<'t, F: Front, W: Wait, R: Wait, K: PoolIds>(
         return;
     }
     place.fail(rt);
-    if is_first && !was_ended {
+    // What a file has is found whether the host ends meanwhile or not, so that the first of several is told.
+    let is_told = !was_ended || matches!(fault, StartFault::Unopened { .. });
+    if is_first && is_told {
         desk.failing.fail(rt, account, fault);
-    } else if !was_ended {
+    } else if is_told {
         desk.front.tell(HostEvent::Unrestored { account, fault });
     }
 }

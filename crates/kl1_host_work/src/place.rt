@@ -108,7 +108,7 @@ impl Place {
         is_free
     }
 
-    /// Waits until the account is to come; not if the host ends first.
+    /// Waits until the account is to come; not if the host ends first. One that is to come is still opened, so that a fault of its file is found.
     pub(crate) fn await_order<W: Wait>(&self, rt: &W) -> bool {
         let mut guard = self
             .changed
@@ -116,11 +116,11 @@ impl Place {
                 !orders.is_ending && !matches!(orders.stage, Stage::Ordered)
             });
         let orders = &mut *guard;
-        if orders.is_ending {
-            return false;
+        let is_ordered = matches!(orders.stage, Stage::Ordered);
+        if is_ordered {
+            orders.stage = Stage::Restores;
         }
-        orders.stage = Stage::Restores;
-        true
+        is_ordered
     }
 
     /// Takes in how many events are to be done to the account, in which something may happen from now on.
