@@ -180,7 +180,11 @@ where
     /// Lets accounts come that couldn't be restored before.
     fn bring_again(&mut self, out: &mut Vec<u8>) -> Result<(), AllocError> {
         for (account, key) in self.program.keys.keys().iter().enumerate() {
-            if matches!(self.host.standing(account), Standing::Fails) && !key.name.is_empty() {
+            let is_missing = matches!(
+                self.host.standing(account),
+                Standing::Fails | Standing::Free
+            );
+            if is_missing && !key.name.is_empty() {
                 let word: &[u8] = if self.host.bring(account) {
                     b"restores "
                 } else {

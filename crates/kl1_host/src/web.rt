@@ -240,6 +240,13 @@ impl<'w, R: Wait + Clock + Eprint + Files, P: Performer, V: HostView> Accounts
         self.record.changed(change);
     }
 
+    fn has(&self, account: usize) -> bool {
+        match self.door.keys.get(account) {
+            Some(key) => !key.name.is_empty(),
+            None => false,
+        }
+    }
+
     fn restoring(&self, account: usize) -> Option<(u64, u64)> {
         self.host.restoring(account)
     }
@@ -260,7 +267,12 @@ impl<'w, R: Wait + Clock + Eprint + Files, P: Performer, V: HostView> Accounts
 
     fn sums(&self) -> Sums {
         let mut sums = Sums {
-            accounts: self.door.keys.len() as u64,
+            accounts: self
+                .door
+                .keys
+                .iter()
+                .filter(|key| !key.name.is_empty())
+                .count() as u64,
             sessions: 0,
             events: 0,
             steps: 0,

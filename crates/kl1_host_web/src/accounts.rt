@@ -102,6 +102,11 @@ pub trait Accounts {
         ensures house { house self.new ≡ house self.old }
         ensures asked { asked self.new ≡ asked self.old ++ changed change.step.value change.before.value.items ∷ [] };
 
+    /// Whether there is an account of this number: one that was removed isn't.
+    fn has(&self, _account: usize) -> bool {
+        true
+    }
+
     /// How many events are done of how many, if an account is being restored.
     fn restoring(&self, _account: usize) -> Option<(u64, u64)> {
         None

@@ -38,6 +38,13 @@ fn bring_up<'t, F: Front, W: Wait + Clock, R: Wait, K: PoolIds, D: Disk + Drop, 
     }
 }
 
+/// Takes in that one account of the start less is waited for.
+fn count_in<'t, F: Front, R: Wait, K: PoolIds>(desk: &Desk<'_, 't, F, R, K>, is_first: bool) {
+    if is_first && desk.failing.count_in() {
+        desk.front.tell(HostEvent::AllRestored);
+    }
+}
+
 /// Takes in that the account of a place can't be restored: one of the start ends the host, any other is told.
 fn tell_fault<'t, F: Front, W: Wait, R: Wait, K: PoolIds>(
     rt: &W,
@@ -50,6 +57,7 @@ fn tell_fault<'t, F: Front, W: Wait, R: Wait, K: PoolIds>(
     let was_ended = place.is_ended();
     if place.end_leave(rt) {
         desk.front.tell(HostEvent::Left { account });
+        count_in(desk, is_first);
         return;
     }
     place.fail(rt);
@@ -91,9 +99,7 @@ fn serve_file<'t, F: Front, W: Wait + Clock, R: Wait, K: PoolIds, D: Disk + Drop
     if place.open(rt) {
         desk.pool.open_account(rt, account, share);
         desk.front.tell(HostEvent::Restored { account, entries });
-        if is_first && desk.failing.count_in() {
-            desk.front.tell(HostEvent::AllRestored);
-        }
+        count_in(desk, is_first);
         let faults = Telling { front: desk.front };
         let mut scribe = Scribe::new(account, keeper, file);
         scribe.work(rt, host.syncing.period, &faults);
