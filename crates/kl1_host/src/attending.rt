@@ -6,7 +6,7 @@ use crate::web::disk_of;
 use kl1_command::Command;
 use kl1_host_front::{Number, put_account_status, put_host};
 use kl1_host_web::{LoginKeys, Machine};
-use kl1_host_work::{HostView, Performer, Standing, Steering};
+use kl1_host_work::{HostView, Performer, PlaceState, Steering};
 use kl1_lines::put_decimal;
 use kl1_model::limits::MOST_ACCOUNTS;
 use kl1_session::Key;
@@ -39,13 +39,13 @@ fn number(name: &'static [u8], number: u64) -> Number<'static> {
 }
 
 /// The word for an account that isn't there, and how many of its events are done of how many; `None` if it is there.
-fn word_of(standing: Standing) -> Option<(&'static [u8], u64, u64)> {
+fn word_of(standing: PlaceState) -> Option<(&'static [u8], u64, u64)> {
     match standing {
-        Standing::Open => None,
-        Standing::Restores { done, all } => Some((b"restores", done, all)),
-        Standing::Fails => Some((b"fails", 0, 0)),
-        Standing::Leaving => Some((b"leaves", 0, 0)),
-        Standing::Free | Standing::Left => Some((b"left", 0, 0)),
+        PlaceState::Open => None,
+        PlaceState::Restores { done, all } => Some((b"restores", done, all)),
+        PlaceState::Fails => Some((b"fails", 0, 0)),
+        PlaceState::Leaving => Some((b"leaves", 0, 0)),
+        PlaceState::Free | PlaceState::Left => Some((b"left", 0, 0)),
     }
 }
 
@@ -102,7 +102,7 @@ where
             if count == 0 {
                 continue;
             }
-            if !matches!(self.host.standing(account), Standing::Open) {
+            if !matches!(self.host.standing(account), PlaceState::Open) {
                 self.logouts[account] = 0;
                 continue;
             }
@@ -154,7 +154,8 @@ where
     }
 }
 
-impl<R, K: LoginKeys, P: Performer, V: HostView + Steering> Attendant for Attending<'_, '_, R, K, P, V>
+impl<R, K: LoginKeys, P: Performer, V: HostView + Steering> Attendant
+    for Attending<'_, '_, R, K, P, V>
 where
     R: Wait + Clock + Eprint + Files<File = File> + RandomSource,
 {

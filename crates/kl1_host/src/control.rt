@@ -143,8 +143,9 @@ pub fn answer_until_stop<R: Wait + Clock, A: Attendant>(
             Ask::Stop => return Some(stream),
             Ask::Status => tell_status(alloc, attendant, &mut stream),
             Ask::Unknown => {
-                let _ = stream
-                    .write_all(b"status, stop, reload, accounts and close NAME are what a host is asked\n");
+                let _ = stream.write_all(
+                    b"status, stop, reload, accounts and close NAME are what a host is asked\n",
+                );
             }
             ask => tell_done(alloc, attendant, &mut stream, ask, &bytes),
         }

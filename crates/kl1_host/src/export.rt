@@ -25,12 +25,7 @@ pub fn exported_in(rt: &HostRuntime, from: &str, name: &str) -> Result<String, F
 }
 
 /// Writes a file anew in one step, in a folder that is then synced.
-pub fn write_whole(
-    rt: &HostRuntime,
-    folder: &str,
-    path: &str,
-    bytes: &[u8],
-) -> Result<(), Fault> {
+pub fn write_whole(rt: &HostRuntime, folder: &str, path: &str, bytes: &[u8]) -> Result<(), Fault> {
     let alloc = rt.alloc();
     let new = format!(in alloc; "{path}.new")?;
     remove_if_there(rt, new.as_str())?;

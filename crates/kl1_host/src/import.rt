@@ -173,13 +173,7 @@ fn is_here(rt: &HostRuntime, folder: &str, name: &str) -> Result<bool, Fault> {
 }
 
 /// Brings an account that isn't here yet.
-fn bring(
-    rt: &HostRuntime,
-    folder: &str,
-    from: &str,
-    name: &str,
-    who: &[u8],
-) -> Result<(), Fault> {
+fn bring(rt: &HostRuntime, folder: &str, from: &str, name: &str, who: &[u8]) -> Result<(), Fault> {
     match parcel_of(rt, from, name)? {
         Parcel::Free(line) => {
             refuse_line(rt, from, name, line.as_slice())?;
@@ -206,12 +200,7 @@ fn bring(
 
 /// Takes an account that was exported from a folder with its line and its journal, and adds it to another folder, whether a host runs there or not. A
 /// call that was ended midway is gone on with. Answers the program's status.
-pub fn import_account(
-    rt: &HostRuntime,
-    folder: &str,
-    name: &str,
-    from: &str,
-) -> Result<u8, Fault> {
+pub fn import_account(rt: &HostRuntime, folder: &str, name: &str, from: &str) -> Result<u8, Fault> {
     refuse_bad_name(rt, name)?;
     let _lock = lock_accounts(rt, folder)?;
     let who = whole_path(rt, folder)?;

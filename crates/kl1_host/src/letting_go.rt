@@ -28,7 +28,9 @@ pub fn let_go(rt: &HostRuntime, folder: &str, name: &str) -> Result<Option<File>
         }
         // One that starts doesn't answer yet.
         if let Some(answer) = asked_of(rt, folder, line.as_str())? {
-            if answer.as_slice() == b"left\n".as_slice() || answer.as_slice() == b"unknown\n".as_slice() {
+            if answer.as_slice() == b"left\n".as_slice()
+                || answer.as_slice() == b"unknown\n".as_slice()
+            {
                 return Ok(None);
             }
             if answer.as_slice() != b"leaving\n".as_slice() && !answer.is_empty() {

@@ -16,9 +16,7 @@ use crate::started::{Arrivals, note_started};
 use crate::web::{WebAccounts, is_local};
 use kl1_host_front::{Field, Number, Pauses, PausingDoor, Settings, address_number};
 use kl1_host_web::{AskedRecord, LoginKeys, Page, Service, SessionBook, Site};
-use kl1_host_work::{
-    Front, HostEvent, HostView, Listeners, Performer, StartFault, Steering,
-};
+use kl1_host_work::{Front, HostEvent, HostView, Listeners, Performer, StartFault, Steering};
 use kl1_lines::{Sink, Source};
 use kl1_log::LogError;
 use kl1_model::limits::MOST_ACCOUNTS;
@@ -94,7 +92,11 @@ fn end_of(ended: Disconnect) -> &'static [u8]
     }
 }
 
-impl<'f, R: Wait + Clock + Eprint + Files<File = File> + RandomSource, K: LoginKeys> Program<'f, R, K> {
+impl<'f, R: Wait + Clock + Eprint + Files<File = File> + RandomSource, K: LoginKeys> Program<
+    'f,
+    R,
+    K,
+> {
     /// Who lets in whoever connects from this address.
     fn door_of(&self, address: SocketAddr) -> PausingDoor<'f, R, LoginLog<'f, R>> {
         let keys = self.keys.keys();

@@ -7,7 +7,7 @@ use crate::next_keys::{NextKeys, next_keys};
 use crate::settings::settings_of;
 use kl1_host_front::{Settings, Sync as Syncs};
 use kl1_host_web::LoginKeys;
-use kl1_host_work::{Amounts, HostView, Limits, Performer, Standing, Steering};
+use kl1_host_work::{Amounts, HostView, Limits, Performer, PlaceState, Steering};
 use kl1_session::Key;
 use std::alloc::AllocError;
 use std::fs::File;
@@ -182,7 +182,7 @@ where
         for (account, key) in self.program.keys.keys().iter().enumerate() {
             let is_missing = matches!(
                 self.host.standing(account),
-                Standing::Fails | Standing::Free
+                PlaceState::Fails | PlaceState::Free
             );
             if is_missing && !key.name.is_empty() {
                 let word: &[u8] = if self.host.bring(account) {
@@ -205,7 +205,7 @@ where
         };
         self.host.send_away(account);
         let word: &[u8] = match self.host.standing(account) {
-            Standing::Left | Standing::Free => b"left\n",
+            PlaceState::Left | PlaceState::Free => b"left\n",
             _ => {
                 self.forget_browsers(account);
                 b"leaving\n"

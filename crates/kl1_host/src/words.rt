@@ -10,13 +10,25 @@ pub enum Task<'a> {
     /// A folder is made.
     Init(&'a str),
     /// An account is added to a folder.
-    Add { folder: &'a str, name: &'a str },
+    Add {
+        folder: &'a str,
+        name: &'a str,
+    },
     /// An account of a folder gets another key.
-    Rekey { folder: &'a str, name: &'a str },
+    Rekey {
+        folder: &'a str,
+        name: &'a str,
+    },
     /// An account of a folder is removed.
-    Remove { folder: &'a str, name: &'a str },
+    Remove {
+        folder: &'a str,
+        name: &'a str,
+    },
     /// An account is taken out of a folder for another.
-    Export { folder: &'a str, name: &'a str },
+    Export {
+        folder: &'a str,
+        name: &'a str,
+    },
     /// An account that was taken out of a folder is added to another, from where it was put.
     Import {
         folder: &'a str,
@@ -26,7 +38,10 @@ pub enum Task<'a> {
     /// The host of a folder reads settings and accounts anew.
     Reload(&'a str),
     /// The host of a folder runs.
-    Run { folder: &'a str, repairs: bool },
+    Run {
+        folder: &'a str,
+        repairs: bool,
+    },
     /// The settings, the accounts and the journals of a folder are looked at.
     Check(&'a str),
     /// The host of a folder is asked how it goes.

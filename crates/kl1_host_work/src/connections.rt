@@ -144,7 +144,10 @@ fn arrival_of<'t, F: Front, N: Wait + Clock, R: Wait, K: PoolIds>(
     address: SocketAddr,
 ) -> Received {
     for _ in rt.forever() {
-        match desk.lobby.admit(rt, &visit, address, desk.host.live.limits()) {
+        match desk
+            .lobby
+            .admit(rt, &visit, address, desk.host.live.limits())
+        {
             Admission::Open(number) => {
                 return Received::Open(Arrival {
                     visit,

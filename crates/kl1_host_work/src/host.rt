@@ -1,8 +1,8 @@
 // What all threads of a host share beside the pool.
 
+use crate::account_place::AccountPlace;
 use crate::budget::Budget;
 use crate::live::Live;
-use crate::place::Place;
 use crate::sources::Sources;
 use kl1_host_journals::{Keeper, KeeperPlace};
 use kl1_log::Room;
@@ -24,7 +24,7 @@ pub(crate) type FileRoom = OnceLock<Arc<Room, Global>>;
 /// still load, how it stands with the room for its file, and what it has loaded; and what is set.
 #[derive(Clone, Copy)]
 pub struct Host<'h> {
-    pub places: &'h [Place],
+    pub places: &'h [AccountPlace],
     pub keepers: &'h [KeeperPlace],
     pub budgets: &'h [Budget],
     pub(crate) rooms: &'h [FileRoom],

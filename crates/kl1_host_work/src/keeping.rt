@@ -2,9 +2,9 @@
 
 ghost use Rattle.std.specs.Prelude.{◌<◌};
 
+use crate::account_place::AccountPlace;
 use crate::connections::Desk;
 use crate::front::{Front, HostEvent};
-use crate::place::Place;
 use crate::restoring::{AccountFile, Standing, stand};
 use crate::running::Telling;
 use crate::start_fault::StartFault;
@@ -27,7 +27,7 @@ fn bring_up<'t, F: Front, W: Wait + Clock, R: Wait, K: PoolIds, D: Disk + Drop, 
     desk: &Desk<'_, 't, F, R, K>,
     opener: &O,
     account: usize,
-    place: &Place,
+    place: &AccountPlace,
     share: &mut Share<K>,
 ) -> Result<Standing<D>, StartFault>
     requires { account < K.accounts }
@@ -50,7 +50,7 @@ fn tell_fault<'t, F: Front, W: Wait, R: Wait, K: PoolIds>(
     rt: &W,
     desk: &Desk<'_, 't, F, R, K>,
     account: usize,
-    place: &Place,
+    place: &AccountPlace,
     fault: StartFault,
     is_first: bool,
 ) {
@@ -134,7 +134,15 @@ fn end_file<'t, F: Front, W: Wait, R: Wait, K: PoolIds, D: Disk + Drop>(
 
 /// Waits for the account of a place to come, restores it from its file, and writes to that until the account leaves or the host ends: then
 /// the file is given back. `is_first` tells whether the account is one of the start.
-pub(crate) fn keep<'t, F: Front, W: Wait + Clock, R: Wait, K: PoolIds, D: Disk + Drop, O: Opener<D>>(
+pub(crate) fn keep<
+    't,
+    F: Front,
+    W: Wait + Clock,
+    R: Wait,
+    K: PoolIds,
+    D: Disk + Drop,
+    O: Opener<D>,
+>(
     rt: &W,
     desk: &Desk<'_, 't, F, R, K>,
     opener: &O,

@@ -2,6 +2,7 @@
 //! is told to clients is on disk.
 #![tactic(auto)]
 
+mod account_place;
 mod answers;
 mod board;
 mod budget;
@@ -18,7 +19,6 @@ mod live;
 mod lobby;
 mod noting;
 mod overruns;
-mod place;
 mod restoring;
 mod running;
 mod sources;
@@ -29,6 +29,7 @@ mod view;
 mod visit;
 mod watching;
 
+pub use account_place::{AccountPlace, PlaceState};
 pub use budget::Budget;
 pub use connection::serve;
 pub use front::{Front, HostEvent, HostView, Performer, Sight};
@@ -40,7 +41,6 @@ pub use kl1_pool::BookTotals;
 pub use kl1_session::Disconnect;
 pub use live::{Amounts, Live};
 pub use lobby::Limits;
-pub use place::{Place, Standing};
 pub use restoring::AccountFile;
 pub use running::Listeners;
 pub use start_fault::StartFault;

@@ -51,7 +51,8 @@ impl Live {
     pub(crate) fn set(&self, amounts: Amounts) {
         let limits = amounts.limits;
         self.each.store(limits.each, Ordering::SeqCst);
-        self.waiting_each.store(limits.waiting_each, Ordering::SeqCst);
+        self.waiting_each
+            .store(limits.waiting_each, Ordering::SeqCst);
         self.idle.store(milliseconds(limits.idle), Ordering::SeqCst);
         self.idle_login
             .store(milliseconds(limits.idle_login), Ordering::SeqCst);

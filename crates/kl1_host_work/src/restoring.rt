@@ -4,8 +4,8 @@ ghost use Rattle.std.specs.Prelude.{◌≡◌, ◌<◌, slice_get, IfOk};
 ghost use Rattle.kl1_host_work.specs.Restarts.{IsAllRestored};
 ghost use Rattle.kl1_host_work.specs.Standings.{IsStandingOf};
 
+use crate::account_place::AccountPlace;
 use crate::linking::link_account;
-use crate::place::Place;
 use crate::start_fault::StartFault;
 use kl1_host_journals::{Linked, OpenedFile};
 use kl1_journal_entries::{Entry, Journal};
@@ -53,7 +53,7 @@ fn restore_account<'t, W: Wait, R: Wait, K: PoolIds>(
     pool: &Pool<'t, R, K>,
     account: usize,
     journal: &Journal,
-    place: &Place,
+    place: &AccountPlace,
     share: &mut Share<K>,
 ) -> Result<u64, StartFault>
     requires { account < K.accounts }
@@ -81,7 +81,7 @@ pub(crate) fn stand<'t, D: Disk + Drop, W: Wait, R: Wait, K: PoolIds>(
     pool: &Pool<'t, R, K>,
     account: usize,
     found: AccountFile<D>,
-    place: &Place,
+    place: &AccountPlace,
     share: &mut Share<K>,
 ) -> Result<Standing<D>, StartFault>
     requires { account < K.accounts }

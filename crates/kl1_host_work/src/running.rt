@@ -235,7 +235,15 @@ where
 
 /// Lets the place of each account be kept in a thread of its own while `run` runs, which is told whether all of these could be made, and which
 /// ends them. Answers the files, or why an account of the start isn't there, or that some thread couldn't be made.
-fn keep_while<'t, F: Front + Sync, D: Disk + Drop + Send, O: Opener<D> + Sync, R, K, G: FnOnce(bool) -> bool>(
+fn keep_while<
+    't,
+    F: Front + Sync,
+    D: Disk + Drop + Send,
+    O: Opener<D> + Sync,
+    R,
+    K,
+    G: FnOnce(bool) -> bool,
+>(
     rt: &R,
     desk: &Desk<'_, 't, F, R, K>,
     opener: &O,

@@ -3,6 +3,7 @@
 ghost use Rattle.std.specs.Prelude.{◌≡◌};
 ghost use Rattle.kl1_host_work.specs.Fronts.{AreAccountsOf};
 
+use crate::account_place::AccountPlace;
 use crate::board::Board;
 use crate::budget::Budget;
 use crate::connections::Desk;
@@ -12,7 +13,6 @@ use crate::host::{FileRoom, Host, Syncing};
 use crate::keeping::Opener;
 use crate::live::{Amounts, Live};
 use crate::lobby::{Limits, Lobby};
-use crate::place::Place;
 use crate::running::{Listeners, Shares, run_threads};
 use crate::sources::Sources;
 use crate::start_fault::StartFault;
@@ -53,7 +53,7 @@ pub struct Setup {
 /// What is there for each place, and what all threads share of it.
 #[derive(Drop)]
 struct Places {
-    places: Vec<Place>,
+    places: Vec<AccountPlace>,
     keepers: Vec<KeeperPlace>,
     budgets: Vec<Budget>,
     rooms: Vec<FileRoom>,
@@ -74,7 +74,7 @@ impl Places {
             sources: Vec::with_capacity(alloc, count)?,
         };
         for _ in 0..count {
-            made.places.push(Place::new())?;
+            made.places.push(AccountPlace::new())?;
             made.keepers.push(KeeperPlace::new())?;
             made.budgets.push(Budget::new(codes_each))?;
             made.rooms.push(FileRoom::new())?;
@@ -124,7 +124,7 @@ fn names_of(alloc: Global, count: usize) -> Result<Vec<AccountName>, StartFault>
 fn begin_places<'t, W: Wait, R: Wait, K: PoolIds>(
     rt: &W,
     pool: &Pool<'t, R, K>,
-    places: &[Place],
+    places: &[AccountPlace],
     firsts: usize,
 ) {
     for account in 0..pool.accounts() {

@@ -1,8 +1,8 @@
 // What a host is told to do while it runs.
 
+use crate::account_place::PlaceState;
 use crate::front::Front;
 use crate::live::Amounts;
-use crate::place::Standing;
 use crate::view::View;
 use kl1_pool::PoolIds;
 use std::sync::Wait;
@@ -14,7 +14,7 @@ pub trait Steering {
     fn places(&self) -> usize;
 
     /// How far it is with the account of a place.
-    fn standing(&self, account: usize) -> Standing;
+    fn standing(&self, account: usize) -> PlaceState;
 
     /// Lets the account of a place come, whose file is opened and restored from now on; whether it does: the place is free, or nothing was
     /// done yet to the account there, which couldn't be restored.
@@ -40,10 +40,10 @@ impl<F: Front, N: Wait + Clock, R: Wait, K: PoolIds> Steering for View<'_, '_, '
         self.desk.host.places.len()
     }
 
-    fn standing(&self, account: usize) -> Standing {
+    fn standing(&self, account: usize) -> PlaceState {
         match self.desk.host.places.get(account) {
             Some(place) => place.standing(self.rt),
-            None => Standing::Left,
+            None => PlaceState::Left,
         }
     }
 

@@ -2,10 +2,10 @@
 
 ghost use Rattle.std.specs.Prelude.{◌<◌};
 
+use crate::account_place::PlaceState;
 use crate::connections::Desk;
 use crate::front::{Front, HostView, Sight};
 use crate::noting::note_told;
-use crate::place::Standing;
 use crate::visit::{Visit, now_of};
 use kl1_host_journals::Outgoing;
 use kl1_journal_entries::Journal;
@@ -91,7 +91,7 @@ impl<F: Front, N: Wait + Clock, R: Wait, K: PoolIds> HostView for View<'_, '_, '
 
     fn restoring(&self, account: usize) -> Option<(u64, u64)> {
         match self.desk.host.places.get(account)?.standing(self.rt) {
-            Standing::Restores { done, all } => Some((done, all)),
+            PlaceState::Restores { done, all } => Some((done, all)),
             _ => None,
         }
     }

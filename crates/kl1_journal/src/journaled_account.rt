@@ -141,8 +141,7 @@ impl<A: AtomSource, C: CodeSource> JournaledAccount<A, C> {
     {
         let rules = self.journal.rules();
         let journal = Journal::with_names(self.alloc, rules, texts, 0)?;
-        let user =
-            UserState::with_names(self.alloc, name, rules, 0, names, &mut self.seat, texts)?;
+        let user = UserState::with_names(self.alloc, name, rules, 0, names, &mut self.seat, texts)?;
         self.user = user;
         self.journal = journal;
         Ok(())

@@ -228,11 +228,7 @@ fn run_pieces<H: RestoringHost, M: Meter>(host: &mut H, meter: &M, reductions: u
 }
 
 /// Does a run.
-fn restore_run<H: RestoringHost, M: Meter>(
-    host: &mut H,
-    meter: &M,
-    reductions: u64,
-) -> EntryResult
+fn restore_run<H: RestoringHost, M: Meter>(host: &mut H, meter: &M, reductions: u64) -> EntryResult
     ensures does { (f : H.Reading) → H.fits host.new f → IsEntryDone (H.kept f host.old).state (runs reductions) result (H.kept f host.new).state }
     ensures counted { (f : H.Reading) → H.fits host.new f → H.counted host.old (told_entry (runs reductions) result) host.new }
     ensures before { (f : H.Reading) → H.fits host.new f → H.fits host.old f }

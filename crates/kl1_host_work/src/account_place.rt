@@ -6,7 +6,7 @@ use std::sync::{Condvar, Mutex, Wait};
 
 /// How far it is with the account of a place.
 #[derive(Clone, Copy)]
-pub enum Standing {
+pub enum PlaceState {
     /// There is none: one may come.
     Free,
     /// It is restored: so many of its events are done.
@@ -45,7 +45,7 @@ struct Orders {
 
 /// A place of a host for an account.
 #[derive(Drop)]
-pub struct Place {
+pub struct AccountPlace {
     orders: Mutex<Orders>,
     changed: Condvar,
     /// The same as under the lock, for a look without it.
@@ -58,10 +58,10 @@ pub struct Place {
     all: AtomicU64,
 }
 
-impl Place {
+impl AccountPlace {
     /// One to which an account may come.
     pub(crate) fn new() -> Self {
-        Place {
+        AccountPlace {
             orders: Mutex::new(Orders {
                 stage: Stage::Free,
                 is_ending: false,
@@ -110,11 +110,9 @@ impl Place {
 
     /// Waits until the account is to come; not if the host ends first. One that is to come is still opened, so that a fault of its file is found.
     pub(crate) fn await_order<W: Wait>(&self, rt: &W) -> bool {
-        let mut guard = self
-            .changed
-            .wait_while(rt, self.orders.lock(rt), |orders| {
-                !orders.is_ending && !matches!(orders.stage, Stage::Ordered)
-            });
+        let mut guard = self.changed.wait_while(rt, self.orders.lock(rt), |orders| {
+            !orders.is_ending && !matches!(orders.stage, Stage::Ordered)
+        });
         let orders = &mut *guard;
         let is_ordered = matches!(orders.stage, Stage::Ordered);
         if is_ordered {
@@ -204,23 +202,23 @@ impl Place {
     }
 
     /// How far it is with the account.
-    pub(crate) fn standing<W: Wait>(&self, rt: &W) -> Standing {
+    pub(crate) fn standing<W: Wait>(&self, rt: &W) -> PlaceState {
         match self.orders.lock(rt).stage {
-            Stage::Free => Standing::Free,
-            Stage::Ordered => Standing::Restores { done: 0, all: 0 },
-            Stage::Restores => Standing::Restores {
+            Stage::Free => PlaceState::Free,
+            Stage::Ordered => PlaceState::Restores { done: 0, all: 0 },
+            Stage::Restores => PlaceState::Restores {
                 done: self.done.load(Ordering::SeqCst),
                 all: self.all.load(Ordering::SeqCst),
             },
-            Stage::Open => Standing::Open,
-            Stage::Fails => Standing::Fails,
-            Stage::Leaving => Standing::Leaving,
-            Stage::Left => Standing::Left,
+            Stage::Open => PlaceState::Open,
+            Stage::Fails => PlaceState::Fails,
+            Stage::Leaving => PlaceState::Leaving,
+            Stage::Left => PlaceState::Left,
         }
     }
 }
 
-impl Meter for Place {
+impl Meter for AccountPlace {
     fn goes_on(&self, events: u64) -> bool {
         self.done.fetch_add(events, Ordering::SeqCst);
         !self.is_ended()
