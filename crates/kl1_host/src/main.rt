@@ -4,6 +4,7 @@
 mod accounts;
 mod accounts_file;
 mod add;
+mod arriving;
 mod ask;
 mod attending;
 mod check;

@@ -4,6 +4,7 @@ ghost use Rattle.std.specs.Prelude.{◌≡◌, true};
 ghost use Rattle.kl1_host.specs.Setups.{IsSynced, IsSetUp};
 
 use crate::accounts::{Accounts, accounts_in};
+use crate::arriving::SetNow;
 use crate::fault::Fault;
 use crate::folder::{SOCKET, path_in};
 use crate::journals::{FolderOpener, remove_spares};
@@ -13,7 +14,7 @@ use crate::log::Log;
 use crate::machine::ThisMachine;
 use crate::open_files::fit_connections;
 use crate::paces::Paces;
-use crate::program::{Program, SetNow};
+use crate::program::Program;
 use crate::repair::{cut_journal, word_of_now};
 use crate::settings::settings_of;
 use crate::sockets::{bind, socket_of};
