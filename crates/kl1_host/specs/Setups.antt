@@ -1,5 +1,5 @@
 -- How a host is set up by its settings.
-use Rattle.std.specs.Prelude.{◌≡◌, ℕ, ◌*◌, Bool, true, false, unwrap_or, min}
+use Rattle.std.specs.Prelude.{◌≡◌, ◌≤◌, ℕ, ◌*◌, Bool, true, false, unwrap_or, min}
 use Rattle.std.specs.Duration.{as_nanos}
 use Rattle.kl1_host_front.specs.declared.settings.Settings.{Settings}
 use Rattle.kl1_host_front.specs.declared.sync.Sync.{Sync}
@@ -23,6 +23,10 @@ period_of sync.Never = 100
 pub record IsSynced (set : Sync) (s : Syncing) : Type 0 where
   pub waits : s.replies_wait ≡ is_waited_for set
   pub period : as_nanos s.period ≡ period_of set * 1_000_000
+
+-- settings are those of before, but for connections, which may be fewer
+abbrev pub IsFitted : Settings → Settings → Type 0
+IsFitted before after = (after ≡ record before { connections = after.connections }) × (after.connections ≤ before.connections)
 
 -- a host of this number of accounts is set up by these settings
 pub record IsSetUp (settings : Settings) (accounts : ℕ) (s : Setup) : Type 0 where

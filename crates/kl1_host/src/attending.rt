@@ -1,5 +1,7 @@
 // What the program does while its host runs.
 
+ghost use Rattle.std.specs.Prelude.{◌≤◌, length};
+
 use crate::control::Attendant;
 use crate::program::Program;
 use crate::web::disk_of;
@@ -24,6 +26,7 @@ where
     pub host: &'p V,
     /// The second in which sessions of browsers were looked at last.
     pub last: u64,
+    pub ghost counts: { length program.now.keys.now ≤ P.accounts performer.now },
 }
 
 /// A number with its name.
@@ -35,17 +38,6 @@ impl<R, K: LoginKeys, P: Performer, V: HostView> Attending<'_, '_, R, K, P, V>
 where
     R: Wait + Clock + Eprint + Files + RandomSource,
 {
-    /// Whether some account is in the midst of a reduction for long.
-    fn is_some_busy(&self) -> bool {
-        self.host.ask_all();
-        for account in 0..self.program.keys.len() {
-            if self.host.is_busy(account) {
-                return true;
-            }
-        }
-        false
-    }
-
     /// Puts the line of an account after others.
     fn put_account(&self, out: &mut Vec<u8>, account: usize, key: &Key) -> Result<(), AllocError> {
         let program = self.program;
@@ -104,9 +96,12 @@ where
         let second = self.program.machine.seconds();
         if second != self.last {
             self.last = second;
-            // A logout waits for its account, and who asks isn't to wait for that: they are ended later.
-            if !self.is_some_busy() {
-                self.program.end_idle(self.performer, self.host);
+            self.host.ask_all();
+            for account in 0..self.program.keys.len() {
+                // A logout waits for its account, and who asks isn't to wait for that: its sessions are ended later.
+                if !self.host.is_busy(account) {
+                    self.program.end_idle(self.performer, self.host, account);
+                }
             }
         }
     }

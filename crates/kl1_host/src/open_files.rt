@@ -1,5 +1,7 @@
 // The files that a host may have open.
 
+ghost use Rattle.kl1_host.specs.Setups.{IsFitted};
+
 use crate::fault::{BAD, Fault};
 use crate::log::Log;
 use kl1_host_front::{Number, Settings, connections_within, open_files_in};
@@ -31,6 +33,7 @@ pub fn fit_connections<R>(
 ) -> Result<(), Fault>
 where
     R: Files<File = File> + AllocGlobal + Eprint + Clock,
+    ensures { IsFitted settings.old settings.new }
 {
     let Some(files) = most_files(log.rt) else {
         return Ok(());

@@ -1,9 +1,11 @@
 // What a host asks of this program.
 
-ghost use Rattle.std.specs.Prelude.{◌≡◌};
+ghost use Rattle.std.specs.Prelude.{◌≡◌, ◌≤◌, [], length};
 ghost use Rattle.kl1_session.specs.Views.{entries_view};
 ghost use Rattle.kl1_host_front.specs.Sums.{opened_by_sum};
 ghost use Rattle.kl1_host_work.specs.Fronts.{names_in};
+ghost use Rattle.kl1_host_web.specs.Records.{asked_in};
+ghost use Rattle.kl1_host.specs.Browsers.{IsServed};
 ghost use Rattle.kl1_host.specs.Ends.{end_word};
 
 use crate::attending::Attending;
@@ -13,7 +15,7 @@ use crate::logins::LoginLog;
 use crate::machine::ThisMachine;
 use crate::paces::{PacedLine, Paces};
 use crate::started::note_started;
-use crate::web::{WebAccounts, is_local};
+use crate::web::{LentPerformer, WebAccounts, is_local};
 use kl1_host_front::{Field, Number, Pauses, PausingDoor, address_number};
 use kl1_host_web::{AskedRecord, LoginKeys, Page, Service, SessionBook, Site};
 use kl1_host_work::{Front, HostEvent, HostView, Listeners, Performer};
@@ -26,6 +28,7 @@ use std::net::{Ipv4Addr, SocketAddr, SocketAddrV4, TcpListener};
 use std::os::unix::net::{UnixListener, UnixStream};
 use std::random::RandomSource;
 use std::rt::Files;
+use std::snapshot::Snapshot;
 use std::sync::{Mutex, Wait};
 use std::time::{Clock, Instant};
 
@@ -90,14 +93,19 @@ impl<'f, R: Wait + Clock + Eprint + Files + RandomSource, K: LoginKeys> Program<
     }
 
     /// The accounts of a host, for whoever asks from this address.
-    pub fn accounts_of<'p, 'w, P: Performer, V: HostView>(
+    #[tactic(auto, using(kl1_host_web::proofs::Doing::none_done))]
+    fn accounts_of<'w, P: Performer + Drop, V: HostView>(
         &self,
         address: SocketAddr,
-        performer: &'p mut P,
+        performer: P,
         host: &'w V,
-    ) -> WebAccounts<'p, 'w, 'f, R, P, V>
-        ensures { result.door.keys.now ≡ self.now.keys.now }
+    ) -> WebAccounts<'w, 'f, R, P, V>
+        requires { length self.now.keys.now ≤ P.accounts performer }
+        ensures keys { result.door.keys.now ≡ self.now.keys.now }
+        ensures performer { P.done result.begun.value ≡ P.done performer }
+        ensures asked { asked_in result.noted ≡ [] }
     {
+        let begun = Snapshot::of(&performer);
         WebAccounts {
             rt: self.rt,
             alloc: self.alloc,
@@ -105,13 +113,18 @@ impl<'f, R: Wait + Clock + Eprint + Files + RandomSource, K: LoginKeys> Program<
             most_bytes: self.memory_each,
             door: self.door_of(address),
             performer,
+            begun,
             host,
-            record: AskedRecord::new(),
+            noted: AskedRecord::new(),
         }
     }
 
     /// What browsers are served by.
-    pub fn service(&self, is_local: bool) -> Service<'_, R, ThisMachine<'f, R>, K> {
+    pub fn service(&self, is_local: bool) -> Service<'_, R, ThisMachine<'f, R>, K>
+        ensures idle { result.page.idle ≡ self.now.idle }
+        ensures sites { result.page.sites.now ≡ self.now.sites.now }
+        ensures is_local { result.is_local ≡ is_local }
+    {
         Service {
             rt: self.rt,
             alloc: self.alloc,
@@ -125,12 +138,35 @@ impl<'f, R: Wait + Clock + Eprint + Files + RandomSource, K: LoginKeys> Program<
         }
     }
 
-    /// Ends the sessions of browsers that made no request for too long.
-    pub fn end_idle<P: Performer, V: HostView>(&self, performer: &mut P, host: &V) {
+    /// Ends the sessions of an account whose browsers made no request for too long.
+    pub fn end_idle<P: Performer, V: HostView>(&self, performer: &mut P, host: &V, account: usize)
+        requires { length self.now.keys.now ≤ P.accounts performer.old }
+        ensures { length self.now.keys.now ≤ P.accounts performer.new }
+    {
         // No key is tried, so it counts for no address.
         let address = SocketAddr::V4(SocketAddrV4::new(Ipv4Addr::LOCALHOST, 0));
+        let performer = LentPerformer { performer };
         let mut accounts = self.accounts_of(address, performer, host);
-        self.service(true).end_idle(&mut accounts);
+        self.service(true).end_idle(&mut accounts, account);
+    }
+
+    /// Serves a connection of a browser from this address. What is asked of accounts is what its requests may have, and just that is done by
+    /// `performer`, each command once, unless it is answered as if memory was refused.
+    fn serve_browser<S: Source, T: Sink, P: Performer, V: HostView>(
+        &self,
+        address: SocketAddr,
+        source: &mut S,
+        sink: &mut T,
+        performer: &mut P,
+        host: &V,
+    )
+        requires { length self.now.keys.now ≤ P.accounts performer.old }
+        ensures { ∥ IsServed (entries_view self.now.keys.now) (length self.now.keys.now) self.now.idle self.now.sites.now (S.remaining source.old) (P.done performer.old) (P.done performer.new) ∥₁ }
+    {
+        let performer = LentPerformer { performer };
+        let mut accounts = self.accounts_of(address, performer, host);
+        self.service(is_local(address))
+            .serve(source, sink, &mut accounts);
     }
 
     /// The name of an account, by its number.
@@ -326,6 +362,7 @@ where
         }
     }
 
+    #[tactic(auto, using(kl1_host_work::proofs::NamesInOrder::length_names))]
     fn serve_pages<S: Source, T: Sink, P: Performer, V: HostView>(
         &self,
         address: SocketAddr,
@@ -334,11 +371,10 @@ where
         performer: &mut P,
         host: &V,
     ) {
-        let mut accounts = self.accounts_of(address, performer, host);
-        self.service(is_local(address))
-            .serve(source, sink, &mut accounts);
+        self.serve_browser(address, source, sink, performer, host);
     }
 
+    #[tactic(auto, using(kl1_host_work::proofs::NamesInOrder::length_names))]
     fn attend<P: Performer, V: HostView>(&self, performer: &mut P, host: &V) {
         // Each has a journal on the disk now, if only its heading. If that can't be noted, a later start doesn't miss one.
         let _ = note_started(self.rt, self.alloc, self.folder, self.keys);

@@ -1,5 +1,7 @@
 // The accounts of a host, as browsers use them.
 
+ghost use Rattle.std.specs.Prelude.{◌≤◌, length};
+ghost use Rattle.kl1_host_web.specs.Asking.{HasDone};
 ghost use Rattle.kl1_host_web.specs.Records.{asked_in};
 
 use crate::folder::journal_in;
@@ -106,6 +108,8 @@ impl<V: HostView> AccountViewer<'_, V> {
 }
 
 impl<V: HostView> Viewer for AccountViewer<'_, V> {
+    ghost account = { λ v. v.account };
+
     fn shoens_from(&mut self, from: ShoenNo, count: usize) -> Result<Vec<ShoenView>, AllocError> {
         self.refuse_more()?;
         self.host.shoens_from(self.account, from, count)
@@ -166,31 +170,52 @@ fn is_logout(command: &Command) -> bool {
     matches!(command, Command::Does(Event::Logout))
 }
 
-/// The accounts of a host, for one connection of a browser.
+/// What does commands, lent for a connection.
 #[derive(Drop)]
-pub struct WebAccounts<'p, 'w, 'f, R: Wait + Clock + Eprint + Files, P: Performer, V: HostView> {
+pub struct LentPerformer<'p, P: Performer> {
+    pub performer: &'p mut P,
+}
+
+impl<P: Performer> Performer for LentPerformer<'_, P> {
+    ghost accounts = { λ l. P.accounts l.performer.now };
+
+    ghost done = { λ l. P.done l.performer.now };
+
+    fn perform(&mut self, account: usize, command: &Command) -> Performed {
+        self.performer.perform(account, command)
+    }
+}
+
+/// The accounts of a host, for one connection of a browser. Each command that is told as done was done by `performer`, once, and no other was.
+#[derive(Drop)]
+pub struct WebAccounts<'w, 'f, R: Wait + Clock + Eprint + Files, P: Performer + Drop, V: HostView> {
     pub rt: &'f R,
     pub alloc: Global,
     pub folder: &'f str,
     pub most_bytes: u64,
     pub door: PausingDoor<'f, R, LoginLog<'f, R>>,
-    pub performer: &'p mut P,
+    pub performer: P,
+    /// What does the commands, as it was when the connection began.
+    pub begun: Snapshot<P>,
     pub host: &'w V,
-    pub record: AskedRecord,
+    pub noted: AskedRecord,
+    pub ghost counts: { length door.keys.now ≤ P.accounts performer },
+    pub ghost is_done: { ∥ HasDone (P.done begun.value) (P.done performer) (asked_in noted) ∥₁ },
 }
 
-impl<'w, R: Wait + Clock + Eprint + Files, P: Performer, V: HostView> Accounts
-    for WebAccounts<'_, 'w, '_, R, P, V> {
+impl<'w, R: Wait + Clock + Eprint + Files, P: Performer + Drop, V: HostView> Accounts
+    for WebAccounts<'w, '_, R, P, V> {
     type Viewer = AccountViewer<'w, V>;
 
     ghost use Rattle.std.specs.Prelude.{length};
     ghost use Rattle.kl1_session.specs.Views.{entries_view};
     ghost use Rattle.kl1_host_front.specs.Sums.{opened_by_sum};
+    ghost use Rattle.kl1_host.specs.Browsers.{name_at};
     ghost use Rattle.kl1_host_web.specs.Records.{asked_in};
 
-    ghost house = { λ w. record { accounts = length w.door.keys.now; opens = opened_by_sum (entries_view w.door.keys.now) } };
+    ghost house = { λ w. record { accounts = length w.door.keys.now; names = name_at (entries_view w.door.keys.now); opens = opened_by_sum (entries_view w.door.keys.now); before = P.done w.begun.value } };
 
-    ghost asked = { λ w. asked_in w.record };
+    ghost asked = { λ w. asked_in w.noted };
 
     fn count(&self) -> usize {
         self.door.keys.len()
@@ -211,6 +236,12 @@ impl<'w, R: Wait + Clock + Eprint + Files, P: Performer, V: HostView> Accounts
         }
     }
 
+    fn let_in(&self) {
+        // So the connection isn't ended as a stranger's while its body is read.
+        self.host.let_in();
+    }
+
+    #[tactic(auto, using(kl1_host_web::proofs::Doing::done_more, kl1_host_web::proofs::Doing::refused_more))]
     fn act(&mut self, account: usize, command: &Command) -> Performed {
         // A session is closed whoever reads.
         let may_answer = is_logout(command) || self.host.begin_answer(account);
@@ -219,15 +250,14 @@ impl<'w, R: Wait + Clock + Eprint + Files, P: Performer, V: HostView> Accounts
         } else {
             Performed::Memory
         };
-        self.record
+        self.noted
             .did(Snapshot::of(&account), Snapshot::of(command), &performed);
         performed
     }
 
+    #[tactic(auto, using(kl1_host_web::proofs::Doing::looked_more))]
     fn look(&mut self, account: usize) -> AccountViewer<'w, V> {
-        // The door of the page lets none look at an account but who has the cookie and the token of its session.
-        self.host.let_in();
-        self.record.looked(account);
+        self.noted.looked(account);
         AccountViewer {
             host: self.host,
             account,
@@ -236,8 +266,9 @@ impl<'w, R: Wait + Clock + Eprint + Files, P: Performer, V: HostView> Accounts
         }
     }
 
+    #[tactic(auto, using(kl1_host_web::proofs::Doing::changed_more))]
     fn note_change<K: LoginKeys>(&mut self, change: BookChange<K>) {
-        self.record.changed(change);
+        self.noted.changed(change);
     }
 
     fn measures(&self, account: usize) -> Measures {

@@ -1,10 +1,12 @@
 -- How long the body of a request is.
-use Rattle.std.specs.Prelude.{ℕ, nat_le, Bool, ◌||◌, if◌then◌else◌, List, bytes_eq, codes, Some, None, Result, Ok, Err}
+use Rattle.std.specs.Prelude.{ℕ, nat_le, Bool, true, false, ◌||◌, if◌then◌else◌, List, bytes_eq, codes, Some, None, Result, Ok, Err}
 use Rattle.kl1_model.specs.Line.{number_in}
-use Rattle.kl1_host_door.specs.declared.limits.TheConstants.{MOST_BODY_BYTES}
+use Rattle.kl1_host_door.specs.declared.limits.TheConstants.{MOST_BODY_BYTES, MOST_STRANGER_BYTES}
 use Rattle.kl1_host_door.specs.declared.refusal.Refusal.{Refusal}
 use Rattle.kl1_host_door.specs.declared.refusal.Refusal.TheVariants.{Repeated, Chunked, NoLength, BadLength, LargeBody}
 use Rattle.kl1_host_door.specs.declared.head.Head.{Head}
+use Rattle.kl1_host_door.specs.declared.door.Allowed.{Allowed}
+use Rattle.kl1_host_door.specs.declared.door.Allowed.TheVariants.{Anyone, Owner}
 use Rattle.kl1_host_door.specs.Fields.{value_of, is_single}
 
 -- the length that a text tells, if a body may have it
@@ -27,3 +29,14 @@ body_bytes h =
       | Some text ↦ Err Chunked
     ]
     else Err Repeated
+
+-- whether n bytes are as few as a body may have of a request that isn't let in to an account; for this reason it isn't
+abbrev pub within : ℕ → Refusal → Result Bool Refusal
+within n why = if nat_le n MOST_STRANGER_BYTES then Ok false else Err why
+
+-- whether a request is let in to an account, whose body of n bytes is read, by what it may have; or why that isn't read: a request that isn't let
+-- in has none that is longer than a login's
+abbrev pub may_send : ℕ → Result Allowed Refusal → Result Bool Refusal
+may_send n (Ok (Owner id account ask)) = Ok true
+may_send n (Ok (Anyone ask)) = within n LargeBody
+may_send n (Err why) = within n why

@@ -1,5 +1,5 @@
 -- The sessions of browsers that are open.
-use Rattle.std.specs.Prelude.{◌≡◌, ◌<◌, ◌≤◌, ℕ, suc, nat_lt, Bool, true, false, if◌then◌else◌, List, [], ◌∷◌, ◌++◌, length, remove, bytes_eq, Option, Some, None, Result, Ok, Err}
+use Rattle.std.specs.Prelude.{◌≡◌, ◌<◌, ◌≤◌, ℕ, suc, ◌==◌, nat_lt, Bool, true, false, ◌&&◌, if◌then◌else◌, List, [], ◌∷◌, ◌++◌, length, remove, bytes_eq, Option, Some, None, Result, Ok, Err}
 use Rattle.kl1_host_door.specs.declared.limits.TheConstants.{MOST_SESSIONS}
 use Rattle.kl1_host_door.specs.declared.session.WebSession.{WebSession}
 use Rattle.kl1_host_door.specs.declared.book.SessionTest.{SessionTest}
@@ -10,10 +10,10 @@ use Rattle.kl1_host_door.specs.declared.refusal.Refusal.{Refusal}
 use Rattle.kl1_host_door.specs.declared.door.Allowed.{Allowed}
 use Rattle.kl1_host_door.specs.declared.door.Allowed.TheVariants.{Anyone, Owner}
 
--- whether a session passes a test: it has this name, or its last request was before this second
+-- whether a session passes a test: it has this name; or it is of this account, and its last request was before this second
 abbrev pub passes : SessionTest → WebSession → Bool
 passes (test.IsCalled id) session = bytes_eq session.id id
-passes (test.IsIdle before) session = nat_lt session.last before
+passes (test.IsIdle account before) session = session.account == account && nat_lt session.last before
 
 -- a session whose last request is at this second
 abbrev pub seen_at : ℕ → WebSession → WebSession

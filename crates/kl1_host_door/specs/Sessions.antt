@@ -11,6 +11,10 @@ use Rattle.kl1_host_door.specs.Fields.{value_of}
 abbrev pub cookie_name : List ℕ
 cookie_name = codes "kl1="
 
+-- what stands before that if the page came by https
+abbrev pub by_https : List ℕ
+by_https = codes "__Host-"
+
 -- whether a cookie ends before this
 abbrev pub is_end : List ℕ → Bool
 is_end [] = true
@@ -37,10 +41,14 @@ is_sought owned fields session = if owned then has_token fields session else tru
 abbrev pub sought_at : Bool → List Field → List WebSession → List ℕ → Option WebSession
 sought_at owned fields sessions text = elim (session_at text sessions) [ None ↦ None | Some s ↦ if is_sought owned fields s then Some s else None ]
 
+-- a cookie without what stands before its name if the page came by https
+abbrev pub bare : List ℕ → List ℕ
+bare text = if starts_with nat_eq text by_https then drop (length by_https) text else text
+
 -- the session that is sought, if its cookie stands in front of a text, where one may begin or not
 abbrev pub sought_here : Bool → List Field → List WebSession → Bool → List ℕ → Option WebSession
 sought_here owned fields sessions begins text =
-    if begins && starts_with nat_eq text cookie_name then sought_at owned fields sessions (drop (length cookie_name) text) else None
+    if begins && starts_with nat_eq (bare text) cookie_name then sought_at owned fields sessions (drop (length cookie_name) (bare text)) else None
 
 -- the session that is sought by what is left of a header: cookies begin at its front, and after a semicolon and blanks, and each cookie
 -- `kl1` is looked at

@@ -5,8 +5,10 @@ ghost use Rattle.kl1_host_door.specs.declared.limits.TheConstants.{MOST_SESSIONS
 ghost use Rattle.kl1_host_door.specs.declared.book.BookStep.TheVariants.{Adds, Takes};
 ghost use Rattle.kl1_host_door.specs.Sessions.{IsOpened};
 ghost use Rattle.kl1_host_door.specs.Doors.{authorized};
+ghost use Rattle.kl1_host_door.specs.Bodies.{may_send};
 ghost use Rattle.kl1_host_door.specs.Books.{passes, place_of, touched, has_room, IsAdded, first_of, without_first, seen_by, after};
 
+use crate::body::may_send;
 use crate::door::{Allowed, Site, authorize};
 use crate::head::Head;
 use crate::limits::{MOST_SESSIONS, SECRET_BYTES};
@@ -131,22 +133,41 @@ impl<K: LoginKeys> SessionBook<K> {
         (session, change)
     }
 
+    /// Whether a request is let in to an account, whose body of `count` bytes is read, by what it may have by the sessions (see `admit`); or why
+    /// that isn't read.
+    pub fn may_send(
+        &self,
+        head: &Head,
+        sites: &[Site],
+        is_local: bool,
+        since: u64,
+        count: u64,
+    ) -> Result<bool, Refusal>
+        ensures opened { All (IsOpened K.opens) self.now }
+        ensures value { result ≡ may_send count (authorized head.now self.now sites.now is_local since) }
+    {
+        let allowed = authorize(head, self.list.as_slice(), sites, is_local, since);
+        may_send(count, &allowed)
+    }
+
     /// What a request may have by the sessions, of a host that is known by these names; `is_local` tells whether it comes from the machine
-    /// of the host. If it is of a session, `now` becomes the second of that session's last request.
+    /// of the host. A session whose last request was before the second `since` lets in nobody. If the request is let in by a session, `now`
+    /// becomes the second of that session's last request.
     pub fn admit(
         &mut self,
         head: &Head,
         sites: &[Site],
         is_local: bool,
+        since: u64,
         now: u64,
     ) -> (Result<Allowed, Refusal>, BookChange<K>)
         ensures opened { All (IsOpened K.opens) self.old }
-        ensures allowed { result.0 ≡ authorized head.now self.old sites.now is_local }
+        ensures allowed { result.0 ≡ authorized head.now self.old sites.now is_local since }
         ensures seen { self.new ≡ after (seen_by now result.0) self.old }
         ensures step { result.1.step.value ≡ seen_by now result.0 }
         ensures before { result.1.before.value.items ≡ self.old }
     {
-        let allowed = authorize(head, self.list.as_slice(), sites, is_local);
+        let allowed = authorize(head, self.list.as_slice(), sites, is_local, since);
         if let Ok(Allowed::Owner { id, .. }) = &allowed {
             let change = self.change(BookStep::Touches(*id, now));
             self.touch(*id, now);
@@ -172,8 +193,8 @@ impl<K: LoginKeys> SessionBook<K> {
 pub enum SessionTest {
     /// Whether it has this name.
     IsCalled([u8; SECRET_BYTES]),
-    /// Whether its last request was before this second.
-    IsIdle(u64),
+    /// Whether it is of this account, and its last request was before this second.
+    IsIdle { account: usize, before: u64 },
 }
 
 /// Whether a session passes a test.
@@ -182,7 +203,9 @@ fn passes(test: SessionTest, session: &WebSession) -> bool
 {
     match test {
         SessionTest::IsCalled(id) => is_same_key(&session.id, &id),
-        SessionTest::IsIdle(before) => session.last < before,
+        SessionTest::IsIdle { account, before } => {
+            session.account == account && session.last < before
+        }
     }
 }
 

@@ -1,7 +1,7 @@
 // Sessions of browsers.
 
 ghost use Rattle.std.specs.Prelude.{◌≡◌, true};
-ghost use Rattle.kl1_host_door.specs.Sessions.{is_end, is_of, session_at, is_sought, sought_at, sought_here, sought_from, sought, session_of, owner_of, has_token};
+ghost use Rattle.kl1_host_door.specs.Sessions.{is_end, is_of, session_at, is_sought, sought_at, bare, sought_here, sought_from, sought, session_of, owner_of, has_token};
 
 use crate::field::{Field, value_of};
 use crate::limits::SECRET_BYTES;
@@ -19,6 +19,9 @@ pub struct WebSession {
 
 /// How the cookie of a session begins.
 const COOKIE: &[u8] = b"kl1=";
+
+/// What stands before that if the page came by https.
+const BY_HTTPS: &[u8] = b"__Host-";
 
 /// Whether a cookie ends before this.
 fn is_end(text: &[u8]) -> bool
@@ -92,6 +95,18 @@ fn sought_at(
     }
 }
 
+/// A cookie without what stands before its name if the page came by https.
+#[tactic(auto, using(crate::proofs::Texts::rest_of))]
+fn bare(text: &[u8]) -> &[u8]
+    ensures { result.now ≡ bare text.now }
+{
+    if text.starts_with(BY_HTTPS) {
+        &text[BY_HTTPS.len()..]
+    } else {
+        text
+    }
+}
+
 /// The session that is sought, if its cookie stands in front of a text, where one may begin or not.
 fn sought_here(
     owned: bool,
@@ -102,6 +117,7 @@ fn sought_here(
 ) -> Option<WebSession>
     ensures { result ≡ sought_here owned fields.now sessions.now begins text.now }
 {
+    let text = bare(text);
     if begins && text.starts_with(COOKIE) {
         let cookie = &text[COOKIE.len()..];
         sought_at(owned, fields, sessions, cookie)

@@ -1,10 +1,11 @@
 -- Answers in JSON.
-use Rattle.std.proofs.Common.{◌≡◌, ℕ, ◌==◌, Bool, true, false, ◌||◌, if◌then◌else◌, List, [], ◌∷◌, ◌++◌, map, codes, IsUtf8, Result, Ok, Err, IfOk, refl, sym, ap, ◌∙◌, append_assoc, append-nil}
+use Rattle.std.proofs.Common.{◌≡◌, ◌<◌, ◌≤◌, ℕ, suc, length, get_or, ◌==◌, Bool, true, false, ◌||◌, if◌then◌else◌, List, [], ◌∷◌, ◌++◌, map, codes, IsUtf8, Option, Some, None, slice_get, Result, Ok, Err, IfOk, refl, sym, ap, ◌∙◌, append_assoc, append-nil}
 use Rattle.std.proofs.lemmas.List.{map-append}
+use Rattle.std.proofs.lemmas.Option.{slice_get_past, slice_get_read}
 use Rattle.std.specs.declared.alloc.AllocError.{AllocError}
 use Rattle.std.specs.Str.{is_utf8}
 use Rattle.std.proofs.lemmas.Str.{IsUtf8-from_is_utf8, is_utf8-from_IsUtf8}
-use Rattle.serde_json.specs.Data.{Data, string, array, object, Items, no_items, item, member, no_members}
+use Rattle.serde_json.specs.Data.{Data, null, number, unsigned, string, array, object, Items, no_items, item, member, no_members}
 use Rattle.serde_json.specs.View.{view, items_of}
 use Rattle.serde_json.specs.Written.{compact_text, has_float, items_have_float}
 use Rattle.serde_json.specs.declared.value.Value.{Value}
@@ -19,7 +20,9 @@ use Rattle.kl1_host_door.specs.declared.answer.Cookie.TheVariants.{Kept, Set}
 use Rattle.kl1_host_door.specs.declared.status.Status.{Status}
 use Rattle.kl1_host_door.specs.declared.status.Status.TheVariants.{Good}
 use Rattle.kl1_host_door.specs.declared.session.WebSession.{WebSession}
-use Rattle.kl1_host_web.specs.Telling.{shown, text_data, lines_data, IsReply, IsLoad, IsSyntax}
+use Rattle.kl1_user_events.specs.declared.shoen_view.ShoenView.{ShoenView}
+use Rattle.kl1_host_door.specs.declared.limits.TheConstants.{SHOENS_A_PAGE}
+use Rattle.kl1_host_web.specs.Telling.{shown, text_data, lines_data, IsReply, IsLoad, IsSyntax, IsNamed, number_data, IsShoens}
 use Rattle.kl1_host_web.specs.Beginning.{IsWelcome}
 
 -- ---- bytes as texts
@@ -110,9 +113,13 @@ pub syntax_is : (v : Value) (result : Result Answer AllocError) → view v ≡ o
 syntax_is v (Ok answer) built head text = record { status = head.0; cookie_is = head.1; text = text (ap has_float built) ∙ ap compact_text built }
 syntax_is v (Err e) built head text = tt
 
-pub welcome_is : (session : WebSession) (name : List ℕ) (v : Value) (result : Result Answer AllocError) → view v ≡ object (member (codes "name") (string name) (member (codes "token") (string (shown session.token)) no_members)) → IfOk result (λ answer. (answer.status ≡ Good) × (answer.cookie ≡ Set session.id)) → IfOk result (λ answer. has_float (view v) ≡ false → answer.body.items ≡ compact_text (view v)) → IfOk result (IsWelcome session)
-welcome_is session name v (Ok answer) built head text = record { status = head.0; cookie = head.1; name = name; text = text (ap has_float built) ∙ ap compact_text built }
-welcome_is session name v (Err e) built head text = tt
+pub welcome_is : (names : ℕ → List ℕ) (session : WebSession) (v : Value) (result : Result Answer AllocError) → view v ≡ object (member (codes "name") (string (shown (names session.account))) (member (codes "token") (string (shown session.token)) no_members)) → IfOk result (λ answer. (answer.status ≡ Good) × (answer.cookie ≡ Set session.id)) → IfOk result (λ answer. has_float (view v) ≡ false → answer.body.items ≡ compact_text (view v)) → IfOk result (IsWelcome names session)
+welcome_is names session v (Ok answer) built head text = record { status = head.0; cookie = head.1; text = text (ap has_float built) ∙ ap compact_text built }
+welcome_is names session v (Err e) built head text = tt
+
+pub named_is : (name : List ℕ) (v : Value) (result : Result Answer AllocError) → view v ≡ object (member (codes "name") (string (shown name)) no_members) → IfOk result (λ answer. (answer.status ≡ Good) × (answer.cookie ≡ Kept)) → IfOk result (λ answer. has_float (view v) ≡ false → answer.body.items ≡ compact_text (view v)) → IfOk result (IsNamed name)
+named_is name v (Ok answer) built head text = record { status = head.0; cookie_is = head.1; text = text (ap has_float built) ∙ ap compact_text built }
+named_is name v (Err e) built head text = tt
 
 -- ---- reasons, of which none has a float
 
@@ -125,3 +132,22 @@ last (w ∷ ws) v exact so_far =
 -- one more reason
 pub one_reason : (values new : List Value) (v : Value) → new ≡ values ++ v ∷ [] → has_float (view v) ≡ false → items_have_float (items_of (map view values)) ≡ false → items_have_float (items_of (map view new)) ≡ false
 one_reason values new v pushed exact so_far = ap (λ l. items_have_float (items_of (map view l))) pushed ∙ last values v exact so_far
+
+-- ---- shoens
+
+-- the number of the shoen at a place where there is none, and where there is one
+pub none_at : (views : List ShoenView) (place : ℕ) (d : Data) → length views ≤ place → d ≡ null → d ≡ number_data (slice_get views place)
+none_at views place d past e = e ∙ sym (ap number_data (slice_get_past views place past))
+
+pub one_at : (views : List ShoenView) (place : ℕ) (one : ShoenView) (d : Data) → place < length views → one ≡ get_or views place one → d ≡ number (unsigned one.number.0) → d ≡ number_data (slice_get views place)
+one_at views place one d within is e = e ∙ sym (ap number_data (slice_get_read views (length views) place one refl within is))
+
+number_float : (o : Option ShoenView) → has_float (number_data o) ≡ false
+number_float None = refl
+number_float (Some view) = refl
+
+pub shoens_are : (lists : ℕ → ℕ → List ShoenView → Type 0) (from : ℕ) (views : List ShoenView) (shoens : Items) (v : Value) (result : Result Answer AllocError) → lists from (suc SHOENS_A_PAGE) views → view v ≡ object (member (codes "next") (number_data (slice_get views SHOENS_A_PAGE)) (member (codes "shoens") (array shoens) no_members)) → items_have_float shoens ≡ false → IfOk result (λ answer. (answer.status ≡ Good) × (answer.cookie ≡ Kept)) → IfOk result (λ answer. has_float (view v) ≡ false → answer.body.items ≡ compact_text (view v)) → IfOk result (IsShoens lists from)
+shoens_are lists from views shoens v (Ok answer) listed built exact head text =
+    let none : has_float (view v) ≡ false = ap has_float built ∙ rw (number_float (slice_get views SHOENS_A_PAGE), exact) refl in
+    record { views = views; listed = listed; status = head.0; cookie_is = head.1; shoens = shoens; text = text none ∙ ap compact_text built }
+shoens_are lists from views shoens v (Err e) listed built exact head text = tt

@@ -5,3 +5,4 @@ pub mod Answering
 pub mod Ending
 pub mod Wanting
 pub mod Serving
+pub mod Doing

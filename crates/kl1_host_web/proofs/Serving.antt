@@ -22,7 +22,7 @@ use Rattle.kl1_host_web.specs.Wishes.{wish_view, IsWish}
 use Rattle.kl1_host_web.specs.Telling.{Grants, IsRefusal, KeepsCookie}
 use Rattle.kl1_host_web.specs.Beginning.{IsDrawn, IsWelcome, Begun}
 use Rattle.kl1_host_web.proofs.Wanting.{refusal_keeps}
-use Rattle.kl1_host_web.specs.Serving.{EndsIdle, Admits, Ends, Performs, AnswersWithin, Answers, Attends, Exchange, Exchanges, Serves, Steps, HasHead, HasNoBody, HasBody}
+use Rattle.kl1_host_web.specs.Serving.{Admits, LooksAt, KeepsOut, Ends, Performs, AnswersWithin, Answers, Attends, Exchange, Exchanges, Serves, Steps, HasHead, HasNoBody, HasBody}
 use Rattle.kl1_host_web.specs.declared.serve.Served.{Served}
 use Rattle.kl1_host_web.specs.declared.serve.Served.TheVariants as served_as
 use Rattle.kl1_host_web.specs.declared.wish.Wish.{Wish}
@@ -30,16 +30,16 @@ use Rattle.kl1_host_web.specs.declared.outcome.Outcome.{Outcome}
 use Rattle.kl1_host_web.proofs.Coming.{consumes_both, consumed_front}
 
 -- the session of an account was closed again, and the answer refuses
-pub begun_refused : (gives : List ℕ → Type 0) (account : ℕ) (before after : List Asked) (answer : Performed) (why : Refusal) (result : Result Answer AllocError) → after ≡ before ++ did account (does event.logout) answer ∷ [] → IfOk result (IsRefusal why) → Begun gives account before after result
-begun_refused gives account before after answer why result e h = inr (inr (record { answer = answer; asked = e; kept = refusal_keeps why result h }))
+pub begun_refused : (gives : List ℕ → Type 0) (names : ℕ → List ℕ) (account : ℕ) (before after : List Asked) (answer : Performed) (why : Refusal) (result : Result Answer AllocError) → after ≡ before ++ did account (does event.logout) answer ∷ [] → IfOk result (IsRefusal why) → Begun gives names account before after result
+begun_refused gives names account before after answer why result e h = inr (inr (record { answer = answer; asked = e; kept = refusal_keeps why result h }))
 
 -- the session of an account was closed again, without memory for an answer
-pub begun_failed : (gives : List ℕ → Type 0) (account : ℕ) (before after : List Asked) (answer : Performed) (error : AllocError) → after ≡ before ++ did account (does event.logout) answer ∷ [] → Begun gives account before after (Err error)
-begun_failed gives account before after answer error e = inr (inr (record { answer = answer; asked = e; kept = tt }))
+pub begun_failed : (gives : List ℕ → Type 0) (names : ℕ → List ℕ) (account : ℕ) (before after : List Asked) (answer : Performed) (error : AllocError) → after ≡ before ++ did account (does event.logout) answer ∷ [] → Begun gives names account before after (Err error)
+begun_failed gives names account before after answer error e = inr (inr (record { answer = answer; asked = e; kept = tt }))
 
 -- there was no room for the session
-pub begun_full : (gives : List ℕ → Type 0) (account : ℕ) (before middle after : List Asked) (session : WebSession) (others : List WebSession) (v : Bool) (answer : Performed) (why : Refusal) (result : Result Answer AllocError) → session.account ≡ account → v ≡ false → v ≡ has_room others → middle ≡ before ++ changed (Adds session) others ∷ [] → after ≡ middle ++ did account (does event.logout) answer ∷ [] → IfOk result (IsRefusal why) → Begun gives account before after result
-begun_full gives account before middle after session others v answer why result of_account e room noted closed h = inr (inl (record {
+pub begun_full : (gives : List ℕ → Type 0) (names : ℕ → List ℕ) (account : ℕ) (before middle after : List Asked) (session : WebSession) (others : List WebSession) (v : Bool) (answer : Performed) (why : Refusal) (result : Result Answer AllocError) → session.account ≡ account → v ≡ false → v ≡ has_room others → middle ≡ before ++ changed (Adds session) others ∷ [] → after ≡ middle ++ did account (does event.logout) answer ∷ [] → IfOk result (IsRefusal why) → Begun gives names account before after result
+begun_full gives names account before middle after session others v answer why result of_account e room noted closed h = inr (inl (record {
   session = session;
   others = others;
   answer = answer;
@@ -50,8 +50,8 @@ begun_full gives account before middle after session others v answer why result 
 }))
 
 -- the session is there, and the browser is told of it
-pub begun_told : (gives : List ℕ → Type 0) (account : ℕ) (before after : List Asked) (session : WebSession) (others : List WebSession) (v : Bool) (answer : Answer) → session.account ≡ account → IsDrawn gives session → v ≡ true → v ≡ has_room others → after ≡ before ++ changed (Adds session) others ∷ [] → IsWelcome session answer → Begun gives account before after (Ok answer)
-begun_told gives account before after session others v answer of_account drawn e room noted told = inl (record {
+pub begun_told : (gives : List ℕ → Type 0) (names : ℕ → List ℕ) (account : ℕ) (before after : List Asked) (session : WebSession) (others : List WebSession) (v : Bool) (answer : Answer) → session.account ≡ account → IsDrawn gives session → v ≡ true → v ≡ has_room others → after ≡ before ++ changed (Adds session) others ∷ [] → IsWelcome names session answer → Begun gives names account before after (Ok answer)
+begun_told gives names account before after session others v answer of_account drawn e room noted told = inl (record {
   session = session;
   others = others;
   answer = answer;
@@ -64,7 +64,7 @@ begun_told gives account before after session others v answer of_account drawn e
 })
 
 -- a wish was granted, and what was still to do was done
-pub performs : (gives : List ℕ → Type 0) (house : House) (a : Allowed) (path body : List ℕ) (w : Wish) (before middle after : List Asked) (o : Result Outcome AllocError) (result : Result Answer AllocError) → IsWish a body w → Grants house path (wish_view w) before middle o → Ends gives a o middle after result → Performs gives house a path body before after result
+pub performs : (gives : List ℕ → Type 0) (house : House) (a : Allowed) (path body : List ℕ) (w : Wish) (before middle after : List Asked) (o : Result Outcome AllocError) (result : Result Answer AllocError) → IsWish a body w → Grants house path (wish_view w) before middle o → Ends gives house.names a o middle after result → Performs gives house a path body before after result
 performs gives house a path body w before middle after o result wish grants ends = record {
   value = wish.0;
   reads = wish.1;
@@ -85,19 +85,17 @@ pub denied : (gives : List ℕ → Type 0) (house : House) (a : Allowed) (path b
 denied gives house a path body before after result v e same why = subst (λ x. AnswersWithin gives x house a path body before after result) (sym e) (record { asked = same; refusal = why })
 
 -- a request was attended to by sessions that were open
-pub attended : (tells : ℕ → Type 0) (gives : List ℕ → Type 0) (idle : ℕ) (house : House) (opens : Opens) (sites : List Site) (is_local : Bool) (head : Head) (body : List ℕ) (before ended admitted after : List Asked) (result : Result Answer AllocError) (r : Result Allowed Refusal) → house.opens ≡ opens → EndsIdle tells idle house.accounts before ended → Admits tells opens sites is_local head ended admitted r → Answers gives house r head.target.items body admitted after result → Attends tells gives idle house sites is_local head body before after result
-attended tells gives idle house opens sites is_local head body before ended admitted after result r keys ends admits answers = record {
-  idle_ended = ended;
-  ends = ends;
+pub attended : (tells : ℕ → Type 0) (gives : List ℕ → Type 0) (idle : ℕ) (house : House) (opens : Opens) (sites : List Site) (is_local : Bool) (head : Head) (body : List ℕ) (before admitted after : List Asked) (result : Result Answer AllocError) (r : Result Allowed Refusal) → house.opens ≡ opens → Admits tells opens idle sites is_local head before admitted r → Answers gives house r head.target.items body admitted after result → Attends tells gives idle house sites is_local head body before after result
+attended tells gives idle house opens sites is_local head body before admitted after result r keys admits answers = record {
   admitted = admitted;
   may_have = r;
-  admits = subst (λ (o : Opens). Admits tells o sites is_local head ended admitted r) (sym keys) admits;
+  admits = subst (λ (o : Opens). Admits tells o idle sites is_local head before admitted r) (sym keys) admits;
   answers = answers;
 }
 
 -- a head and a body that came in one after the other are a request, which was attended to
-pub exchanges : (tells : ℕ → Type 0) (gives : List ℕ → Type 0) (idle : ℕ) (house : House) (sites : List Site) (is_local : Bool) (head : Head) (body : List ℕ) (n : ℕ) (answer : Result Answer AllocError) (old middle new : Option (List ℕ)) (before after : List Asked) → HasHead head old middle → body_bytes head ≡ Ok n → HasBody n body middle new → Attends tells gives idle house sites is_local head body before after answer → Exchanges tells gives idle house sites is_local (record { head = head; body = body; answer = answer }) old new before after
-exchanges tells gives idle house sites is_local head body n answer old middle new before after comes told follows attends = record {
+pub exchanges : (tells : ℕ → Type 0) (gives : List ℕ → Type 0) (idle : ℕ) (house : House) (opens : Opens) (sites : List Site) (is_local : Bool) (head : Head) (body : List ℕ) (n : ℕ) (o : Result Bool Refusal) (is_in : Bool) (answer : Result Answer AllocError) (old middle new : Option (List ℕ)) (before after : List Asked) → house.opens ≡ opens → HasHead head old middle → body_bytes head ≡ Ok n → o ≡ Ok is_in → LooksAt tells opens idle sites is_local head n o → HasBody n body middle new → Attends tells gives idle house sites is_local head body before after answer → Exchanges tells gives idle house sites is_local (record { head = head; body = body; answer = answer }) old new before after
+exchanges tells gives idle house opens sites is_local head body n o is_in answer old middle new before after keys comes told sent looks follows attends = record {
   next = record {
     bytes = comes.bytes;
     head = comes.is;
@@ -105,6 +103,9 @@ exchanges tells gives idle house sites is_local head body n answer old middle ne
     long = told ∙ ap Ok (sym follows.long);
     consumes = consumes_both old middle new comes.bytes body comes.consumes follows.consumes;
   };
+  is_in = is_in;
+  looks = subst (λ m. LooksAt tells house.opens idle sites is_local head m (Ok is_in)) (sym follows.long)
+      (subst (λ (p : Opens). LooksAt tells p idle sites is_local head n (Ok is_in)) (sym keys) (subst (λ w. LooksAt tells opens idle sites is_local head n w) sent looks));
   attends = attends;
 }
 
@@ -116,6 +117,18 @@ no_body head why old middle comes e = record {
   front = consumed_front old middle comes.bytes comes.consumes;
   is = comes.is;
   refused = e;
+}
+
+-- a head whose body isn't read
+pub kept_out : (tells : ℕ → Type 0) (idle : ℕ) (house : House) (opens : Opens) (sites : List Site) (is_local : Bool) (head : Head) (n : ℕ) (why : Refusal) (o : Result Bool Refusal) (old middle : Option (List ℕ)) → house.opens ≡ opens → HasHead head old middle → body_bytes head ≡ Ok n → o ≡ Err why → LooksAt tells opens idle sites is_local head n o → KeepsOut tells house.opens idle sites is_local why old
+kept_out tells idle house opens sites is_local head n why o old middle keys comes told refused looks = record {
+  bytes = comes.bytes;
+  head = head;
+  count = n;
+  front = consumed_front old middle comes.bytes comes.consumes;
+  is = comes.is;
+  told = told;
+  looks = subst (λ (p : Opens). LooksAt tells p idle sites is_local head n (Err why)) (sym keys) (subst (λ w. LooksAt tells opens idle sites is_local head n w) refused looks);
 }
 
 -- one more request was served
@@ -138,16 +151,16 @@ stays : (tells : ℕ → Type 0) (gives : List ℕ → Type 0) (idle : ℕ) (hou
 stays tells gives idle house sites is_local served old left before asked after e h = subst (λ x. Serves tells gives idle house sites is_local served old left before x) (sym e) h
 
 -- a request was answered after those that were served
-pub answered : (tells : ℕ → Type 0) (gives : List ℕ → Type 0) (idle : ℕ) (house : House) (sites : List Site) (is_local : Bool) (served : List Exchange) (old middle new : Option (List ℕ)) (before asked after : List Asked) (answer : Answer) (goes_on : Bool) → Serves tells gives idle house sites is_local served old middle before asked → Steps tells gives idle house sites is_local middle new asked after (Ok (served_as.Answered answer goes_on)) → (all : List Exchange) × Serves tells gives idle house sites is_local all old new before after
-answered tells gives idle house sites is_local served old middle new before asked after answer goes_on h k =
+pub answered : (tells : ℕ → Type 0) (gives : List ℕ → Type 0) (idle : ℕ) (house : House) (sites : List Site) (is_local : Bool) (served : List Exchange) (old middle new : Option (List ℕ)) (before asked after : List Asked) (answer : Answer) (secure goes_on : Bool) → Serves tells gives idle house sites is_local served old middle before asked → Steps tells gives idle house sites is_local middle new asked after (Ok (served_as.Answered answer secure goes_on)) → (all : List Exchange) × Serves tells gives idle house sites is_local all old new before after
+answered tells gives idle house sites is_local served old middle new before asked after answer secure goes_on h k =
     let x : Exchange = record { head = k.0; body = k.1; answer = Ok answer } in
-    (x ∷ served, one_more tells gives idle house sites is_local served x old middle new before asked after h k.2)
+    (x ∷ served, one_more tells gives idle house sites is_local served x old middle new before asked after h k.3)
 
 -- whatever became of the next request, those that were read are served
 pub stepped : (tells : ℕ → Type 0) (gives : List ℕ → Type 0) (idle : ℕ) (house : House) (sites : List Site) (is_local : Bool) (served : List Exchange) (old middle new : Option (List ℕ)) (before asked after : List Asked) (r : Result Served AllocError) → Serves tells gives idle house sites is_local served old middle before asked → Steps tells gives idle house sites is_local middle new asked after r → (all : List Exchange) × (left : Option (List ℕ)) × Serves tells gives idle house sites is_local all old left before after
-stepped tells gives idle house sites is_local served old middle new before asked after (Ok (served_as.Answered answer goes_on)) h k =
+stepped tells gives idle house sites is_local served old middle new before asked after (Ok (served_as.Answered answer secure goes_on)) h k =
     let x : Exchange = record { head = k.0; body = k.1; answer = Ok answer } in
-    (x ∷ served, new, one_more tells gives idle house sites is_local served x old middle new before asked after h k.2)
+    (x ∷ served, new, one_more tells gives idle house sites is_local served x old middle new before asked after h k.3)
 stepped tells gives idle house sites is_local served old middle new before asked after (Ok (served_as.Refused why)) h k = (served, middle, stays tells gives idle house sites is_local served old middle before asked after k.0 h)
 stepped tells gives idle house sites is_local served old middle new before asked after (Ok served_as.Ended) h k = (served, middle, stays tells gives idle house sites is_local served old middle before asked after k h)
 stepped tells gives idle house sites is_local served old middle new before asked after (Err e) h (inl k) = (served, middle, stays tells gives idle house sites is_local served old middle before asked after k h)

@@ -24,15 +24,14 @@ pub record IsDrawn (gives : List ℕ → Type 0) (session : WebSession) : Type 0
   pub id : session.id ≡ encode_of url_safe_no_pad (take 24 bytes)
   pub token : session.token ≡ encode_of url_safe_no_pad (drop 24 bytes)
 
--- what a browser is told of a session that begins: its cookie is the session's name, and the text tells its token, beside a name
-pub record IsWelcome (session : WebSession) (answer : Answer) : Type 0 where
+-- what a browser is told of a session that begins: its cookie is the session's name, and the text tells its token, beside what its account is called
+pub record IsWelcome (names : ℕ → List ℕ) (session : WebSession) (answer : Answer) : Type 0 where
   pub status : answer.status ≡ Good
   pub cookie : answer.cookie ≡ Set session.id
-  pub name : List ℕ
-  pub text : answer.body.items ≡ compact_text (object (member (codes "name") (string name) (member (codes "token") (string (shown session.token)) no_members)))
+  pub text : answer.body.items ≡ compact_text (object (member (codes "name") (string (shown (names session.account))) (member (codes "token") (string (shown session.token)) no_members)))
 
 -- a session of an account begins: it was drawn, there was room for it beside the others, and it was added to them and told
-pub record Begins (gives : List ℕ → Type 0) (account : ℕ) (before after : List Asked) (result : Result Answer AllocError) : Type 0 where
+pub record Begins (gives : List ℕ → Type 0) (names : ℕ → List ℕ) (account : ℕ) (before after : List Asked) (result : Result Answer AllocError) : Type 0 where
   pub session : WebSession
   pub others : List WebSession
   pub answer : Answer
@@ -41,7 +40,7 @@ pub record Begins (gives : List ℕ → Type 0) (account : ℕ) (before after : 
   pub room : has_room others ≡ true
   pub asked : after ≡ before ++ changed (Adds session) others ∷ []
   pub is : result ≡ Ok answer
-  pub told : IsWelcome session answer
+  pub told : IsWelcome names session answer
 
 -- there is no room for a session of an account beside the others, and the account was logged out of
 pub record HasNoRoom (account : ℕ) (before after : List Asked) (result : Result Answer AllocError) : Type 0 where
@@ -61,6 +60,6 @@ pub record BeginsNot (account : ℕ) (before after : List Asked) (result : Resul
 
 -- what becomes of a login to an account whose session is open: the session of a browser begins; or it doesn't, and then that of the account
 -- is closed again and the browser's cookie stays as it is
-abbrev pub Begun : (List ℕ → Type 0) → ℕ → List Asked → List Asked → Result Answer AllocError → Type 0
-Begun gives account before after result =
-    Begins gives account before after result ⊎ (HasNoRoom account before after result ⊎ BeginsNot account before after result)
+abbrev pub Begun : (List ℕ → Type 0) → (ℕ → List ℕ) → ℕ → List Asked → List Asked → Result Answer AllocError → Type 0
+Begun gives names account before after result =
+    Begins gives names account before after result ⊎ (HasNoRoom account before after result ⊎ BeginsNot account before after result)

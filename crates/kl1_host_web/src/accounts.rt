@@ -1,7 +1,8 @@
 // The accounts of a host, as browsers use them.
 
-ghost use Rattle.std.specs.Prelude.{◌≡◌, ◌<◌, ◌++◌, ◌∷◌, [], List, IfSome};
+ghost use Rattle.std.specs.Prelude.{◌≡◌, ◌<◌, ◌++◌, ◌∷◌, [], ℕ, List, IfOk, IfSome, OnOk, ⊤};
 ghost use Rattle.kl1_command.specs.Commands.{command_view};
+ghost use Rattle.kl1_user_events.specs.declared.shoen_view.ShoenView.{ShoenView};
 ghost use Rattle.kl1_host_web.specs.Asking.{Asked, did, looked, changed, House};
 
 use kl1_command::{Command, Performed};
@@ -38,8 +39,15 @@ pub struct Sums {
 
 /// What one account shows. Nothing of this changes it.
 pub trait Viewer {
+    /// The account that it shows.
+    ghost account: { Self → ℕ };
+
+    /// Which shoens an account has told: by its number, from which shoen's number on, and how many at most.
+    ghost lists: { ℕ → ℕ → ℕ → List ShoenView → Type 0 } = { λ _ _ _ _. ⊤ };
+
     /// The shoens with numbers from one on, the first `count` of them.
-    fn shoens_from(&mut self, from: ShoenNo, count: usize) -> Result<Vec<ShoenView>, AllocError>;
+    fn shoens_from(&mut self, from: ShoenNo, count: usize) -> Result<Vec<ShoenView>, AllocError>
+        ensures { IfOk result (λ views. lists (account self.old) from.0 count views.items) };
 
     /// The goals with numbers from one on, the first `count` of them.
     fn goals_from(&mut self, from: GoalNo, count: usize) -> Result<Vec<GoalView>, AllocError>;
@@ -64,7 +72,7 @@ pub trait Viewer {
 pub trait Accounts {
     type Viewer: Viewer + Drop;
 
-    /// How many accounts there are, and whom names and keys let in.
+    /// How many accounts there are, what they are called, whom names and keys let in, and what was done before.
     ghost house: { Self → House };
 
     /// What was asked of accounts, in order.
@@ -83,7 +91,11 @@ pub trait Accounts {
 
     /// Puts the name of an account after the bytes.
     fn put_name(&self, account: usize, out: &mut Vec<u8>) -> Result<(), AllocError>
-        requires { account < (house self.now).accounts };
+        requires { account < (house self.now).accounts }
+        ensures { OnOk result (out.new.items ≡ out.old.items ++ (house self.now).names account) };
+
+    /// Takes in that a request was let in to an account, by a session.
+    fn let_in(&self);
 
     /// Does a command to an account.
     fn act(&mut self, account: usize, command: &Command) -> Performed
@@ -94,6 +106,7 @@ pub trait Accounts {
     /// What shows an account.
     fn look(&mut self, account: usize) -> Self::Viewer
         requires { account < (house self.old).accounts }
+        ensures account { Self.Viewer.account result ≡ account }
         ensures house { house self.new ≡ house self.old }
         ensures asked { asked self.new ≡ asked self.old ++ looked account ∷ [] };
 

@@ -5,7 +5,7 @@ ghost use Rattle.kl1_command.specs.Commands.{command_view};
 ghost use Rattle.kl1_host_door.specs.declared.answer.Cookie.TheVariants.{Kept};
 ghost use Rattle.kl1_session.specs.Conversations.{is_welcome, is_bye};
 ghost use Rattle.kl1_host_web.specs.Wishes.{wish_view, enter, leave, do_to, load_into, show_of};
-ghost use Rattle.kl1_host_web.specs.Telling.{KeepsCookie, Grants, Entered, Shows, IsOfOne, IsTold, Tells, IsReply, IsLoad, IsSyntax, IsOpenedIn, Refuses, Enters, Leaves};
+ghost use Rattle.kl1_host_web.specs.Telling.{KeepsCookie, Grants, Entered, Shows, IsOfOne, IsTold, Tells, IsReply, IsLoad, IsSyntax, Lists, ListsFor, IsOpenedIn, Refuses, Enters, Leaves};
 
 use crate::accounts::Accounts;
 use crate::json::{refused, told_command, told_load, told_name, told_syntax};
@@ -83,7 +83,8 @@ fn leave<A: Accounts>(
 {
     let performed = accounts.act(account, &Command::Does(Event::Logout));
     if is_bye(&performed) {
-        Ok(Outcome::Closes(told_command(alloc, &performed, Cookie::Cleared)?))
+        // Without memory for the answer the session of the browser ends as well: that of the account is closed.
+        Ok(Outcome::Closes(told_command(alloc, &performed, Cookie::Cleared)))
     } else {
         Ok(Outcome::Told(told_command(alloc, &performed, Cookie::Kept)?))
     }
@@ -140,6 +141,7 @@ fn show<A: Accounts>(
     ensures house { A.house accounts.new ≡ A.house accounts.old }
     ensures within { IfOk result (IsOpenedIn (A.house accounts.old)) }
     ensures grants { Grants (A.house accounts.old) [] (show_of account ask) (A.asked accounts.old) (A.asked accounts.new) result }
+    ensures lists { Lists A.Viewer.lists account ask result }
 {
     match ask {
         Ask::Account => {
@@ -152,7 +154,7 @@ fn show<A: Accounts>(
         }
         Ask::Shoens(from) => {
             let mut viewer = accounts.look(account);
-            told(shoens_page(alloc, &mut viewer, from))
+            Ok(Outcome::Told(shoens_page(alloc, &mut viewer, from)?))
         }
         Ask::Waiting => {
             let mut viewer = accounts.look(account);
@@ -177,6 +179,7 @@ pub fn grant<A: Accounts>(
     ensures house { A.house accounts.new ≡ A.house accounts.old }
     ensures within { IfOk result (IsOpenedIn (A.house accounts.old)) }
     ensures grants { Grants (A.house accounts.old) target.now (wish_view wish) (A.asked accounts.old) (A.asked accounts.new) result }
+    ensures lists { ListsFor A.Viewer.lists (wish_view wish) result }
 {
     match wish {
         Wish::Refuse(refusal) => refuse(alloc, refusal),
@@ -185,7 +188,7 @@ pub fn grant<A: Accounts>(
         Wish::Leave { account } => leave(alloc, accounts, account),
         Wish::Do { account, command } => perform(alloc, accounts, account, &command),
         Wish::Load { account, source } => load(alloc, accounts, account, source),
-        Wish::Tell(account) => told(told_name(alloc, accounts, account)),
+        Wish::Tell(account) => Ok(Outcome::Told(told_name(alloc, accounts, account)?)),
         Wish::Show { account, ask } => show(alloc, accounts, account, ask),
         Wish::Open(ask) => Ok(Outcome::Told(open_page(alloc, accounts, ask, target)?)),
     }

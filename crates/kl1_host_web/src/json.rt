@@ -5,7 +5,7 @@ ghost use Rattle.serde_json.specs.Data.{string, array, object, no_members, put a
 ghost use Rattle.serde_json.specs.View.{view};
 ghost use Rattle.serde_json.specs.Written.{compact_text, has_float, items_have_float};
 ghost use Rattle.kl1_session.specs.Replies.{told};
-ghost use Rattle.kl1_host_web.specs.Telling.{IsRefusal, KeepsCookie, shown, lines_data, IsReply, IsLoad, IsSyntax};
+ghost use Rattle.kl1_host_web.specs.Telling.{IsRefusal, shown, lines_data, IsReply, IsLoad, IsSyntax, IsNamed};
 ghost use Rattle.kl1_host_web.specs.Beginning.{IsWelcome};
 
 use crate::accounts::Accounts;
@@ -37,7 +37,7 @@ pub(crate) fn told_value(
 }
 
 /// An object of two members.
-fn pair_value(
+pub(crate) fn pair_value(
     alloc: Global,
     first: &str,
     one: Value,
@@ -128,7 +128,7 @@ pub(crate) fn told_command(
 /// The name of an account as a value.
 fn name_value<A: Accounts>(alloc: Global, accounts: &A, account: usize) -> Result<Value, AllocError>
     requires { account < (A.house accounts.now).accounts }
-    ensures { IfOk result (λ value. (name : List ℕ) × (view value ≡ string name)) }
+    ensures { IfOk result (λ value. view value ≡ string (shown ((A.house accounts.now).names account))) }
 {
     let mut name = Vec::new(alloc);
     accounts.put_name(account, &mut name)?;
@@ -142,7 +142,7 @@ pub(crate) fn told_session<A: Accounts>(
     session: &WebSession,
 ) -> Result<Answer, AllocError>
     requires { session.now.account < (A.house accounts.now).accounts }
-    ensures { IfOk result (IsWelcome session.now) }
+    ensures { IfOk result (IsWelcome (A.house accounts.now).names session.now) }
 {
     let name = name_value(alloc, accounts, session.account)?;
     let token = text_value(alloc, session.token.as_slice())?;
@@ -157,7 +157,7 @@ pub(crate) fn told_name<A: Accounts>(
     account: usize,
 ) -> Result<Answer, AllocError>
     requires { account < (A.house accounts.now).accounts }
-    ensures { IfOk result KeepsCookie }
+    ensures { IfOk result (IsNamed ((A.house accounts.now).names account)) }
 {
     let name = name_value(alloc, accounts, account)?;
     let value = json!(in alloc; {"name": name})?;

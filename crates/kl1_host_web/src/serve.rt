@@ -13,7 +13,7 @@ ghost use Rattle.kl1_command.specs.declared.performed.Performed.{Performed};
 ghost use Rattle.kl1_host_web.specs.Asking.{Asked, changed};
 ghost use Rattle.kl1_host_web.specs.Telling.{IsOpenedIn};
 ghost use Rattle.kl1_host_web.specs.Beginning.{Begun};
-ghost use Rattle.kl1_host_web.specs.Serving.{Seeks, logout_of, EndsIdle, Admits, closing, Ends, is_within, AnswersWithin, Attends, Exchange, Serves, Steps};
+ghost use Rattle.kl1_host_web.specs.Serving.{Seeks, logout_of, EndsIdle, Admits, LooksAt, closing, Ends, is_within, AnswersWithin, Attends, Exchange, Serves, Steps};
 
 use crate::accounts::Accounts;
 use crate::granting::grant;
@@ -26,8 +26,8 @@ use crate::wish::wish_of;
 use kl1_command::Command;
 use kl1_host_door::limits::SECRET_BYTES;
 use kl1_host_door::{
-    Allowed, Answer, Head, LoginKeys, Refusal, SessionTest, WebSession, body_bytes, put_answer,
-    value_of,
+    Allowed, Answer, Head, LoginKeys, Refusal, SessionTest, WebSession, body_bytes, is_secure,
+    put_answer, value_of,
 };
 use kl1_lines::{Sink, Source, finish};
 use kl1_user_events::Event;
@@ -47,8 +47,12 @@ pub struct Service<'p, R: Wait, M: Machine, K: LoginKeys> {
 /// What becomes of a request.
 #[derive(Drop)]
 enum Served {
-    /// It is answered, and the connection goes on or not.
-    Answered(Answer, bool),
+    /// It is answered, of a page that came by https or not, and the connection goes on or not.
+    Answered {
+        answer: Answer,
+        secure: bool,
+        goes_on: bool,
+    },
     /// It is refused, and nothing is known of what comes after it.
     Refused(Refusal),
     /// There is none: the connection has ended.
@@ -63,6 +67,13 @@ fn log_out<A: Accounts>(accounts: &mut A, account: usize)
 {
     if account < accounts.count() {
         let _ = accounts.act(account, &Command::Does(Event::Logout));
+    }
+}
+
+/// Tells that a request was let in to an account, if it was.
+fn tell_in<A: Accounts>(accounts: &A, is_in: bool) {
+    if is_in {
+        accounts.let_in();
     }
 }
 
@@ -107,15 +118,15 @@ impl<'p, R: Wait, M: Machine, K: LoginKeys> Service<'p, R, M, K> {
         accounts.note_change(change);
     }
 
-    /// Takes the first session out of the book whose browser made no request for too long; `None` if there is none.
-    fn take_idle<A: Accounts>(&self, accounts: &mut A) -> Option<WebSession>
+    /// Takes the first session of an account out of the book whose browser made no request for too long; `None` if there is none.
+    fn take_idle<A: Accounts>(&self, accounts: &mut A, account: usize) -> Option<WebSession>
         ensures house { A.house accounts.new ≡ A.house accounts.old }
-        ensures seeks { (note : Asked) × Seeks (M.tells self.now.machine.now) self.now.page.idle result note × (A.asked accounts.new ≡ A.asked accounts.old ++ note ∷ []) }
+        ensures seeks { (note : Asked) × Seeks (M.tells self.now.machine.now) self.now.page.idle account result note × (A.asked accounts.new ≡ A.asked accounts.old ++ note ∷ []) }
     {
         let before = self.machine.seconds().saturating_sub(self.page.idle);
         let mut guard = self.page.sessions.lock(self.rt);
         let book = &mut *guard;
-        let (session, change) = book.take(SessionTest::IsIdle(before));
+        let (session, change) = book.take(SessionTest::IsIdle { account, before });
         accounts.note_change(change);
         session
     }
@@ -136,23 +147,35 @@ impl<'p, R: Wait, M: Machine, K: LoginKeys> Service<'p, R, M, K> {
     /// What a request may have, by the sessions that are open now.
     fn allowed<A: Accounts>(&self, accounts: &mut A, head: &Head) -> Result<Allowed, Refusal>
         ensures house { A.house accounts.new ≡ A.house accounts.old }
-        ensures admits { Admits (M.tells self.now.machine.now) K.opens self.now.page.sites.now self.now.is_local head.now (A.asked accounts.old) (A.asked accounts.new) result }
+        ensures admits { Admits (M.tells self.now.machine.now) K.opens self.now.page.idle self.now.page.sites.now self.now.is_local head.now (A.asked accounts.old) (A.asked accounts.new) result }
     {
         let now = self.machine.seconds();
+        let since = now.saturating_sub(self.page.idle);
         let mut guard = self.page.sessions.lock(self.rt);
         let book = &mut *guard;
-        let (allowed, change) = book.admit(head, self.page.sites, self.is_local, now);
+        let (allowed, change) = book.admit(head, self.page.sites, self.is_local, since, now);
         accounts.note_change(change);
         allowed
     }
 
-    /// Ends the sessions of browsers that made no request for too long: each is taken out of the book and logged out, until there is none.
-    pub fn end_idle<A: Accounts>(&self, accounts: &mut A)
+    /// Whether a request is let in to an account, whose body of `count` bytes is read, by the sessions that are open now; or why that isn't read.
+    fn may_send(&self, head: &Head, count: u64) -> Result<bool, Refusal>
+        ensures { LooksAt (M.tells self.now.machine.now) K.opens self.now.page.idle self.now.page.sites.now self.now.is_local head.now count result }
+    {
+        let since = self.machine.seconds().saturating_sub(self.page.idle);
+        let guard = self.page.sessions.lock(self.rt);
+        let book = &*guard;
+        book.may_send(head, self.page.sites, self.is_local, since, count)
+    }
+
+    /// Ends the sessions of an account whose browsers made no request for too long: each is taken out of the book and logged out, until there
+    /// is none. A logout waits for the account, if it is in the midst of a reduction.
+    pub fn end_idle<A: Accounts>(&self, accounts: &mut A, account: usize)
         ensures house { A.house accounts.new ≡ A.house accounts.old }
-        ensures ends { EndsIdle (M.tells self.now.machine.now) self.now.page.idle (A.house accounts.old).accounts (A.asked accounts.old) (A.asked accounts.new) }
+        ensures ends { EndsIdle (M.tells self.now.machine.now) self.now.page.idle account (A.house accounts.old).accounts (A.asked accounts.old) (A.asked accounts.new) }
     {
         for _ in self.rt.forever() {
-            match self.take_idle(accounts) {
+            match self.take_idle(accounts, account) {
                 Some(session) => log_out(accounts, session.account),
                 None => return,
             }
@@ -165,7 +188,7 @@ impl<'p, R: Wait, M: Machine, K: LoginKeys> Service<'p, R, M, K> {
         requires within { account < (A.house accounts.old).accounts }
         requires opened { LetsIn K.opens account }
         ensures house { A.house accounts.new ≡ A.house accounts.old }
-        ensures asked { Begun (M.gives self.now.machine.now) account (A.asked accounts.old) (A.asked accounts.new) result }
+        ensures asked { Begun (M.gives self.now.machine.now) (A.house accounts.old).names account (A.asked accounts.old) (A.asked accounts.new) result }
     {
         let Some(session) = new_session(self.machine, account) else {
             let _ = accounts.act(account, &Command::Does(Event::Logout));
@@ -195,7 +218,7 @@ impl<'p, R: Wait, M: Machine, K: LoginKeys> Service<'p, R, M, K> {
         requires keys { (A.house accounts.old).opens ≡ K.opens }
         requires opened { IsOpenedIn (A.house accounts.old) outcome }
         ensures house { A.house accounts.new ≡ A.house accounts.old }
-        ensures ends { Ends (M.gives self.now.machine.now) allowed.now (Ok outcome) (A.asked accounts.old) (A.asked accounts.new) result }
+        ensures ends { Ends (M.gives self.now.machine.now) (A.house accounts.old).names allowed.now (Ok outcome) (A.asked accounts.old) (A.asked accounts.new) result }
     {
         match outcome {
             Outcome::Told(answer) => Ok(answer),
@@ -204,7 +227,7 @@ impl<'p, R: Wait, M: Machine, K: LoginKeys> Service<'p, R, M, K> {
                 if let Allowed::Owner { id, .. } = allowed {
                     self.forget(accounts, *id);
                 }
-                Ok(answer)
+                answer
             }
         }
     }
@@ -240,7 +263,6 @@ impl<'p, R: Wait, M: Machine, K: LoginKeys> Service<'p, R, M, K> {
         ensures house { A.house accounts.new ≡ A.house accounts.old }
         ensures answers { Attends (M.tells self.now.machine.now) (M.gives self.now.machine.now) self.now.page.idle (A.house accounts.old) self.now.page.sites.now self.now.is_local head.now body.now (A.asked accounts.old) (A.asked accounts.new) result }
     {
-        self.end_idle(accounts);
         match self.allowed(accounts, head) {
             Err(refusal) => refused(self.alloc, refusal),
             Ok(allowed) => self.answer(accounts, head, &allowed, body),
@@ -264,29 +286,40 @@ impl<'p, R: Wait, M: Machine, K: LoginKeys> Service<'p, R, M, K> {
             Incoming::Ended => return Ok(Served::Ended),
         };
         let count = match body_bytes(&head) {
-            Ok(count) => count as usize,
+            Ok(count) => count,
             Err(refusal) => return Ok(Served::Refused(refusal)),
         };
-        // The body is read also if the request is refused, so that the next one is found.
-        let Some(body) = inbox.body(self.alloc, source, count)? else {
+        // Who isn't let in has no long body read. A short one is read also if the request is refused, so that the next one is found.
+        let is_in = match self.may_send(&head, count) {
+            Ok(is_in) => is_in,
+            Err(refusal) => return Ok(Served::Refused(refusal)),
+        };
+        tell_in(&*accounts, is_in);
+        let Some(body) = inbox.body(self.alloc, source, count as usize)? else {
             return Ok(Served::Ended);
         };
         let answer = self.attend(accounts, &head, body.as_slice())?;
-        Ok(Served::Answered(answer, goes_on(&head)))
+        Ok(Served::Answered {
+            answer,
+            secure: is_secure(&head, self.page.sites),
+            goes_on: goes_on(&head),
+        })
     }
 
     /// Writes an answer; `false` if that failed.
-    fn send<T: Sink>(&self, sink: &mut T, answer: &Answer, goes_on: bool) -> bool
-        ensures { result ≡ true → Appends (T.contents sink.old) (T.contents sink.new) (answer_text answer.now goes_on) }
+    fn send<T: Sink>(&self, sink: &mut T, answer: &Answer, secure: bool, goes_on: bool) -> bool
+        ensures { result ≡ true → Appends (T.contents sink.old) (T.contents sink.new) (answer_text answer.now secure goes_on) }
     {
         let mut text = Vec::new(self.alloc);
-        put_answer(&mut text, answer, goes_on).is_ok() && finish(sink, text.as_slice()).is_ok()
+        put_answer(&mut text, answer, secure, goes_on).is_ok()
+            && finish(sink, text.as_slice()).is_ok()
     }
 
     /// Writes that a request is refused. Without memory nothing is written.
     fn send_refusal<T: Sink>(&self, sink: &mut T, refusal: Refusal) {
         if let Ok(answer) = refused(self.alloc, refusal) {
-            let _ = self.send(sink, &answer, false);
+            // It tells of no cookie.
+            let _ = self.send(sink, &answer, false, false);
         }
     }
 
@@ -304,8 +337,14 @@ impl<'p, R: Wait, M: Machine, K: LoginKeys> Service<'p, R, M, K> {
         let mut inbox = Inbox::new(self.alloc);
         for _ in 0..u64::MAX {
             match self.serve_request(source, &mut inbox, accounts) {
-                Ok(Served::Answered(answer, goes_on)) => {
-                    if !self.send(sink, &answer, goes_on) || !goes_on {
+                Ok(
+                    Served::Answered {
+                        answer,
+                        secure,
+                        goes_on,
+                    },
+                ) => {
+                    if !self.send(sink, &answer, secure, goes_on) || !goes_on {
                         return;
                     }
                 }

@@ -1,4 +1,8 @@
+pub mod Lobbies
 pub mod NamesInOrder
+pub mod Notices
 pub mod OpenedByName
+pub mod OwnHistories
 pub mod Restarts
+pub mod Shelves
 pub mod UsedNames

@@ -1,5 +1,5 @@
 -- Which commands need room on the disk.
-use Rattle.std.specs.Prelude.{Bool, true, false}
+use Rattle.std.specs.Prelude.{Bool, true, false, cond, not, ◌&&◌, ◌||◌}
 use Rattle.kl1_model.specs.Event as event
 use Rattle.kl1_model.specs.declared.message.Message.{Message}
 use Rattle.kl1_model.specs.declared.message.Message.TheVariants as message
@@ -40,3 +40,8 @@ is_of_sessions (does event.logout) = true
 is_of_sessions (does _) = false
 is_of_sessions (run n) = false
 is_of_sessions (shows from count) = false
+
+-- whether a command lacks room: a session is opened and closed without, a reset has some that is kept for it, and what makes a file grow
+-- finds none if the file has as many bytes as it may; whatever else waits if what was written waits
+abbrev pub lacks_room : Command → Bool → Bool → Bool → Bool
+lacks_room c is_short lacks_reserve is_beyond = not (is_of_sessions c) && cond (is_reset c) lacks_reserve (is_short || (fills_disk c && is_beyond))

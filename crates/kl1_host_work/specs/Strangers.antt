@@ -1,5 +1,5 @@
--- Connections that have shown no key: how they are counted, and which gives way.
-use Rattle.std.specs.Prelude.{◌≡◌, ℕ, ◌+◌, ◌/◌, ◌^◌, Bool, true, false, nat_lt}
+-- By which number connections are counted.
+use Rattle.std.specs.Prelude.{◌≡◌, ℕ, ◌+◌, ◌/◌, ◌^◌}
 use Rattle.std.specs.Net.Addr.{ipv4_bits, ipv6_bits, IsCanonicalOf, MatchIp}
 use Rattle.std.specs.declared.net.ip_addr.IpAddr.{IpAddr}
 use Rattle.std.specs.declared.net.ip_addr.IpAddr.TheVariants.{V4, V6}
@@ -12,10 +12,3 @@ IsCanonical a canonical = MatchIp a (λ _. canonical ≡ a) (λ long. IsCanonica
 abbrev pub network_in : IpAddr → ℕ
 network_in (V4 short) = ipv4_bits short
 network_in (V6 long) = 2 ^ 64 + ipv6_bits long / 2 ^ 64
-
--- whether a connection gives way before another: one whose key is looked at after one whose key isn't, and else the older first
-abbrev pub gives_way : Bool → ℕ → Bool → ℕ → Bool
-gives_way false one false other = nat_lt one other
-gives_way true one true other = nat_lt one other
-gives_way false one true other = true
-gives_way true one false other = false

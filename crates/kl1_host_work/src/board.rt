@@ -1,14 +1,19 @@
 // What was seen of accounts last.
 
+ghost use Rattle.std.specs.Prelude.{◌≡◌, ◌≤◌, nat_le};
+ghost use Rattle.kl1_host_work.specs.Sights.{later};
+
 use crate::answers::Answers;
 use crate::front::Sight;
+use crate::visit::now_of;
 use kl1_host_journals::Bell;
 use kl1_model::limits::MOST_ACCOUNTS;
 use std::alloc::{AllocError, Global};
 use std::sync::{Condvar, Mutex, Wait};
 use std::time::{Clock, Duration};
 
-/// How long is waited for an account to be looked at, in milliseconds: one that is in the midst of a reduction isn't meanwhile.
+/// How long is waited for an account to be looked at since it was asked, in milliseconds: one that is in the midst of a reduction isn't
+/// meanwhile.
 const WAITED_FOR_A_LOOK: u64 = 200;
 
 /// What was seen of an account last, and how often it was asked to be looked at, and was.
@@ -17,6 +22,50 @@ struct Seen {
     sight: Option<Sight>,
     asked: u64,
     done: u64,
+    /// When it was asked first of the times for which it wasn't looked at yet.
+    since: Duration,
+}
+
+impl Seen {
+    /// Takes in that it is asked at this time.
+    fn ask(&mut self, now: Duration)
+        ensures { (self.new.sight ≡ self.old.sight) × (self.new.done ≡ self.old.done) × (self.old.asked ≤ self.new.asked) }
+    {
+        if self.is_done() {
+            self.since = now;
+        }
+        self.asked = self.asked.saturating_add(1);
+    }
+
+    /// Takes in what was seen after it was asked so often; `None` if that isn't known, so that it stays what was seen before.
+    fn show(&mut self, sight: Option<Sight>, asked: u64)
+        ensures sight { self.new.sight ≡ later sight self.old.sight }
+        ensures asked { (self.new.asked ≡ self.old.asked) × (self.new.done ≡ asked) }
+    {
+        if sight.is_some() {
+            self.sight = sight;
+        }
+        self.done = asked;
+    }
+
+    /// Whether it was looked at as often as it was asked.
+    fn is_done(&self) -> bool
+        ensures { result ≡ nat_le self.now.asked self.now.done }
+    {
+        self.done >= self.asked
+    }
+
+    /// What was seen last, and whether that was after it was asked last.
+    fn told(&self) -> (Option<Sight>, bool)
+        ensures { (result.0 ≡ self.now.sight) × (result.1 ≡ nat_le self.now.asked self.now.done) }
+    {
+        (self.sight, self.is_done())
+    }
+
+    /// For how long it is still waited that it is looked at.
+    fn pause(&self, now: Duration) -> Duration {
+        Duration::from_millis(WAITED_FOR_A_LOOK).saturating_sub(now.saturating_sub(self.since))
+    }
 }
 
 /// What was seen of an account last, for those who ask, and what wakes who looks.
@@ -35,6 +84,7 @@ impl Outlook {
                 sight: None,
                 asked: 0,
                 done: 0,
+                since: Duration::from_millis(0),
             }),
             changed: Condvar::new(),
             bell: Bell::new(),
@@ -46,42 +96,40 @@ impl Outlook {
         &self.bell
     }
 
-    /// How often it was asked to be looked at.
-    pub(crate) fn asked<W: Wait>(&self, rt: &W) -> u64 {
-        self.seen.lock(rt).asked
+    /// How often it was asked to be looked at, and whether it wasn't looked at as often yet.
+    pub(crate) fn asked<W: Wait>(&self, rt: &W) -> (u64, bool) {
+        let guard = self.seen.lock(rt);
+        (guard.asked, !guard.is_done())
     }
 
     /// Takes in what was seen after it was asked so often; `None` if that isn't known.
     pub(crate) fn show<W: Wait>(&self, rt: &W, sight: Option<Sight>, asked: u64) {
         let mut guard = self.seen.lock(rt);
         let seen = &mut *guard;
-        if sight.is_some() {
-            seen.sight = sight;
-        }
-        seen.done = asked;
+        seen.show(sight, asked);
         drop(guard);
         self.changed.notify_all();
     }
 
     /// Asks that the account is looked at.
-    fn ask<W: Wait>(&self, rt: &W) {
+    fn ask<W: Wait + Clock>(&self, rt: &W) {
+        let now = now_of(rt);
         let mut guard = self.seen.lock(rt);
         let seen = &mut *guard;
-        seen.asked = seen.asked.saturating_add(1);
+        seen.ask(now);
         drop(guard);
         self.bell.ring(rt);
     }
 
-    /// What was seen last, once the account was looked at as often as it was asked, or after a short time; and whether it was.
+    /// What was seen last, once the account was looked at as often as it was asked, or a short time after it was asked; and whether it was.
     fn wait<W: Wait + Clock>(&self, rt: &W) -> (Option<Sight>, bool) {
-        let pause = Duration::from_millis(WAITED_FOR_A_LOOK);
-        let (guard, _) = self.changed.wait_timeout_while(
-            rt,
-            self.seen.lock(rt),
-            pause,
-            |seen| seen.done < seen.asked,
-        );
-        (guard.sight, guard.done >= guard.asked)
+        let now = now_of(rt);
+        let guard = self.seen.lock(rt);
+        let pause = guard.pause(now);
+        let (guard, _) = self
+            .changed
+            .wait_timeout_while(rt, guard, pause, |seen| !seen.is_done());
+        guard.told()
     }
 }
 
@@ -116,7 +164,7 @@ impl Board {
     }
 
     /// Asks that each account is looked at.
-    pub(crate) fn ask_all<W: Wait>(&self, rt: &W) {
+    pub(crate) fn ask_all<W: Wait + Clock>(&self, rt: &W) {
         for outlook in &self.outlooks {
             outlook.ask(rt);
         }

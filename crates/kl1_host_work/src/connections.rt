@@ -9,6 +9,7 @@ use crate::front::{Front, HostEvent};
 use crate::host::Host;
 use crate::lobby::{Admission, Limits, Lobby};
 use crate::visit::Visit;
+use kl1_host_journals::Naming;
 use kl1_pool::{Pool, PoolIds, Share};
 use std::alloc::Global;
 use std::net::{Net, SocketAddr, TcpListener, TcpStream};
@@ -31,24 +32,24 @@ pub(crate) enum Peers {
 
 /// What a connection is served by.
 #[derive(Drop)]
-pub(crate) struct Desk<'d, 't, F: Front, R: Wait, K: PoolIds> {
+pub(crate) struct Desk<'d, 't, F: Front, R: Wait, K: PoolIds + Naming> {
     pub(crate) front: &'d F,
     pub(crate) pool: &'d Pool<'t, R, K>,
     pub(crate) lobby: &'d Lobby<K>,
     pub(crate) board: &'d Board,
-    pub(crate) host: Host<'d>,
+    pub(crate) host: Host<'d, K>,
     pub(crate) limits: Limits,
     pub(crate) alloc: Global,
 }
 
-impl<'d, 't, F: Front, R: Wait, K: PoolIds> Desk<'d, 't, F, R, K> {
+impl<'d, 't, F: Front, R: Wait, K: PoolIds + Naming> Desk<'d, 't, F, R, K> {
     /// A desk of these.
     pub(crate) fn new(
         front: &'d F,
         pool: &'d Pool<'t, R, K>,
         lobby: &'d Lobby<K>,
         board: &'d Board,
-        host: Host<'d>,
+        host: Host<'d, K>,
         limits: Limits,
         alloc: Global,
     ) -> Self
@@ -67,7 +68,7 @@ impl<'d, 't, F: Front, R: Wait, K: PoolIds> Desk<'d, 't, F, R, K> {
 }
 
 /// Serves a connection of a client, and gives the share back.
-fn serve_client<'t, F: Front, W: Wait + Clock, R: Wait, K: PoolIds>(
+fn serve_client<'t, F: Front, W: Wait + Clock, R: Wait, K: PoolIds + Naming>(
     rt: &W,
     desk: &Desk<'_, 't, F, R, K>,
     visit: &Visit,
@@ -78,40 +79,31 @@ fn serve_client<'t, F: Front, W: Wait + Clock, R: Wait, K: PoolIds>(
 {
     desk.front.tell(HostEvent::Opened(address));
     let door = desk.front.door(address);
-    let (served, share) = serve_lines(
-        rt,
-        desk.alloc,
-        visit,
-        desk.pool,
-        desk.host,
-        desk.limits,
-        door,
-        share,
-    );
+    let (served, share) = serve_lines(rt, desk, visit, door, share);
     desk.front.tell(HostEvent::Closed(address, served));
     share
 }
 
-/// Serves a connection that was let in by this number, with the share that is kept for it, and gives that back.
-fn serve_visitor<'t, F: Front, W: Wait + Clock, R: Wait, K: PoolIds>(
+/// Serves the connection that has this place, with the share that is kept for it, and gives that back.
+fn serve_visitor<'t, F: Front, W: Wait + Clock, R: Wait, K: PoolIds + Naming>(
     rt: &W,
     desk: &Desk<'_, 't, F, R, K>,
     visit: Arc<Visit, Global>,
     address: SocketAddr,
     peers: Peers,
-    number: u64,
+    place: usize,
 )
     requires { AreAccountsOf (F.names desk.now.front.now) K.names K.accounts }
 {
-    if let Some(share) = desk.lobby.take_share(rt, number) {
-        let share = match peers {
+    let share = match desk.lobby.lend(rt, place) {
+        Some(share) => Some(match peers {
             Peers::Clients => serve_client(&*rt, &*desk, &*visit, address, share),
             Peers::Browsers => serve_pages(&*rt, &*desk, &*visit, address, share),
-        };
-        desk.lobby.give_back(rt, share);
-    }
+        }),
+        None => None,
+    };
     drop(visit);
-    desk.lobby.leave(rt, number);
+    desk.lobby.leave(rt, place, share);
 }
 
 /// A connection that came in and is open.
@@ -119,7 +111,7 @@ fn serve_visitor<'t, F: Front, W: Wait + Clock, R: Wait, K: PoolIds>(
 struct Arrival {
     visit: Arc<Visit, Global>,
     address: SocketAddr,
-    number: u64,
+    place: usize,
 }
 
 /// What came in.
@@ -133,8 +125,8 @@ enum Received {
     Closing,
 }
 
-/// Lets a connection in as soon as there is a share for it, if it may. Others that have shown no key give way to it.
-fn arrival_of<'t, F: Front, N: Wait + Clock, R: Wait, K: PoolIds>(
+/// Lets a connection in as soon as there is a place for it, if it may. Others that have shown no key give way to it.
+fn arrival_of<'t, F: Front, N: Wait + Clock, R: Wait, K: PoolIds + Naming>(
     rt: &N,
     desk: &Desk<'_, 't, F, R, K>,
     visit: Arc<Visit, Global>,
@@ -142,11 +134,11 @@ fn arrival_of<'t, F: Front, N: Wait + Clock, R: Wait, K: PoolIds>(
 ) -> Received {
     for _ in rt.forever() {
         match desk.lobby.admit(rt, &visit, address, desk.limits) {
-            Admission::Open(number) => {
+            Admission::Open(place) => {
                 return Received::Open(Arrival {
                     visit,
                     address,
-                    number,
+                    place,
                 });
             }
             Admission::TurnedAway => {
@@ -157,16 +149,16 @@ fn arrival_of<'t, F: Front, N: Wait + Clock, R: Wait, K: PoolIds>(
             Admission::Closing => return Received::Closing,
             Admission::Awaits(oldest) => {
                 desk.front.tell(HostEvent::GaveWay(oldest));
-                desk.lobby.wait_for_share(rt, true);
+                desk.lobby.wait_for_place(rt, true);
             }
-            Admission::Waits => desk.lobby.wait_for_share(rt, false),
+            Admission::Waits => desk.lobby.wait_for_place(rt, false),
         }
     }
     Received::Nothing
 }
 
 /// Waits for the next connection, and lets it in if it may.
-fn receive<'t, F: Front, N: Wait + Clock, R: Wait, K: PoolIds>(
+fn receive<'t, F: Front, N: Wait + Clock, R: Wait, K: PoolIds + Naming>(
     rt: &N,
     listener: &TcpListener,
     desk: &Desk<'_, 't, F, R, K>,
@@ -178,20 +170,20 @@ fn receive<'t, F: Front, N: Wait + Clock, R: Wait, K: PoolIds>(
         thread::sleep(rt, Duration::from_millis(PAUSE_MILLISECONDS));
         return Received::Nothing;
     };
-    match Arc::new(desk.alloc, Visit::new(stream)) {
+    match Arc::new(desk.alloc, Visit::new(stream, desk.limits)) {
         Ok(visit) => arrival_of(rt, desk, visit, address),
         Err(_) => Received::Nothing,
     }
 }
 
-/// Takes in that no thread can be made for the connection of this number: the oldest that has shown no key is told to end, and it is waited
+/// Takes in that no thread can be made for the connection of this place: the oldest that has shown no key is told to end, and it is waited
 /// a short time for that.
-fn make_room<'t, F: Front, N: Wait + Clock, R: Wait, K: PoolIds>(
+fn make_room<'t, F: Front, N: Wait + Clock, R: Wait, K: PoolIds + Naming>(
     rt: &N,
     desk: &Desk<'_, 't, F, R, K>,
-    number: u64,
+    place: usize,
 ) {
-    if let Some(oldest) = desk.lobby.make_room(rt, number) {
+    if let Some(oldest) = desk.lobby.make_room(rt, place) {
         desk.front.tell(HostEvent::GaveWay(oldest));
         desk.lobby.wait_for_leave(rt);
         // Its thread has a last step to go.
@@ -201,7 +193,7 @@ fn make_room<'t, F: Front, N: Wait + Clock, R: Wait, K: PoolIds>(
 
 /// Accepts connections until the host closes, and serves each in a thread of its own; one for which no thread can be made is closed. When
 /// all have ended, it returns.
-pub(crate) fn serve_each<'t, F: Front + Sync, N, R: Wait + Sync, K: PoolIds + Send + Sync>(
+pub(crate) fn serve_each<'t, F: Front + Sync, N, R: Wait + Sync, K: PoolIds + Naming + Send + Sync>(
     rt: &N,
     listener: &TcpListener,
     peers: Peers,
@@ -227,19 +219,19 @@ where
                 let Arrival {
                     visit,
                     address,
-                    number,
+                    place,
                 } = arrival;
-                let job = move || serve_visitor(rt, desk, visit, address, peers, number);
+                let job = move || serve_visitor(rt, desk, visit, address, peers, place);
                 // A thread whose handle is dropped leaves nothing when it ends, and the scope waits for it all the same.
                 let Err(failed) = scope.spawn(job) else {
                     continue;
                 };
                 let thread::SpawnError { value: job, .. } = failed;
-                make_room(rt, desk, number);
+                make_room(rt, desk, place);
                 if let Err(failed) = scope.spawn(job) {
                     // It isn't served here: this thread would then wait for who has connected. With what it was to do it is closed.
                     drop(failed);
-                    desk.lobby.leave(rt, number);
+                    desk.lobby.leave(rt, place, None);
                     desk.front.tell(HostEvent::Unserved(address));
                 }
             }

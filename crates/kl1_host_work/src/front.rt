@@ -183,8 +183,10 @@ pub trait Front {
         sink: &mut T,
         performer: &mut P,
         host: &V,
-    );
+    )
+        requires { length (names self.now) ≤ P.accounts performer.old };
 
     /// Attends to a host, in the thread that runs it, and may do commands. The host stops when it returns.
-    fn attend<P: Performer, V: HostView>(&self, performer: &mut P, host: &V);
+    fn attend<P: Performer, V: HostView>(&self, performer: &mut P, host: &V)
+        requires { length (names self.now) ≤ P.accounts performer.old };
 }

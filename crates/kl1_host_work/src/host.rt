@@ -1,10 +1,12 @@
 // What all threads of a host share beside the pool.
 
+ghost use Rattle.std.specs.Prelude.{◌≡◌, ⊤};
+
 use crate::budget::Budget;
 use crate::sources::Sources;
-use kl1_host_journals::Keeper;
+use kl1_host_journals::{Keeper, Naming};
 use kl1_log::Room;
-use std::alloc::Global;
+use std::alloc::{AllocError, Global};
 use std::sync::Arc;
 use std::time::Duration;
 
@@ -20,9 +22,8 @@ pub(crate) type FileRoom = Option<Arc<Room, Global>>;
 
 /// What all threads of a host share beside the pool: for each account, in order, its keeper, what it may still load, how it stands with the
 /// room for its file, and what it has loaded; and how many bytes each may take in memory and on disk.
-#[derive(Clone, Copy)]
-pub struct Host<'h> {
-    pub keepers: &'h [Keeper],
+pub struct Host<'h, J: Naming> {
+    pub keepers: &'h [Keeper<J>],
     pub budgets: &'h [Budget],
     pub(crate) rooms: &'h [FileRoom],
     pub(crate) sources: &'h [Sources],
@@ -30,3 +31,15 @@ pub struct Host<'h> {
     pub memory_each: u64,
     pub disk_each: u64,
 }
+
+impl<'h, J: Naming> Clone for Host<'h, J> {
+    ghost is_clone = { λ x y. y ≡ x };
+
+    ghost is_infallible = { λ _. ⊤ };
+
+    fn clone(&self) -> Result<Host<'h, J>, AllocError> {
+        Ok(*self)
+    }
+}
+
+impl<'h, J: Naming> Copy for Host<'h, J> {}

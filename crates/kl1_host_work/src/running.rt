@@ -1,8 +1,10 @@
 // The threads of a host.
 
+ghost use Rattle.std.specs.Prelude.{◌≡◌};
 ghost use Rattle.kl1_host_work.specs.Fronts.{AreAccountsOf};
 
 use crate::connections::{Desk, Peers, serve_each};
+use crate::exchange::Exchange;
 use crate::filling::close_rooms;
 use crate::front::{Front, HostEvent};
 use crate::handler::HostHandler;
@@ -11,12 +13,14 @@ use crate::noting::note;
 use crate::start_fault::StartFault;
 use crate::view::View;
 use crate::watching::{tell_waits, watch};
-use kl1_host_journals::{Bell, FaultTeller, Keeper, Outgoing, Scribe};
+use kl1_host_journals::{
+    Bell, Connecting, FaultTeller, FreshConnection, Keeper, KeptFile, Naming, Outgoing, Scribe,
+};
 use kl1_log::{Disk, LogError, LogFile};
 use kl1_pool::{Gate, Pool, PoolIds, Share, worker};
-use kl1_pool_history::History;
 use std::alloc::{AllocError, Global};
 use std::cell::Cell;
+use std::marker::Brand;
 use std::net::{Net, TcpListener, TcpStream};
 use std::sync::Wait;
 use std::thread;
@@ -46,7 +50,7 @@ impl<F: Front> FaultTeller for Telling<'_, F> {
 }
 
 /// Goes on with accounts until the pool is closed, and gives the share back.
-fn work<'t, W: Wait, R: Wait, K: PoolIds>(
+fn work<'t, W: Wait, R: Wait, K: PoolIds + Naming>(
     rt: &W,
     pool: &Pool<'t, R, K>,
     number: u64,
@@ -58,7 +62,11 @@ fn work<'t, W: Wait, R: Wait, K: PoolIds>(
 }
 
 /// Notes what has come to each account.
-fn note_all<'t, W: Wait, R: Wait, K: PoolIds>(rt: &W, pool: &Pool<'t, R, K>, host: Host<'_>) {
+fn note_all<'t, W: Wait, R: Wait, K: PoolIds + Naming>(
+    rt: &W,
+    pool: &Pool<'t, R, K>,
+    host: Host<'_, K>,
+) {
     for (account, keeper) in host.keepers.iter().enumerate() {
         if account < pool.accounts() {
             note(rt, pool, keeper, account);
@@ -82,25 +90,27 @@ fn wake<N: Net<Listener = TcpListener, Stream = TcpStream>>(rt: &N, listener: &T
     }
 }
 
-/// Lets the program attend to a host if all its threads are there, with a share for the commands that it does.
-fn attend<'p, 't, F: Front, N: Wait + Clock, R: Wait, K: PoolIds>(
+/// `attend` as a connection that no type names yet.
+fn attend_as<'p, 't, F: Front, N: Wait + Clock, R: Wait, K, C: Connecting>(
     rt: &'p N,
     desk: &'p Desk<'p, 't, F, R, K>,
-    all_are_there: bool,
     share: Share<K>,
-) {
-    if !all_are_there {
-        return;
-    }
-    let outgoing = Cell::new(Outgoing::new());
+    connection: FreshConnection,
+)
+where
+    K: PoolIds + Naming,
+    requires accounts { AreAccountsOf (F.names desk.now.front.now) K.names K.accounts }
+    requires connection { connection.pen.book ≡ C.connection }
+{
+    let outgoing = Cell::new(Outgoing::<K, C>::new(connection));
     let mut performer = HostHandler {
         rt,
         pool: desk.pool,
         host: desk.host,
         outgoing: &outgoing,
-        history: History::new(share),
+        exchange: Exchange::new(share, desk.host.syncing.replies_wait),
     };
-    let view = View {
+    let view = View::<F, N, R, K, C> {
         rt,
         desk,
         outgoing: None,
@@ -109,8 +119,23 @@ fn attend<'p, 't, F: Front, N: Wait + Clock, R: Wait, K: PoolIds>(
     desk.front.attend(&mut performer, &view);
 }
 
+/// Lets the program attend to a host if all its threads are there, with a share for the commands that it does.
+fn attend<'p, 't, F: Front, N: Wait + Clock, R: Wait, K: PoolIds + Naming>(
+    rt: &'p N,
+    desk: &'p Desk<'p, 't, F, R, K>,
+    all_are_there: bool,
+    share: Share<K>,
+)
+    requires { AreAccountsOf (F.names desk.now.front.now) K.names K.accounts }
+{
+    if all_are_there {
+        let connection = FreshConnection::new();
+        attend_as::<F, N, R, K, Brand>(rt, desk, share, connection);
+    }
+}
+
 /// Lets nobody in any more, and ends the connections that are open.
-fn close_doors<'t, F: Front, N, R: Wait, K: PoolIds>(
+fn close_doors<'t, F: Front, N, R: Wait, K: PoolIds + Naming>(
     rt: &N,
     desk: &Desk<'_, 't, F, R, K>,
     listeners: Listeners<'_>,
@@ -128,7 +153,7 @@ where
 }
 
 /// Ends the connections of a host, and then its workers; a reduction that is going on is waited for.
-fn wind_down<'t, F: Front, N, R: Wait, K: PoolIds>(
+fn wind_down<'t, F: Front, N, R: Wait, K: PoolIds + Naming>(
     rt: &N,
     desk: &Desk<'_, 't, F, R, K>,
     listeners: Listeners<'_>,
@@ -147,7 +172,7 @@ where
 
 /// Runs a host until its program has attended to it: workers, connections, and who looks at each account. When it returns, all of them have
 /// ended. Answers whether all threads could be made; the program attends to no other host.
-fn run_accounts<'t, F: Front + Sync, R, K: PoolIds + Send + Sync>(
+fn run_accounts<'t, F: Front + Sync, R, K: PoolIds + Naming + Send + Sync>(
     rt: &R,
     listeners: Listeners<'_>,
     desk: &Desk<'_, 't, F, R, K>,
@@ -214,11 +239,11 @@ where
 }
 
 /// The scribes of accounts with these keepers and files, in order.
-fn scribes_of<D: Disk + Drop>(
+fn scribes_of<D: Disk + Drop, J: Naming>(
     alloc: Global,
-    keepers: &[Keeper],
-    files: Vec<LogFile<D>>,
-) -> Result<Vec<Scribe<'_, D>>, AllocError> {
+    keepers: &[Keeper<J>],
+    files: Vec<KeptFile<D, J>>,
+) -> Result<Vec<Scribe<'_, D, J>>, AllocError> {
     let mut scribes = Vec::with_capacity(alloc, files.len())?;
     for (account, (keeper, file)) in keepers.iter().zip(files).enumerate() {
         scribes.push(Scribe::new(account, keeper, file))?;
@@ -227,28 +252,29 @@ fn scribes_of<D: Disk + Drop>(
 }
 
 /// Writes for an account until its bell says that it is to end, and gives the file back.
-fn write_on<D: Disk + Drop, W: Wait + Clock, T: FaultTeller>(
+fn write_on<D: Disk + Drop, J: Naming, W: Wait + Clock, T: FaultTeller>(
     rt: &W,
-    scribe: Scribe<'_, D>,
+    scribe: Scribe<'_, D, J>,
     period: Duration,
     faults: &T,
 ) -> LogFile<D> {
     let mut scribe = scribe;
     scribe.work(rt, period, faults);
-    scribe.into_file()
+    scribe.into_file().into_file()
 }
 
 /// Lets each scribe write in a thread of its own while `run` runs, which is told whether all of these could be made, and which ends their
 /// bells. Answers the files, or that some thread couldn't be made.
-fn write_while<D: Disk + Drop + Send, R, T: FaultTeller + Sync, G: FnOnce(bool) -> bool>(
+fn write_while<D: Disk + Drop + Send, J, R, T: FaultTeller + Sync, G: FnOnce(bool) -> bool>(
     rt: &R,
     alloc: Global,
-    scribes: Vec<Scribe<'_, D>>,
+    scribes: Vec<Scribe<'_, D, J>>,
     period: Duration,
     faults: &T,
     run: G,
 ) -> Result<Vec<LogFile<D>>, StartFault>
 where
+    J: Naming + Send + Sync,
     R: Threads + Wait + Clock + Sync,
     requires { (there : _) → G.pre run there }
 {
@@ -287,7 +313,7 @@ where
 
 /// Runs a host until its program has attended to it, if all scribes are there. When all else has ended, what is left is noted, and the
 /// scribes are told to write it and end. Answers whether all threads could be made.
-fn run_noted<'t, F: Front + Sync, R, K: PoolIds + Send + Sync>(
+fn run_noted<'t, F: Front + Sync, R, K: PoolIds + Naming + Send + Sync>(
     rt: &R,
     listeners: Listeners<'_>,
     desk: &Desk<'_, 't, F, R, K>,
@@ -310,13 +336,19 @@ where
 
 /// Runs a host until its program has attended to it, with a scribe for each account in a thread of its own: replies that wait for the disk
 /// need them as long as a connection is open. Answers the files.
-pub(crate) fn run_threads<'t, F: Front + Sync, D: Disk + Drop + Send, R, K: PoolIds + Send + Sync>(
+pub(crate) fn run_threads<
+    't,
+    F: Front + Sync,
+    D: Disk + Drop + Send,
+    R,
+    K: PoolIds + Naming + Send + Sync,
+>(
     rt: &R,
     listeners: Listeners<'_>,
     desk: &Desk<'_, 't, F, R, K>,
     workers: Vec<Share<K>>,
     attending: Share<K>,
-    files: Vec<LogFile<D>>,
+    files: Vec<KeptFile<D, K>>,
 ) -> Result<Vec<LogFile<D>>, StartFault>
 where
     R: Net<Listener = TcpListener, Stream = TcpStream> + Threads + Wait + Clock + Sync,

@@ -5,10 +5,12 @@ ghost use Rattle.kl1_model_server.specs.laws.TextLaws.{AreNames};
 ghost use Rattle.kl1_pool.specs.Parts.{AreUsed, used_names};
 ghost use Rattle.kl1_host_work.specs.AccountFiles.{names_of, names_used};
 ghost use Rattle.kl1_host_work.specs.Fronts.{AreAccountsOf};
+ghost use Rattle.kl1_host_work.specs.OwnHistories.{AreFresh};
 
 use crate::board::Board;
 use crate::connections::Desk;
 use crate::front::Front;
+use crate::histories::{fresh_histories, own_histories};
 use crate::host::{Host, Syncing};
 use crate::lobby::{Limits, Lobby};
 use crate::restoring::{AccountFile, Shelf, restore_all};
@@ -16,6 +18,7 @@ use crate::running::{Listeners, run_threads};
 use crate::start_fault::StartFault;
 use kl1_atoms::AtomTable;
 use kl1_codes::CodeTable;
+use kl1_host_journals::{FreshHistory, Naming};
 use kl1_journal_entries::Journal;
 use kl1_log::{Disk, LogFile};
 use kl1_model::limits::MOST_ACCOUNTS;
@@ -71,7 +74,7 @@ fn names_of(alloc: Global, journal: &Journal) -> Result<Vec<AtomText>, AllocErro
 }
 
 /// The names that each account had used when its journal began.
-#[tactic(auto, using(crate::proofs::UsedNames::one_more_used, crate::proofs::UsedNames::names_more))]
+#[tactic(auto, using(crate::proofs::UsedNames::one_more_used, crate::proofs::UsedNames::used_more))]
 fn used_of<D: Disk>(
     alloc: Global,
     accounts: &[AccountFile<D>],
@@ -97,24 +100,37 @@ fn called<D: Disk>(
     accounts.iter().map(|account| account.name).collect(alloc)
 }
 
+/// The files that a host begins with, and for each a history in which nothing is yet.
+#[derive(Drop)]
+struct FoundFiles<D: Disk> {
+    accounts: Vec<AccountFile<D>>,
+    histories: Vec<FreshHistory>,
+}
+
 /// Runs a host over a pool until its end.
-fn run_pool<'p, 't, F: Front + Sync, D: Disk + Drop + Send, R, K: PoolIds + Send + Sync>(
+fn run_pool<'p, 't, F: Front + Sync, D: Disk + Drop + Send, R, K: PoolIds + Naming + Send + Sync>(
     rt: &R,
     alloc: Global,
     listeners: Listeners<'_>,
     front: &'p F,
     pool: &'p Pool<'t, R, K>,
     shares: Vec<Share<K>>,
-    files: Vec<AccountFile<D>>,
+    found: FoundFiles<D>,
     setup: Setup,
 ) -> Result<Vec<LogFile<D>>, StartFault>
 where
     R: Net<Listener = TcpListener, Stream = TcpStream> + Threads + Wait + Clock + Sync,
     F::Entrance: Send,
-    requires { AreAccountsOf (F.names front.now) K.names K.accounts }
+    requires accounts { AreAccountsOf (F.names front.now) K.names K.accounts }
+    requires histories { AreFresh K.books found.histories.items }
 {
+    let FoundFiles {
+        accounts,
+        histories,
+    } = found;
+    let own = own_histories::<K>(alloc, histories)?;
     let mut shares = shares;
-    let restoring = take_shares(alloc, &mut shares, files.len())?;
+    let restoring = take_shares(alloc, &mut shares, accounts.len())?;
     let Shelf {
         files,
         keepers,
@@ -122,7 +138,16 @@ where
         rooms,
         sources,
         ..
-    } = restore_all(rt, alloc, pool, front, files, setup.codes_each, restoring)?;
+    } = restore_all(
+        rt,
+        alloc,
+        pool,
+        front,
+        accounts,
+        own,
+        setup.codes_each,
+        restoring,
+    )?;
     let workers = take_shares(alloc, &mut shares, setup.workers)?;
     let Some(attending) = shares.pop() else {
         return Err(StartFault::Memory);
@@ -143,13 +168,13 @@ where
 }
 
 /// Runs a host over the parts of a pool until its end.
-fn run_parts<'t, F: Front + Sync, D: Disk + Drop + Send, R, K: PoolIds + Send + Sync>(
+fn run_parts<'t, F: Front + Sync, D: Disk + Drop + Send, R, K: PoolIds + Naming + Send + Sync>(
     rt: &'t R,
     alloc: Global,
     listeners: Listeners<'_>,
     front: &F,
     parts: PoolParts<'t>,
-    files: Vec<AccountFile<D>>,
+    found: FoundFiles<D>,
     setup: Setup,
 ) -> Result<Vec<LogFile<D>>, StartFault>
 where
@@ -160,9 +185,10 @@ where
     requires bound { parts.most_bytes ≡ K.most_bytes }
     requires tickets { (parts.tally ≡ K.tally) × (parts.queue ≡ K.queue) × (parts.accounts ≡ K.accounts) × (parts.shares ≡ K.shares) }
     requires accounts { AreAccountsOf (F.names front.now) parts.names parts.accounts }
+    requires histories { AreFresh K.books found.histories.items }
 {
     let (pool, shares) = Pool::<R, K>::new(rt, alloc, parts)?;
-    let ended = run_pool(rt, alloc, listeners, front, &pool, shares, files, setup);
+    let ended = run_pool(rt, alloc, listeners, front, &pool, shares, found, setup);
     pool.discard();
     ended
 }
@@ -174,7 +200,7 @@ fn run_brand<'t, F: Front + Sync, D: Disk + Drop + Send, R>(
     listeners: Listeners<'_>,
     front: &F,
     parts: PoolParts<'t>,
-    files: Vec<AccountFile<D>>,
+    found: FoundFiles<D>,
     setup: Setup,
 ) -> Result<Vec<LogFile<D>>, StartFault>
 where
@@ -182,7 +208,7 @@ where
     F::Entrance: Send,
     requires accounts { AreAccountsOf (F.names front.now) parts.names parts.accounts }
 {
-    run_parts::<F, D, R, Brand>(rt, alloc, listeners, front, parts, files, setup)
+    run_parts::<F, D, R, Brand>(rt, alloc, listeners, front, parts, found, setup)
 }
 
 /// Restores accounts from their files, which are those of the accounts of `front` in its order, and serves them to whoever it lets in, until that has attended to the host: then connections
@@ -224,5 +250,10 @@ where
     )?
     .with_names(used)
     .bounded(setup.memory_each);
-    run_brand(rt, alloc, listeners, front, parts, accounts, setup)
+    let histories = fresh_histories(alloc, accounts.len())?;
+    let found = FoundFiles {
+        accounts,
+        histories,
+    };
+    run_brand(rt, alloc, listeners, front, parts, found, setup)
 }

@@ -6,7 +6,7 @@ use crate::connections::Desk;
 use crate::front::{Front, HostView, Sight};
 use crate::noting::note_told;
 use crate::visit::{Visit, now_of};
-use kl1_host_journals::Outgoing;
+use kl1_host_journals::{Connecting, Naming, Outgoing};
 use kl1_journal_entries::Journal;
 use kl1_pool::{BookTotals, JournalReader, PoolIds};
 use kl1_user_events::{Extent, GoalNo, GoalView, Presence, ShoenNo, ShoenView, Usage};
@@ -17,11 +17,20 @@ use std::time::Clock;
 
 /// A host as its program sees it.
 #[derive(Drop)]
-pub(crate) struct View<'v, 'd, 't, F: Front, N: Wait + Clock, R: Wait, K: PoolIds> {
+pub(crate) struct View<
+    'v,
+    'd,
+    't,
+    F: Front,
+    N: Wait + Clock,
+    R: Wait,
+    K: PoolIds + Naming,
+    C: Connecting,
+> {
     pub(crate) rt: &'v N,
     pub(crate) desk: &'v Desk<'d, 't, F, R, K>,
     /// The leave to write of the connection that is told what is seen; `None` if no connection is.
-    pub(crate) outgoing: Option<&'v Cell<Outgoing>>,
+    pub(crate) outgoing: Option<&'v Cell<Outgoing<K, C>>>,
     /// That connection.
     pub(crate) visit: Option<&'v Visit>,
 }
@@ -41,7 +50,7 @@ impl JournalReader for SessionsReader {
 }
 
 /// How many sessions of an account are open; `None` if another account was found, which never is so.
-pub(crate) fn sessions_of<'t, F: Front, W: Wait, R: Wait, K: PoolIds>(
+pub(crate) fn sessions_of<'t, F: Front, W: Wait, R: Wait, K: PoolIds + Naming>(
     rt: &W,
     desk: &Desk<'_, 't, F, R, K>,
     account: usize,
@@ -56,7 +65,16 @@ pub(crate) fn sessions_of<'t, F: Front, W: Wait, R: Wait, K: PoolIds>(
     }
 }
 
-impl<F: Front, N: Wait + Clock, R: Wait, K: PoolIds> View<'_, '_, '_, F, N, R, K> {
+impl<F: Front, N: Wait + Clock, R: Wait, K: PoolIds + Naming, C: Connecting> View<
+    '_,
+    '_,
+    '_,
+    F,
+    N,
+    R,
+    K,
+    C,
+> {
     /// Lets the connection wait until what was seen of an account is on disk.
     fn note(&self, account: usize) {
         if let Some(outgoing) = self.outgoing
@@ -67,7 +85,8 @@ impl<F: Front, N: Wait + Clock, R: Wait, K: PoolIds> View<'_, '_, '_, F, N, R, K
     }
 }
 
-impl<F: Front, N: Wait + Clock, R: Wait, K: PoolIds> HostView for View<'_, '_, '_, F, N, R, K> {
+impl<F: Front, N: Wait + Clock, R: Wait, K: PoolIds + Naming, C: Connecting> HostView
+    for View<'_, '_, '_, F, N, R, K, C> {
     fn let_in(&self) {
         if let Some(visit) = self.visit {
             visit.let_in();
@@ -76,7 +95,7 @@ impl<F: Front, N: Wait + Clock, R: Wait, K: PoolIds> HostView for View<'_, '_, '
 
     fn begin_answer(&self, account: usize) -> bool {
         match self.visit {
-            Some(visit) => visit.begin_answer(self.desk.board.answers(), account),
+            Some(visit) => visit.begin_answer(self.rt, self.desk.board.answers(), account),
             None => true,
         }
     }
@@ -99,10 +118,10 @@ impl<F: Front, N: Wait + Clock, R: Wait, K: PoolIds> HostView for View<'_, '_, '
     }
 
     fn sight(&self, account: usize) -> (Option<Sight>, u64) {
-        let (sight, is_new) = self.desk.board.sight(self.rt, account);
+        let (sight, _) = self.desk.board.sight(self.rt, account);
         let age = match sight {
-            Some(sight) if !is_new => now_of(self.rt).saturating_sub(sight.at).as_secs(),
-            _ => 0,
+            Some(sight) => now_of(self.rt).saturating_sub(sight.at).as_secs(),
+            None => 0,
         };
         (sight, age)
     }
@@ -113,14 +132,18 @@ impl<F: Front, N: Wait + Clock, R: Wait, K: PoolIds> HostView for View<'_, '_, '
     }
 
     fn codes_left(&self, account: usize) -> u64 {
-        match self.desk.host.budgets.get(account) {
+        let desk = self.desk;
+        let budgets = desk.host.budgets;
+        match budgets.get(account) {
             Some(budget) => budget.left(),
             None => 0,
         }
     }
 
     fn is_out_of_codes(&self, account: usize) -> bool {
-        match self.desk.host.sources.get(account) {
+        let desk = self.desk;
+        let sources = desk.host.sources;
+        match sources.get(account) {
             Some(sources) => sources.was_refused(),
             None => false,
         }

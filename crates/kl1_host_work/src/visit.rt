@@ -7,6 +7,7 @@ use crate::lobby::Limits;
 use kl1_session::Door;
 use std::io::{self, ErrorKind, Read};
 use std::net::{Shutdown, TcpStream};
+use std::sync::Wait;
 use std::sync::atomic::{AtomicBool, AtomicUsize, Ordering};
 use std::time::{Clock, Duration};
 
@@ -18,37 +19,44 @@ const MOST_STRANGE_BYTES: usize = 131_072;
 #[derive(Drop)]
 pub(crate) struct Visit {
     stream: TcpStream,
+    /// How long it may be silent once it is in.
+    idle: Duration,
     /// Whether a key has let in, or the cookie and the token of a session.
     is_in: AtomicBool,
     /// Whether a key is looked at: its thread may wait for a pause, and doesn't read meanwhile.
     is_trying: AtomicBool,
-    /// Whether it was told to end.
-    is_leaving: AtomicBool,
     /// 0, or one more than the number of the account of which an answer to it is made or written.
     answers: AtomicUsize,
 }
 
 impl Visit {
     /// A connection of which nothing is known.
-    pub(crate) fn new(stream: TcpStream) -> Self {
+    pub(crate) fn new(stream: TcpStream, limits: Limits) -> Self {
+        let _ = stream.set_nodelay(true);
+        set_up(&stream, limits.idle_login);
         Visit {
             stream,
+            idle: limits.idle,
             is_in: AtomicBool::new(false),
             is_trying: AtomicBool::new(false),
-            is_leaving: AtomicBool::new(false),
             answers: AtomicUsize::new(0),
         }
     }
 
     /// Whether an answer of this account to it may be made: not if as many are that aren't read.
-    pub(crate) fn begin_answer(&self, answers: &[Answers], account: usize) -> bool {
+    pub(crate) fn begin_answer<W: Wait>(
+        &self,
+        rt: &W,
+        answers: &[Answers],
+        account: usize,
+    ) -> bool {
         let mark = account.saturating_add(1);
         if self.answers.load(Ordering::SeqCst) == mark {
             return true;
         }
-        self.end_answer(answers);
+        self.end_answer(rt, answers);
         let may_begin = match answers.get(account) {
-            Some(others) => others.begin(),
+            Some(others) => others.begin(rt),
             None => false,
         };
         if may_begin {
@@ -58,12 +66,12 @@ impl Visit {
     }
 
     /// Takes in that what was answered to it is written.
-    pub(crate) fn end_answer(&self, answers: &[Answers]) {
+    pub(crate) fn end_answer<W: Wait>(&self, rt: &W, answers: &[Answers]) {
         let mark = self.answers.swap(0, Ordering::SeqCst);
         if let Some(account) = mark.checked_sub(1)
             && let Some(others) = answers.get(account)
         {
-            others.end();
+            others.end(rt);
         }
     }
 
@@ -72,9 +80,12 @@ impl Visit {
         &self.stream
     }
 
-    /// Notes that a key has let in, or the cookie and the token of a session.
+    /// Notes that a key has let in, or the cookie and the token of a session. From now on it ends by silence alone, and what is written to it
+    /// may wait as long.
     pub(crate) fn let_in(&self) {
-        self.is_in.store(true, Ordering::SeqCst);
+        if !self.is_in.swap(true, Ordering::SeqCst) {
+            set_up(&self.stream, self.idle);
+        }
     }
 
     /// Whether a key has let in.
@@ -87,14 +98,8 @@ impl Visit {
         self.is_trying.load(Ordering::SeqCst)
     }
 
-    /// Whether it was told to end.
-    pub(crate) fn is_leaving(&self) -> bool {
-        self.is_leaving.load(Ordering::SeqCst)
-    }
-
     /// Ends it: what its thread reads or writes from now on fails.
     pub(crate) fn end(&self) {
-        self.is_leaving.store(true, Ordering::SeqCst);
         let _ = self.stream.shutdown(Shutdown::Both);
     }
 }
@@ -114,18 +119,17 @@ impl<D: Door + Drop> Door for WatchedDoor<'_, D> {
     fn open(&mut self, name: &[u8], key: &[u8]) -> Option<usize> {
         self.visit.is_trying.store(true, Ordering::SeqCst);
         let found = self.door.open(name, key);
-        self.visit.is_trying.store(false, Ordering::SeqCst);
+        // Before its key is no longer looked at, so that it never gives way as others do.
         if found.is_some() {
             self.visit.let_in();
         }
+        self.visit.is_trying.store(false, Ordering::SeqCst);
         found
     }
 }
 
-/// Lets replies go out at once, and a peer that doesn't read hold its thread for this long at most. A socket that can't do this serves all
-/// the same.
+/// Lets a peer that sends nothing, or doesn't read, hold its thread for this long at most. A socket that can't do this serves all the same.
 fn set_up(stream: &TcpStream, silence: Duration) {
-    let _ = stream.set_nodelay(true);
     let _ = stream.set_read_timeout(Some(silence));
     let _ = stream.set_write_timeout(Some(silence));
 }
@@ -140,61 +144,50 @@ pub(crate) fn now_of<R: Clock>(rt: &R) -> Duration {
 
 /// What is read from a connection. A stranger's ends a time after it began, whatever comes meanwhile; later it ends by silence alone.
 #[derive(Drop)]
-pub(crate) struct VisitReader<'v, R: Clock> {
+pub(crate) struct VisitReader<'v, R: Wait + Clock> {
     rt: &'v R,
     visit: &'v Visit,
-    limits: Limits,
+    idle_login: Duration,
     /// When it began.
     begun: Duration,
-    /// Whether the socket is set up for who is in.
-    is_settled: bool,
-    /// How many bytes were read of a stranger.
+    /// How many bytes were read of it.
     count: usize,
     /// Where it is told that an answer was read.
     answers: &'v [Answers],
 }
 
-impl<'v, R: Clock> VisitReader<'v, R> {
+impl<'v, R: Wait + Clock> VisitReader<'v, R> {
     /// What is read from a connection that begins now.
     pub(crate) fn new(rt: &'v R, visit: &'v Visit, limits: Limits, answers: &'v [Answers]) -> Self {
-        set_up(&visit.stream, limits.idle_login);
         VisitReader {
             rt,
             visit,
-            limits,
+            idle_login: limits.idle_login,
             begun: now_of(rt),
-            is_settled: false,
             count: 0,
             answers,
         }
     }
 
-    /// Lets the next read of a stranger wait until the time of the connection is over; `false` if it is, or if too much was read.
+    /// Lets the next read of a stranger, and what is written to it, wait until the time of the connection is over; `false` if it is, or if
+    /// too much was read.
     fn hurry(&self) -> bool {
-        if self.count >= MOST_STRANGE_BYTES {
-            return false;
-        }
         let gone = now_of(self.rt).saturating_sub(self.begun);
-        let left = self.limits.idle_login.saturating_sub(gone);
-        if left.is_zero() {
+        let left = self.idle_login.saturating_sub(gone);
+        if left.is_zero() || self.count >= MOST_STRANGE_BYTES {
             return false;
         }
-        let _ = self.visit.stream.set_read_timeout(Some(left));
+        set_up(&self.visit.stream, left);
         true
     }
 }
 
-impl<R: Clock> Read for VisitReader<'_, R> {
+impl<R: Wait + Clock> Read for VisitReader<'_, R> {
     fn read(&mut self, buf: &mut [u8]) -> io::Result<usize> {
         // What was answered is on its way before more is read.
-        self.visit.end_answer(self.answers);
-        if !self.visit.is_in() {
-            if !self.hurry() {
-                return Err(io::Error::from(ErrorKind::TimedOut));
-            }
-        } else if !self.is_settled {
-            set_up(&self.visit.stream, self.limits.idle);
-            self.is_settled = true;
+        self.visit.end_answer(self.rt, self.answers);
+        if !self.visit.is_in() && !self.hurry() {
+            return Err(io::Error::from(ErrorKind::TimedOut));
         }
         let mut stream = &self.visit.stream;
         let count = stream.read(buf)?;

@@ -10,7 +10,7 @@ use crate::noting::note;
 use crate::overruns::change_of;
 use crate::view::sessions_of;
 use crate::visit::now_of;
-use kl1_host_journals::Bell;
+use kl1_host_journals::{Bell, Naming};
 use kl1_model::limits::MOST_ACCOUNTS;
 use kl1_pool::PoolIds;
 use std::sync::Wait;
@@ -32,7 +32,7 @@ struct Told {
 
 /// What is seen of an account now; `None` if another was found, which never is so. It waits for an account that is in the midst of a
 /// reduction.
-fn look<'t, F: Front, W: Wait + Clock, R: Wait, K: PoolIds>(
+fn look<'t, F: Front, W: Wait + Clock, R: Wait, K: PoolIds + Naming>(
     rt: &W,
     desk: &Desk<'_, 't, F, R, K>,
     account: usize,
@@ -53,7 +53,7 @@ fn look<'t, F: Front, W: Wait + Clock, R: Wait, K: PoolIds>(
 }
 
 /// Tells how an account has come to stand with its room on the disk and its sources, if that is another way than before.
-fn tell_room<'t, F: Front, W: Wait, R: Wait, K: PoolIds>(
+fn tell_room<'t, F: Front, W: Wait, R: Wait, K: PoolIds + Naming>(
     rt: &W,
     desk: &Desk<'_, 't, F, R, K>,
     account: usize,
@@ -88,10 +88,31 @@ fn tell_room<'t, F: Front, W: Wait, R: Wait, K: PoolIds>(
     }
 }
 
-/// Looks at an account whenever somebody asks, and after each period, when it also notes what workers have done to it that nobody commands;
-/// tells when it has come to take more bytes than it may, and how it stands with its room; until it is to end. It waits for an account that
-/// is in the midst of a reduction, and nobody waits for it.
-pub(crate) fn watch<'t, F: Front, W: Wait + Clock, R: Wait, K: PoolIds>(
+/// Looks at an account for those who ask, and tells when it has come to take more bytes than it may. `over` has whether it did before.
+fn see<'t, F: Front, W: Wait + Clock, R: Wait, K: PoolIds + Naming>(
+    rt: &W,
+    desk: &Desk<'_, 't, F, R, K>,
+    account: usize,
+    outlook: &Outlook,
+    over: &mut [bool; MOST_ACCOUNTS],
+)
+    requires { account < K.accounts }
+{
+    let (asked, _) = outlook.asked(rt);
+    let sight = look(rt, desk, account);
+    outlook.show(rt, sight, asked);
+    if account < over.len()
+        && let Some(sight) = sight
+        && let Some(event) = change_of(over, account, sight.bytes, desk.host.memory_each)
+    {
+        desk.front.tell(event);
+    }
+}
+
+/// Looks at an account whenever somebody asks, and once in a while for the bytes that it takes; notes after each period what workers have
+/// done to it that nobody commands; and tells how it stands with its room; until it is to end. It waits for an account that is in the midst
+/// of a reduction, and nobody waits for it.
+pub(crate) fn watch<'t, F: Front, W: Wait + Clock, R: Wait, K: PoolIds + Naming>(
     rt: &W,
     desk: &Desk<'_, 't, F, R, K>,
     account: usize,
@@ -106,17 +127,15 @@ pub(crate) fn watch<'t, F: Front, W: Wait + Clock, R: Wait, K: PoolIds>(
         fills_disk: false,
         has_all_codes: false,
     };
-    let most = desk.host.memory_each;
     let period = desk.host.syncing.period;
-    let pause = period.min(Duration::from_millis(LOOKED_AT_AFTER));
-    let mut noted = now_of(rt);
+    let most = Duration::from_millis(LOOKED_AT_AFTER);
+    let (mut noted, mut looked) = (now_of(rt), now_of(rt));
     for _ in rt.forever() {
         // It is told before it waits for the account.
         tell_room(rt, desk, account, &mut told);
-        if outlook.bell().wait(rt, pause) {
+        if outlook.bell().wait(rt, period.min(most)) {
             return;
         }
-        let asked = outlook.asked(rt);
         let now = now_of(rt);
         if now.saturating_sub(noted) >= period
             && let Some(keeper) = desk.host.keepers.get(account)
@@ -124,19 +143,16 @@ pub(crate) fn watch<'t, F: Front, W: Wait + Clock, R: Wait, K: PoolIds>(
             noted = now;
             note(rt, desk.pool, keeper, account);
         }
-        let sight = look(rt, desk, account);
-        outlook.show(rt, sight, asked);
-        if account < over.len()
-            && let Some(sight) = sight
-            && let Some(event) = change_of(&mut over, account, sight.bytes, most)
-        {
-            desk.front.tell(event);
+        let (_, is_awaited) = outlook.asked(rt);
+        if is_awaited || now.saturating_sub(looked) >= most {
+            looked = now;
+            see(rt, desk, account, outlook, &mut over);
         }
     }
 }
 
 /// Tells for which accounts a host that is to stop waits, each once, until `over`.
-pub(crate) fn tell_waits<'t, F: Front, W: Wait + Clock, R: Wait, K: PoolIds>(
+pub(crate) fn tell_waits<'t, F: Front, W: Wait + Clock, R: Wait, K: PoolIds + Naming>(
     rt: &W,
     desk: &Desk<'_, 't, F, R, K>,
     over: &Bell,

@@ -1,32 +1,85 @@
 // Replies that wait for the disk.
 
-use crate::journals::shelf::{ENOUGH, Faults, Shelf, journal_of, on_disk, only_scribe};
-use kl1_host_journals::{Keeper, Outgoing, SyncedWriter};
+ghost use Rattle.std.specs.Prelude.{◌≡◌};
+ghost use Rattle.kl1_host_journals.specs.FreshHistories.{books_of};
+
+use crate::journals::shelf::{ENOUGH, Faults, Shelf, journal_of, on_disk, only_scribe, write};
+use kl1_host_journals::{
+    Connecting, FreshConnection, FreshHistory, Keeper, Naming, Outgoing, Scribe, SyncedWriter,
+};
+use kl1_journal_entries::Journal;
+use kl1_log::Memory;
 use std::alloc::{AllocError, Global};
 use std::cell::Cell;
 use std::io::Write;
+use std::marker::Brand;
 use std::sync::Wait;
 use std::thread;
 use std::thread::Threads;
 use std::time::{Clock, Duration};
 
 /// Whether a reply may be sent at once.
-fn is_free<R: Wait>(rt: &R, keeper: &Keeper, outgoing: &Outgoing) -> bool {
+fn is_free<R: Wait, J: Naming, C: Connecting>(
+    rt: &R,
+    keeper: &Keeper<J>,
+    outgoing: &Outgoing<J, C>,
+) -> bool {
     match outgoing {
         Outgoing::Free(_) => true,
-        Outgoing::Waits(_, unsent) => keeper.on_disk().is_done(rt, unsent),
+        Outgoing::Waits(held) => keeper.on_disk().is_done(rt, held),
         Outgoing::Lost => false,
     }
 }
 
-/// A reply waits until the scribe has written its lines, and one that tells nothing new doesn't wait.
-pub(crate) fn reply_waits_for_its_lines<R: Wait>(
+/// Whether the first reply of a connection waits, which tells of this journal of generation 0.
+fn first_waits<R: Wait, J: Naming, C: Connecting>(
+    rt: &R,
+    keeper: &Keeper<J>,
+    journal: &Journal,
+    connection: FreshConnection,
+) -> bool
+    requires { connection.pen.book ≡ C.connection }
+{
+    let outgoing = Outgoing::<J, C>::new(connection);
+    let reply = keeper.note_for(rt, journal, 0, outgoing);
+    !is_free(rt, keeper, &reply)
+}
+
+/// Whether a reply of a connection waits, which tells of these journals one after another, each with its generation, until the scribe has
+/// written, and no longer.
+fn waits_for_all<R: Wait, J: Naming, C: Connecting>(
+    rt: &R,
+    keeper: &Keeper<J>,
+    scribe: &mut Scribe<'_, Memory, J>,
+    faults: &Faults,
+    journals: &[(u64, &Journal)],
+    connection: FreshConnection,
+) -> bool
+    requires { connection.pen.book ≡ C.connection }
+{
+    let mut reply = Outgoing::<J, C>::new(connection);
+    let mut waits = true;
+    for (generation, journal) in journals {
+        reply = keeper.note_for(rt, *journal, *generation, reply);
+        waits = waits && !is_free(rt, keeper, &reply);
+    }
+    write(rt, scribe, faults);
+    waits && is_free(rt, keeper, &reply)
+}
+
+/// `reply_waits_for_its_lines`, with a new history.
+fn waits_for_its_lines<R: Wait, J: Naming>(
     rt: &R,
     alloc: Global,
-) -> Result<bool, AllocError> {
-    let Some(Shelf { files, keepers }) = Shelf::new(alloc, &[ENOUGH])? else {
+    fresh: FreshHistory,
+) -> Result<bool, AllocError>
+    requires { books_of fresh ≡ J.books 0 }
+{
+    let mut shelf = Shelf::<J>::new(alloc);
+    if !shelf.add(alloc, 0, ENOUGH, fresh)? {
         return Ok(false);
-    };
+    }
+    let Shelf { files, keepers } = shelf;
     let faults = Faults::new();
     let Some(mut scribe) = only_scribe(keepers.as_slice(), files) else {
         return Ok(false);
@@ -34,31 +87,45 @@ pub(crate) fn reply_waits_for_its_lines<R: Wait>(
     let Some(keeper) = keepers.as_slice().first() else {
         return Ok(false);
     };
-    let fresh = journal_of(alloc, b"journal 4 0 0\n")?;
-    let reading = keeper.note_for(rt, &fresh, 0, 0, Outgoing::new());
-    let reading_waits = !is_free(rt, keeper, &reading);
+    let start = journal_of(alloc, b"journal 4 0 0\n")?;
     let grown = journal_of(alloc, b"journal 4 0 0\nrun 3\n")?;
-    let reply = keeper.note_for(rt, &grown, 0, 0, Outgoing::new());
-    let waits = !is_free(rt, keeper, &reply);
     let longer = journal_of(alloc, b"journal 4 0 0\nrun 7\nstop 1\n")?;
-    let reply = keeper.note_for(rt, &longer, 0, 0, reply);
-    scribe.write(rt, &faults);
-    let is_sent = is_free(rt, keeper, &reply);
-    let again = keeper.note_for(rt, &longer, 0, 0, Outgoing::new());
-    let again_waits = !is_free(rt, keeper, &again);
+    let reading_waits = first_waits::<R, J, Brand>(rt, keeper, &start, FreshConnection::new());
+    let waits = waits_for_all::<R, J, Brand>(
+        rt,
+        keeper,
+        &mut scribe,
+        &faults,
+        &[(0, &grown), (0, &longer)],
+        FreshConnection::new(),
+    );
+    let again_waits = first_waits::<R, J, Brand>(rt, keeper, &longer, FreshConnection::new());
     let bytes = on_disk(alloc, scribe.file())?;
     let is_right = bytes.as_slice() == b"journal 4 0 0\nrun 3\nrun 4\nstop 1\n".as_slice();
-    Ok(!reading_waits && waits && is_sent && !again_waits && is_right && faults.told() == 0)
+    Ok(!reading_waits && waits && !again_waits && is_right && faults.told() == 0)
 }
 
-/// A journal of another generation begins the file anew.
-pub(crate) fn reset_begins_the_file_anew<R: Wait>(
+/// A reply waits until the scribe has written its lines, and one that tells nothing new doesn't wait.
+pub(crate) fn reply_waits_for_its_lines<R: Wait>(
     rt: &R,
     alloc: Global,
 ) -> Result<bool, AllocError> {
-    let Some(Shelf { files, keepers }) = Shelf::new(alloc, &[ENOUGH])? else {
+    waits_for_its_lines::<R, Brand>(rt, alloc, FreshHistory::new())
+}
+
+/// `reset_begins_the_file_anew`, with a new history.
+fn begins_anew<R: Wait, J: Naming>(
+    rt: &R,
+    alloc: Global,
+    fresh: FreshHistory,
+) -> Result<bool, AllocError>
+    requires { books_of fresh ≡ J.books 0 }
+{
+    let mut shelf = Shelf::<J>::new(alloc);
+    if !shelf.add(alloc, 0, ENOUGH, fresh)? {
         return Ok(false);
-    };
+    }
+    let Shelf { files, keepers } = shelf;
     let faults = Faults::new();
     let Some(mut scribe) = only_scribe(keepers.as_slice(), files) else {
         return Ok(false);
@@ -67,27 +134,47 @@ pub(crate) fn reset_begins_the_file_anew<R: Wait>(
         return Ok(false);
     };
     let before = journal_of(alloc, b"journal 4 0 0\nrun 3\n")?;
-    let reply = keeper.note_for(rt, &before, 0, 0, Outgoing::new());
     let after = journal_of(alloc, b"journal 4 0 1\nname f\nrun 1\n")?;
-    let reply = keeper.note_for(rt, &after, 3, 0, reply);
     let later = journal_of(alloc, b"journal 4 0 1\nname f\nrun 1\nstop 1\n")?;
-    let reply = keeper.note_for(rt, &later, 3, 0, reply);
-    scribe.write(rt, &faults);
-    let is_sent = is_free(rt, keeper, &reply);
+    let waits = waits_for_all::<R, J, Brand>(
+        rt,
+        keeper,
+        &mut scribe,
+        &faults,
+        &[(0, &before), (3, &after), (3, &later)],
+        FreshConnection::new(),
+    );
     let bytes = on_disk(alloc, scribe.file())?;
-    Ok(is_sent && bytes.as_slice() == b"journal 4 0 1\nname f\nrun 1\nstop 1\n".as_slice())
+    let is_right = bytes.as_slice() == b"journal 4 0 1\nname f\nrun 1\nstop 1\n".as_slice();
+    Ok(waits && is_right)
+}
+
+/// A journal of another generation begins the file anew.
+pub(crate) fn reset_begins_the_file_anew<R: Wait>(
+    rt: &R,
+    alloc: Global,
+) -> Result<bool, AllocError> {
+    begins_anew::<R, Brand>(rt, alloc, FreshHistory::new())
 }
 
 /// Writes a reply that tells of a journal, and then calls the scribe for the last time. Answers whether it was written.
-fn write_reply<R: Wait>(rt: &R, alloc: Global, keepers: &[Keeper]) -> bool {
-    let outgoing = Cell::new(Outgoing::new());
+fn write_reply<R: Wait, J: Naming, C: Connecting>(
+    rt: &R,
+    alloc: Global,
+    keepers: &[Keeper<J>],
+    connection: FreshConnection,
+) -> bool
+    requires { connection.pen.book ≡ C.connection }
+{
+    let outgoing = Cell::new(Outgoing::<J, C>::new(connection));
     let mut out = Vec::new(alloc);
     let mut is_written = false;
     if let (Some(keeper), Ok(grown)) = (
         keepers.first(),
         journal_of(alloc, b"journal 4 0 0\nrun 3\n"),
     ) {
-        outgoing.set(keeper.note_for(rt, &grown, 0, 0, Outgoing::new()));
+        let leave = outgoing.replace(Outgoing::Lost);
+        outgoing.set(keeper.note_for(rt, &grown, 0, leave));
         let mut writer = SyncedWriter::new(&mut out, rt, keepers, &outgoing);
         is_written = writer.write_all(b"+ ran 3\n").is_ok();
     }
@@ -97,21 +184,31 @@ fn write_reply<R: Wait>(rt: &R, alloc: Global, keepers: &[Keeper]) -> bool {
     is_written && out.as_slice() == b"+ ran 3\n".as_slice()
 }
 
-/// A writer waits for the scribe, which it calls.
-pub(crate) fn writer_waits_for_the_scribe<R: Threads + Wait + Clock + Sync>(
+/// `write_reply` of a new connection.
+fn reply_is_written<R: Wait, J: Naming>(rt: &R, alloc: Global, keepers: &[Keeper<J>]) -> bool {
+    write_reply::<R, J, Brand>(rt, alloc, keepers, FreshConnection::new())
+}
+
+/// `writer_waits_for_the_scribe`, with a new history.
+fn waits_for_the_scribe<R: Threads + Wait + Clock + Sync, J: Naming + Send + Sync>(
     rt: &R,
     alloc: Global,
-) -> Result<bool, AllocError> {
-    let Some(Shelf { files, keepers }) = Shelf::new(alloc, &[ENOUGH])? else {
+    fresh: FreshHistory,
+) -> Result<bool, AllocError>
+    requires { books_of fresh ≡ J.books 0 }
+{
+    let mut shelf = Shelf::<J>::new(alloc);
+    if !shelf.add(alloc, 0, ENOUGH, fresh)? {
         return Ok(false);
-    };
+    }
+    let Shelf { files, keepers } = shelf;
     let faults = Faults::new();
     let shared = keepers.as_slice();
     let Some(mut scribe) = only_scribe(shared, files) else {
         return Ok(false);
     };
     let is_written = thread::scope(thread::scope_env(), rt, |scope| {
-        let Ok(writing) = scope.spawn(move || write_reply(rt, alloc, shared)) else {
+        let Ok(writing) = scope.spawn(move || reply_is_written(rt, alloc, shared)) else {
             return false;
         };
         scribe.work(rt, Duration::from_secs(3_600), &faults);
@@ -119,4 +216,12 @@ pub(crate) fn writer_waits_for_the_scribe<R: Threads + Wait + Clock + Sync>(
     });
     let bytes = on_disk(alloc, scribe.file())?;
     Ok(is_written && bytes.as_slice() == b"journal 4 0 0\nrun 3\n".as_slice())
+}
+
+/// A writer waits for the scribe, which it calls.
+pub(crate) fn writer_waits_for_the_scribe<R: Threads + Wait + Clock + Sync>(
+    rt: &R,
+    alloc: Global,
+) -> Result<bool, AllocError> {
+    waits_for_the_scribe::<R, Brand>(rt, alloc, FreshHistory::new())
 }

@@ -9,9 +9,9 @@ use Rattle.kl1_host_web.proofs.json.told_session.Goals as goal
 pub returns : goal.returns
 unfolding serde_json_on_literals
 returns g c =
-    let name = c.in_ok-name.ensures.0 in
-    let token = c.args.session.now.token in
+    let session = c.args.session.now in
+    let names = (g.A.Accounts.house c.args.accounts.now).names in
     let built : view c.in_ok-value.value ≡ object (member (codes "name") (view c.in_ok-name.name) (member (codes "token") (view c.in_ok-token.token) no_members)) = c.in_ok-value.ensures in
-    let both : object (member (codes "name") (view c.in_ok-name.name) (member (codes "token") (view c.in_ok-token.token) no_members)) ≡ object (member (codes "name") (string name) (member (codes "token") (string (shown token)) no_members)) =
-    ap₂ (λ n t. object (member (codes "name") n (member (codes "token") t no_members))) c.in_ok-name.ensures.1 (c.in_ok-token.ensures ∙ ap (λ t. string (shown t)) c.as_slice.ensures) in
-    welcome_is c.args.session.now name c.in_ok-value.value c.told_value.result (built ∙ both) c.told_value.ensures.head c.told_value.ensures.text
+    let both : object (member (codes "name") (view c.in_ok-name.name) (member (codes "token") (view c.in_ok-token.token) no_members)) ≡ object (member (codes "name") (string (shown (names session.account))) (member (codes "token") (string (shown session.token)) no_members)) =
+    ap₂ (λ n t. object (member (codes "name") n (member (codes "token") t no_members))) c.in_ok-name.ensures (c.in_ok-token.ensures ∙ ap (λ t. string (shown t)) c.as_slice.ensures) in
+    welcome_is names session c.in_ok-value.value c.told_value.result (built ∙ both) c.told_value.ensures.head c.told_value.ensures.text

@@ -1,3 +1,4 @@
+use Rattle.kl1_host_work.specs.OwnHistories.{books_at}
 use Rattle.kl1_host_work.proofs.starting.run_brand.Given as goal
 
 abbrev pub ghosts-run_parts-K-PoolIds : goal.ghosts-run_parts-K-PoolIds
@@ -5,3 +6,6 @@ ghosts-run_parts-K-PoolIds g a = record { table = a.parts.table; seats = a.parts
 
 abbrev pub ghosts-run_parts-K-TicketIds : goal.ghosts-run_parts-K-TicketIds
 ghosts-run_parts-K-TicketIds g a = record { tally = a.parts.tally; queue = a.parts.queue; accounts = a.parts.accounts; shares = a.parts.shares }
+
+abbrev pub ghosts-run_parts-K-Naming : goal.ghosts-run_parts-K-Naming
+ghosts-run_parts-K-Naming g a = record { books = books_at a.found.histories.items }

@@ -1,7 +1,7 @@
 use Rattle.std.proofs.Common.{Ok, Err, refl, sym, ap, subst, ◌∙◌}
 use Rattle.kl1_host_web.specs.Asking.{House}
 use Rattle.kl1_host_web.specs.Telling.{IsOpenedIn}
-use Rattle.kl1_host_web.specs.Serving.{is_within}
+use Rattle.kl1_host_web.specs.Serving.{is_within, Ends}
 use Rattle.kl1_host_web.proofs.Serving.{performs, within, fails, denied}
 use Rattle.kl1_host_web.proofs.Wanting.{of_wish}
 use Rattle.kl1_host_web.proofs.serve.Service.answer.Goals as goal
@@ -45,5 +45,6 @@ returns-clause-answers g c =
     let house : House = g.A.Accounts.house c.args.accounts.now in
     let asked = g.A.Accounts.asked in
     let is = ap (λ n. is_within n c.args.allowed.now) (sym c.count.ensures) ∙ sym c.is_within.ensures ∙ c.if-not-is_within.false in
+    let E : House → Type 0 = λ h. Ends (g.M.Machine.gives c.args.self.now.machine.now) h.names c.args.allowed.now (Ok c.in_ok-outcome.outcome) (asked c.grant.new.accounts) (asked c.settle.new.accounts) c.settle.result in
     within (g.M.Machine.gives c.args.self.now.machine.now) house c.args.allowed.now c.args.head.now.target.items c.args.body.now (asked c.args.accounts.now) (asked c.settle.new.accounts) c.settle.result (is_within house.accounts c.args.allowed.now) is
-    (performs (g.M.Machine.gives c.args.self.now.machine.now) house c.args.allowed.now c.args.head.now.target.items c.args.body.now c.in_ok-wish.wish (asked c.args.accounts.now) (asked c.grant.new.accounts) (asked c.settle.new.accounts) (Ok c.in_ok-outcome.outcome) c.settle.result c.in_ok-wish.ensures (rw c.as_slice.ensures.value at c.in_ok-outcome.ensures.grants) c.settle.ensures.ends)
+    (performs (g.M.Machine.gives c.args.self.now.machine.now) house c.args.allowed.now c.args.head.now.target.items c.args.body.now c.in_ok-wish.wish (asked c.args.accounts.now) (asked c.grant.new.accounts) (asked c.settle.new.accounts) (Ok c.in_ok-outcome.outcome) c.settle.result c.in_ok-wish.ensures (rw c.as_slice.ensures.value at c.in_ok-outcome.ensures.grants) (subst E c.grant.ensures.house c.settle.ensures.ends))

@@ -74,12 +74,12 @@ loop-preserved g c =
     let is_local = c.args.self.now.is_local in
     let middle : Option (List ℕ) = prepend_known c.loop.inbox.kept.items (remaining c.loop.source) in
     let new : Option (List ℕ) = prepend_known c.serve_request.new.inbox.kept.items (remaining c.serve_request.new.source) in
-    let is : c.serve_request.result ≡ Ok (served_as.Answered c.in-Ok-Answered.answer c.in-Ok-Answered.goes_on) = cc in
+    let is : c.serve_request.result ≡ Ok (served_as.Answered c.in-Ok-Answered.answer c.in-Ok-Answered.secure c.in-Ok-Answered.goes_on) = cc in
     let S : House → Type 0 = λ h. Steps (g.M.Machine.tells c.args.self.now.machine.now) (g.M.Machine.gives c.args.self.now.machine.now) c.args.self.now.page.idle h sites is_local middle new (asked c.loop.accounts) (asked c.serve_request.new.accounts) c.serve_request.result in
     let R : Result Served AllocError → Type 0 = λ r. Steps (g.M.Machine.tells c.args.self.now.machine.now) (g.M.Machine.gives c.args.self.now.machine.now) c.args.self.now.page.idle (house c.args.accounts.now) sites is_local middle new (asked c.loop.accounts) (asked c.serve_request.new.accounts) r in
     record {
       house = c.serve_request.ensures.house ∙ c.loop.invariant.house;
-      served = answered (g.M.Machine.tells c.args.self.now.machine.now) (g.M.Machine.gives c.args.self.now.machine.now) c.args.self.now.page.idle (house c.args.accounts.now) sites is_local c.loop.invariant.served.0 (remaining c.args.source.now) middle new (asked c.args.accounts.now) (asked c.loop.accounts) (asked c.serve_request.new.accounts) c.in-Ok-Answered.answer c.in-Ok-Answered.goes_on c.loop.invariant.served.1 (subst R is (subst S c.loop.invariant.house c.serve_request.ensures.steps));
+      served = answered (g.M.Machine.tells c.args.self.now.machine.now) (g.M.Machine.gives c.args.self.now.machine.now) c.args.self.now.page.idle (house c.args.accounts.now) sites is_local c.loop.invariant.served.0 (remaining c.args.source.now) middle new (asked c.args.accounts.now) (asked c.loop.accounts) (asked c.serve_request.new.accounts) c.in-Ok-Answered.answer c.in-Ok-Answered.secure c.in-Ok-Answered.goes_on c.loop.invariant.served.1 (subst R is (subst S c.loop.invariant.house c.serve_request.ensures.steps));
     }
 
 pub returns-clause-served : goal.returns-clause-served
