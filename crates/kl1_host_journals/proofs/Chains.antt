@@ -1,11 +1,11 @@
 -- Editions one after another.
-use Rattle.std.proofs.Common.{◌≡◌, ℕ, zero, suc, ◌≤◌, ◌<◌, List, [], ◌∷◌, ◌++◌, length, refl, ap, sym, ◌∙◌, subst, arith, inl, inr, ◌⊎◌, append_assoc, length-append}
+use Rattle.std.proofs.Common.{◌≡◌, ℕ, zero, suc, ◌≤◌, List, [], ◌∷◌, ◌++◌, length, refl, ap, sym, ◌∙◌, subst, arith, inl, inr, ◌⊎◌, append_assoc, length-append}
 use Rattle.std.proofs.lemmas.Bool.{cases_lt}
 use Rattle.std.proofs.lemmas.List.{append-nil}
 use mathlib.Core.List.{IsPrefix}
 use Rattle.kl1_log.specs.Later.{IsLater}
 use Rattle.kl1_host_journals.specs.declared.edition.Edition.{Edition}
-use Rattle.kl1_host_journals.specs.Editions.{last_of, StandsIn, Follows, MayFollow, AllFollow, IsChain, GrowsInto, HaveGrown}
+use Rattle.kl1_host_journals.specs.Editions.{last_of, StandsIn, Follows, MayFollow, AllFollow, IsChain, HaveGrown}
 
 -- each list begins with itself
 pub prefix_self : {A : Type 0} (xs : List A) → IsPrefix xs xs

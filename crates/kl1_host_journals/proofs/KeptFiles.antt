@@ -1,5 +1,5 @@
 -- What a file holds that was written to.
-use Rattle.std.proofs.Common.{◌≡◌, ℕ, ◌×◌, Bool, true, false, List, refl, sym, ap, ◌∙◌, subst}
+use Rattle.std.proofs.Common.{◌≡◌, ℕ, Bool, true, false, List, refl, sym, ap, ◌∙◌, subst}
 use Rattle.std.specs.Prelude.{Option, Some, None, option_map, Err}
 use Rattle.std.proofs.lemmas.Bool.{false≢true}
 use Rattle.kl1_log.specs.Files.{content, Known, IfKnown}

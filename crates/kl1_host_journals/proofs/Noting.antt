@@ -1,5 +1,5 @@
 -- A journal that was noted in a history.
-use Rattle.std.proofs.Common.{◌≡◌, ℕ, suc, ◌+◌, ◌≤◌, ◌<◌, List, [], ◌∷◌, ◌++◌, length, refl, inl, inr, ◌⊎◌, sym, ap, ◌∙◌, subst, arith}
+use Rattle.std.proofs.Common.{◌≡◌, ℕ, suc, ◌+◌, ◌≤◌, ◌<◌, List, [], ◌∷◌, ◌++◌, length, inl, inr, ◌⊎◌, sym, ap, ◌∙◌, subst, arith}
 use Rattle.std.proofs.lemmas.Bool.{cases_lt}
 use mathlib.Core.List.{IsPrefix}
 use Rattle.kl1_model_server.specs.Journal.{Journal}
@@ -7,7 +7,7 @@ use Rattle.kl1_journal_entries.specs.Lined.{Rows}
 use Rattle.kl1_model_server.specs.JournalText.{lines_of as lines_in}
 use Rattle.kl1_log.specs.Batches.{text_after, bytes_of}
 use Rattle.kl1_log.specs.Deeds.{HasSums, IsFile}
-use Rattle.kl1_log.specs.Later.{IsLater, IsMark}
+use Rattle.kl1_log.specs.Later.{IsLater}
 use Rattle.kl1_log.specs.Waits.{IsUpTo, CountsOn, Fits, mark_of}
 use Rattle.kl1_log.specs.declared.change.Change.{Change}
 use Rattle.kl1_log.specs.declared.change.Change.TheVariants.{Appends, Begins}

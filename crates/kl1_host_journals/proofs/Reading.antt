@@ -1,18 +1,17 @@
 -- What the next start reads of what was on disk.
-use Rattle.std.proofs.Common.{◌≡◌, ℕ, zero, suc, ◌+◌, ◌≤◌, ◌<◌, true, List, [], ◌∷◌, ◌++◌, length, take, drop, refl, sym, ap, ◌∙◌, subst, arith, inl, inr, append_assoc}
-use Rattle.std.specs.Prelude.{Option, Some, None, option_map, is_none, ◌&&◌}
+use Rattle.std.proofs.Common.{◌≡◌, ℕ, zero, suc, ◌+◌, ◌≤◌, true, List, [], ◌∷◌, ◌++◌, length, take, drop, refl, sym, ap, ◌∙◌, subst, arith, inl, inr, append_assoc}
+use Rattle.std.specs.Prelude.{Option, Some, None, is_none}
 use Rattle.std.proofs.lemmas.Bool.{and_parts}
 use Rattle.std.proofs.Math.Seq.{take-append-add}
 use Rattle.std.proofs.lemmas.List.{append-nil, take-append-drop}
-use mathlib.Core.List.{IsPrefix}
-use Rattle.kl1_model_server.specs.Journal.{Entry, Journal}
+use Rattle.kl1_model_server.specs.Journal.{Entry}
 use Rattle.kl1_log.specs.Cuts.{recovered, front_of}
 use Rattle.kl1_log.specs.Deeds.{deeds_of, file_in, IsFile}
-use Rattle.kl1_log.specs.Files.{FileState, Known, IfKnown, Bytes, content, MayLeave, IsLeftOf, IsBroughtBack, is_nil, is_at_rest}
+use Rattle.kl1_log.specs.Files.{FileState, Known, IfKnown, Bytes, content, MayLeave, IsBroughtBack, is_nil, is_at_rest}
 use Rattle.kl1_log.proofs.Fronts.{appends_are_fronts}
 use Rattle.kl1_log.proofs.DeedsDone.{deeds_more}
 use Rattle.kl1_host_journals.specs.declared.edition.Edition.{Edition}
-use Rattle.kl1_host_journals.specs.Editions.{last_of, StandsIn, HaveGrown, IsEdited, IsLastEdited, IsUpToDate}
+use Rattle.kl1_host_journals.specs.Editions.{last_of, StandsIn, IsLastEdited, IsUpToDate}
 use Rattle.kl1_host_journals.specs.Texts.{IsTextOf}
 use Rattle.kl1_host_journals.specs.Keeping.{IsReadWith, CrashesKeepDeeds, Keeps}
 use Rattle.kl1_host_journals.proofs.Noting.{last_edited}

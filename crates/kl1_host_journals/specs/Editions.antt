@@ -1,5 +1,5 @@
 -- What the file of an account is to hold, note after note.
-use Rattle.std.specs.Prelude.{⊤, ◌≡◌, ◌⊎◌, ◌<◌, ◌≤◌, ℕ, List, [], ◌∷◌, ◌++◌, length}
+use Rattle.std.specs.Prelude.{⊤, ◌≡◌, ◌⊎◌, ◌<◌, ◌≤◌, ℕ, List, [], ◌∷◌, length}
 use mathlib.Core.List.{IsPrefix}
 use Rattle.kl1_model.specs.declared.rules.Rules.TheVariants.{Four}
 use Rattle.kl1_model_server.specs.Journal.{Journal, new_journal}

@@ -1,5 +1,5 @@
 -- What the next start reads of what was on disk.
-use Rattle.std.specs.Prelude.{◌≡◌, ℕ, List, [], ◌++◌, take, Some}
+use Rattle.std.specs.Prelude.{◌≡◌, ℕ, List, ◌++◌, take, Some}
 use mathlib.Core.List.{IsPrefix}
 use Rattle.kl1_model_server.specs.Journal.{Entry, Journal}
 use Rattle.kl1_log.specs.Cuts.{recovered}

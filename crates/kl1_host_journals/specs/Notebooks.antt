@@ -1,8 +1,6 @@
 -- What of an account's journal was noted for its file, in its history.
 use Rattle.kl1_host_journals.specs.declared.history.Naming as naming
-use Rattle.std.specs.Prelude.{ℕ}
 use Rattle.kl1_host_journals.specs.declared.history.History.{History}
-use Rattle.kl1_host_journals.specs.declared.edition.Edition.{Edition}
 use Rattle.kl1_host_journals.specs.declared.notes.Notes.{Notes}
 use Rattle.kl1_host_journals.specs.declared.place.Place.{Place}
 use Rattle.kl1_host_journals.specs.declared.notebook.Notebook.{Notebook}

@@ -1,6 +1,4 @@
 -- What is on disk, and what waits for that.
-use Rattle.std.specs.Prelude.{ℕ, List}
-use Rattle.kl1_log.specs.Receipts.{Covers}
 use Rattle.kl1_log.specs.declared.receipt.Receipt.{Receipt}
 use Rattle.kl1_host_journals.specs.declared.history.Naming as naming
 use Rattle.kl1_host_journals.specs.declared.place.Place.{Place}

@@ -1,13 +1,14 @@
 // The file of an account, with what it holds.
 
-ghost use Rattle.std.specs.Prelude.{◌≡◌, ◌≤◌, IfOk, OnOk, IsTrue, IsErr, true, false, option_map};
+ghost use Rattle.std.specs.Prelude.{◌≡◌, ◌≤◌, IfOk, OnOk, IfErr, IsTrue, IsErr, true, false, option_map};
 ghost use Rattle.std.proofs.Props.{props};
 ghost use Rattle.kl1_log.specs.Files.{AtAnyMoment, is_at_rest};
 ghost use Rattle.kl1_log.specs.Batches.{text_of, IsLeftOfKnown};
-ghost use Rattle.kl1_log.specs.LogFiles.{disk_of, account_of as account_of_file, changes_of, IsFailed};
+ghost use Rattle.kl1_log.specs.LogFiles.{disk_of, account_of as account_of_file, changes_of, IsKept, IsFailed};
+ghost use Rattle.kl1_log.specs.Receipts as receipts;
 ghost use Rattle.kl1_host_journals.specs.Places.{account_of, log_of, edition_of};
 ghost use Rattle.kl1_host_journals.specs.Parcels.{batch_of, end_of};
-ghost use Rattle.kl1_host_journals.specs.StoredPlaces.{place_of as stored_place_of};
+ghost use Rattle.kl1_host_journals.specs.StoredPlaces.{receipt_of, place_of as stored_place_of};
 ghost use Rattle.kl1_host_journals.specs.Texts.{IsTextOf};
 
 use crate::history::Naming;
@@ -78,12 +79,14 @@ impl<D: Disk, J: Naming> KeptFile<D, J> {
     #[tactic(auto, using(crate::proofs::KeptFiles::written_text, crate::proofs::KeptFiles::still_text))]
     pub fn write(&mut self, parcel: &Parcel<J>) -> Result<Stored<J>, LogError>
         ensures stored { IfOk result (λ s. log_of (stored_place_of s) ≡ log_of (end_of parcel.now)) }
+        ensures receipt { IfOk result (λ s. (receipts.account_of (receipt_of s) ≡ account_of self.new.place) × (receipts.changes_of (receipt_of s) ≡ (edition_of self.new.place).number)) }
         ensures place { OnOk result (log_of self.new.place ≡ log_of (end_of parcel.now)) }
         ensures on_disk { OnOk result (IsTrue (is_at_rest (D.known (disk_of self.new.file))) × IsTextOf (D.known (disk_of self.new.file)) (edition_of (end_of parcel.now)).text) }
         ensures account { account_of self.new.place ≡ account_of self.old.place }
         ensures err { IsErr result → log_of self.new.place ≡ log_of self.old.place }
         ensures usable { OnOk result (D.is_usable (disk_of self.new.file) ≡ true) }
         ensures any_moment { AtAnyMoment (D.known (disk_of self.old.file)) (D.known (disk_of self.new.file)) (IsLeftOfKnown (D.known (disk_of self.old.file)) (batch_of parcel.now).change) }
+        ensures kept { IfErr result (λ e. IsKept e (D.is_usable (disk_of self.new.file) ≡ true)) }
         ensures failed { IsFailed result → D.is_usable (disk_of self.new.file) ≡ false }
     {
         let receipt = self.file.write(&parcel.batch)?;

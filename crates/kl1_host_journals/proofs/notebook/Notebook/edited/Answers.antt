@@ -1,4 +1,4 @@
-use Rattle.std.proofs.Common.{◌≡◌, ◌≤◌, ℕ, List, [], ◌∷◌, ◌++◌, length, sym, ap, ◌∙◌, subst, arith, length-append}
+use Rattle.std.proofs.Common.{◌≡◌, ℕ, List, [], ◌∷◌, length, sym, ap, ◌∙◌, subst, arith, length-append}
 use Rattle.kl1_journal_entries.specs.Lined.{Rows}
 use Rattle.kl1_log.specs.Batches.{text_after}
 use Rattle.kl1_log.specs.Deeds.{HasSums}

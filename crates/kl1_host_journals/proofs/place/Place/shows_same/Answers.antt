@@ -1,4 +1,4 @@
-use Rattle.std.proofs.Common.{ap, subst, sym, List}
+use Rattle.std.proofs.Common.{ap, subst, List}
 use mathlib.Core.List.{IsPrefix}
 use Rattle.kl1_host_journals.specs.declared.edition.Edition.{Edition}
 use Rattle.kl1_host_journals.proofs.Chains.{same_text}
