@@ -17,13 +17,13 @@ use std::time::Clock;
 
 /// The program with what can be seen of its host, and what does commands for it.
 #[derive(Drop)]
-pub struct Attending<'p, 'f, R, K: LoginKeys, P: Performer, V: HostView>
+pub struct Attending<'s, 'p, 'v, 'f, R, K: LoginKeys, P: Performer, V: HostView>
 where
     R: Wait + Clock + Eprint + Files + RandomSource,
 {
-    pub program: &'p Program<'f, R, K>,
+    pub program: &'s Program<'f, R, K>,
     pub performer: &'p mut P,
-    pub host: &'p V,
+    pub host: &'v V,
     /// The second in which sessions of browsers were looked at last.
     pub last: u64,
     pub ghost counts: { length program.now.keys.now ≤ P.accounts performer.now },
@@ -34,7 +34,7 @@ fn number(name: &'static [u8], number: u64) -> Number<'static> {
     Number { name, number }
 }
 
-impl<R, K: LoginKeys, P: Performer, V: HostView> Attending<'_, '_, R, K, P, V>
+impl<R, K: LoginKeys, P: Performer, V: HostView> Attending<'_, '_, '_, '_, R, K, P, V>
 where
     R: Wait + Clock + Eprint + Files + RandomSource,
 {
@@ -70,7 +70,7 @@ where
     }
 }
 
-impl<R, K: LoginKeys, P: Performer, V: HostView> Attendant for Attending<'_, '_, R, K, P, V>
+impl<R, K: LoginKeys, P: Performer, V: HostView> Attendant for Attending<'_, '_, '_, '_, R, K, P, V>
 where
     R: Wait + Clock + Eprint + Files + RandomSource,
 {

@@ -10,7 +10,7 @@ use std::os::unix::fs::OpenOptionsExt;
 use std::rt::Files;
 
 /// The names of accounts that have started before, each with a line feed; none if there is no such file.
-fn names_in<R: Files + AllocGlobal>(rt: &R, folder: &str) -> Result<Vec<u8>, Fault> {
+pub fn names_in<R: Files + AllocGlobal>(rt: &R, folder: &str) -> Result<Vec<u8>, Fault> {
     let alloc = rt.alloc();
     let path = path_in(alloc, folder, STARTED)?;
     match fs::read(rt, path.as_str()) {
@@ -34,6 +34,21 @@ fn has_bytes<R: Files>(rt: &R, alloc: Global, path: &str) -> Result<bool, Fault>
     }
 }
 
+/// Whether the journal of the account of this name is missing or empty, though the account is among those that have started before.
+pub fn is_lost<R: Files + AllocGlobal>(
+    rt: &R,
+    folder: &str,
+    started: &[u8],
+    name: &[u8],
+) -> Result<bool, Fault> {
+    let alloc = rt.alloc();
+    if !is_among(started, name) {
+        return Ok(false);
+    }
+    let path = journal_in(alloc, folder, name)?;
+    Ok(!has_bytes(rt, alloc, path.as_str())?)
+}
+
 /// Refuses to start if the journal of an account that has started before is missing or empty: the account would begin anew without a word.
 pub fn refuse_missing<R: Files + AllocGlobal>(
     rt: &R,
@@ -41,11 +56,11 @@ pub fn refuse_missing<R: Files + AllocGlobal>(
     keys: &[Key],
 ) -> Result<(), Fault> {
     let alloc = rt.alloc();
-    let names = names_in(rt, folder)?;
+    let started = names_in(rt, folder)?;
     for key in keys {
         let name = key.name.as_slice();
-        let path = journal_in(alloc, folder, name)?;
-        if is_among(names.as_slice(), name) && !has_bytes(rt, alloc, path.as_str())? {
+        if is_lost(rt, folder, started.as_slice(), name)? {
+            let path = journal_in(alloc, folder, name)?;
             let words = format!(in alloc;
                 "{path}: it is missing or empty, and the account has started before: bring it back, or for an empty account take the line {} out of {folder}/{STARTED}",
                 name.escape_ascii()
