@@ -1,6 +1,7 @@
-use denote.Param.Send.{sendable}
+use Rattle.std.proofs.lemmas.Result.{IfOk-weaker}
+use Rattle.kl1_host_work.proofs.Shelves.{are_restored}
 use Rattle.kl1_host_work.proofs.restoring.restore_all.Goals as goal
 
--- what is restored may be sent
-pub for_each_mut-requires-send-T : goal.for_each_mut-requires-send-T
-for_each_mut-requires-send-T g c κs within = search sendable depth 30
+-- what waited was restored, and stands
+pub returns : goal.returns
+returns g c = IfOk-weaker c.shelf_of.result _ _ (λ shelf standing. are_restored _ _ _ _ _ _ _ _ c.as_mut_slice.ensures.value c.in_ok-restarts.ensures standing c.restore_each.ensures) c.shelf_of.ensures
