@@ -1,6 +1,7 @@
 -- Accounts that are restored, in order.
-use Rattle.std.proofs.Common.{arith, ◌≡◌, ℕ, ◌<◌, List, [], ◌∷◌, ◌++◌, length, get_or, map, ap, sym, subst, ◌∙◌}
+use Rattle.std.proofs.Common.{arith, ◌≡◌, ℕ, ◌<◌, List, [], ◌∷◌, ◌++◌, length, get_or, take, map, ap, sym, subst, ◌∙◌}
 use Rattle.std.specs.Prelude.{slice_get, Option}
+use Rattle.std.proofs.Math.Seq.{take-append_seam}
 use Rattle.std.proofs.lemmas.List.{map-append, length-map, get_or-map}
 use Rattle.kl1_model.specs.declared.rules.Rules.{Rules}
 use Rattle.kl1_log.specs.declared.disk.Disk as disk
@@ -18,6 +19,10 @@ use Rattle.kl1_host_work.specs.Standings.{IsRestarted, AreRestarted, AreRestored
 one_of : {R : Type 0} (rs : List R) (k : ℕ) → k < length rs → R
 one_of [] k few = absurd (omega (arith, few))
 one_of (r ∷ rs) k few = r
+
+-- what was written back of a slice is what it was at last
+pub written_back : {R : Type 0} (n : ℕ) (xs ys : List R) → length xs ≡ n → take n (xs ++ ys) ≡ xs
+written_back n xs ys e = subst (λ (m : ℕ). take m (xs ++ ys) ≡ xs) e (take-append_seam xs ys)
 
 module _ {R D J : Type 0} {g : disk.Ghosts D} {h : naming.Ghosts J} {shown : shown_ids.Ghosts J} (stage : R → Stage D J g h shown) where
   -- one more waits
@@ -55,24 +60,25 @@ module _ {R D J : Type 0} {g : disk.Ghosts D} {h : naming.Ghosts J} {shown : sho
   each_restarted rules names before after long each = record {
     all = length-map after stage ∙ long ∙ sym (length-map before stage);
     each = λ k s few.
-      let in_before : k < length before = omega (arith, length-map before stage, few) in
-      let in_after : k < length after = omega (arith, long, in_before) in
-      let r : R = one_of before k in_before in
-      let at : Restarted rules (slice_get names k) (get_or before k r) (get_or after k r) = each k r in_before in
-      let was : stage at.was ≡ get_or (map stage before) k s = ap stage at.was_there ∙ sym (get_or-map stage before k r s in_before) in
-      let is : stage at.is ≡ get_or (map stage after) k s = ap stage at.is_there ∙ sym (get_or-map stage after k r s in_after) in
-      subst (λ (x : Stage D J g h shown). IsRestarted rules (slice_get names k) x (get_or (map stage after) k s)) was
-      (subst (λ (x : Stage D J g h shown). IsRestarted rules (slice_get names k) (stage at.was) x) is at.restarted);
+        let in_before : k < length before = omega (arith, length-map before stage, few) in
+        let in_after : k < length after = omega (arith, long, in_before) in
+        let r : R = one_of before k in_before in
+        let at : Restarted rules (slice_get names k) (get_or before k r) (get_or after k r) = each k r in_before in
+        let was : stage at.was ≡ get_or (map stage before) k s = ap stage at.was_there ∙ sym (get_or-map stage before k r s in_before) in
+        let is : stage at.is ≡ get_or (map stage after) k s = ap stage at.is_there ∙ sym (get_or-map stage after k r s in_after) in
+        subst (λ (x : Stage D J g h shown). IsRestarted rules (slice_get names k) x (get_or (map stage after) k s)) was
+        (subst (λ (x : Stage D J g h shown). IsRestarted rules (slice_get names k) (stage at.was) x) is at.restarted);
   }
 
   -- accounts that waited, each restored, and that all stand are restored
-  pub are_restored : (rules : Rules) (names : List (List ℕ)) (found : List (AccountFile D)) (waited before after : List R) (files : List (KeptFile D J g h shown)) → before ≡ waited → AreWaiting found (map stage waited) → AreStanding (map stage after) files → AreRestarted rules names (map stage before) (map stage after) → AreRestored rules names found files
-  are_restored rules names found waited before after files same waiting standing restarted =
+  pub are_restored : (rules : Rules) (names : List (List ℕ)) (found : List (AccountFile D)) (waited before after written : List R) (files : List (KeptFile D J g h shown)) → before ≡ waited → AreWaiting found (map stage waited) → AreStanding (map stage written) files → written ≡ after → AreRestarted rules names (map stage before) (map stage after) → AreRestored rules names found files
+  are_restored rules names found waited before after written files same waiting standing back restarted =
       let b : List (Stage D J g h shown) = map stage before in
       let a : List (Stage D J g h shown) = map stage after in
       let waits : b ≡ map (λ (x : AccountFile D). Waits x) found = ap (map stage) same ∙ waiting in
       let as_many : length b ≡ length found = ap length waits ∙ length-map found (λ (x : AccountFile D). Waits x) in
-      let stands : length a ≡ length standing.0 = ap length standing.1 ∙ length-map standing.0 (λ (x : Standing D J g h shown). Stands x) in
+      let standing_now : a ≡ map (λ (x : Standing D J g h shown). Stands x) standing.0 = sym (ap (map stage) back) ∙ standing.1 in
+      let stands : length a ≡ length standing.0 = ap length standing_now ∙ length-map standing.0 (λ (x : Standing D J g h shown). Stands x) in
       let all : length a ≡ length b = restarted.all in
       record {
         standings = standing.0;
@@ -85,7 +91,7 @@ module _ {R D J : Type 0} {g : disk.Ghosts D} {h : naming.Ghosts J} {shown : sho
             ap (λ (ss : List (Stage D J g h shown)). get_or ss k (Waits x)) waits
             ∙ get_or-map (λ (y : AccountFile D). Waits y) found k x (Waits x) few in
             let is : get_or a k (Waits x) ≡ Stands (get_or standing.0 k s) =
-            ap (λ (ss : List (Stage D J g h shown)). get_or ss k (Waits x)) standing.1
+            ap (λ (ss : List (Stage D J g h shown)). get_or ss k (Waits x)) standing_now
             ∙ get_or-map (λ (y : Standing D J g h shown). Stands y) standing.0 k s (Waits x) in_standing in
             subst (λ (y : Stage D J g h shown). IsRestarted rules (slice_get names k) (Waits (get_or found k x)) y) is
             (subst (λ (y : Stage D J g h shown). IsRestarted rules (slice_get names k) y (get_or a k (Waits x))) was (restarted.each k (Waits x) in_before));
