@@ -23,7 +23,6 @@ pub fn gather<'t, R: Wait, K: PoolIds, W: Wait>(
         common,
         places,
         most_bytes: _,
-        grants: _,
     } = pool;
     kl1_pool_tickets::gather(rt, common, places, shares)
 }

@@ -68,6 +68,19 @@ pub(crate) trait Fresh: Drop {
 #[derive(Drop)]
 pub struct LockedSlot<'t, R: Wait, K: PoolIds> {
     pub(crate) account: CachePadded<PoolAccount<'t, R, K>>,
+    /// How many messages to its shoens, and answers, may be unread.
+    pub(crate) unread: u64,
+}
+
+impl<'t, R: Wait, K: PoolIds> LockedSlot<'t, R, K> {
+    /// Notes that so many steps were done: each reads one, since monitors step before all else; and nothing is unread where no goal can step.
+    pub(crate) fn note_steps(&mut self, steps: u64) {
+        self.unread = if self.account.quiet() {
+            0
+        } else {
+            self.unread.saturating_sub(steps)
+        };
+    }
 }
 
 impl<'t, R: Wait, K: PoolIds> Fresh for LockedSlot<'t, R, K> {
@@ -98,7 +111,7 @@ impl<'t, R: Wait, K: PoolIds> Fresh for LockedSlot<'t, R, K> {
         let mut atoms = tables.atoms();
         let kept = JournaledAccount::with_names(alloc, name, rules, &mut atoms, seat, texts)?;
         let account = CachePadded::new(PoolAccount::new(kept, book, shown));
-        Ok(LockedSlot { account })
+        Ok(LockedSlot { account, unread: 0 })
     }
 }
 

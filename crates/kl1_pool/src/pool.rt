@@ -9,14 +9,14 @@ ghost use Rattle.kl1_pool.specs.Stepping.{IsTurn};
 
 use crate::answer::Answer;
 use crate::gate::Gate;
-use crate::grants::Grants;
 use crate::locked_slot::LockedSlot;
 use crate::locked_slots::{drop_all, places_of};
-use crate::memory::{reserve_of, was_sent};
+use crate::memory::was_sent;
 use crate::parts::PoolParts;
 use crate::pool_account::DueTicket;
 use crate::pool_ids::PoolIds;
 use crate::shared_tables::SharedTables;
+use crate::turn::MOST_GRANTED_STEPS;
 use kl1_command::Command;
 use kl1_pool_tickets::{Opened, PoolShared, Share, TimeSlice};
 use std::alloc::{AllocError, Global};
@@ -33,7 +33,6 @@ pub struct Pool<'t, R: Wait, K: PoolIds> {
     pub(crate) places: Vec<Mutex<LockedSlot<'t, R, K>>>,
     /// The most bytes that an account may take if it is to go on.
     pub(crate) most_bytes: u64,
-    pub(crate) grants: Grants,
     pub ghost counted: { vec_len places ≡ K.accounts },
     pub ghost bounded: { most_bytes ≡ K.most_bytes },
 }
@@ -47,7 +46,7 @@ const NO_TURN: TimeSlice = TimeSlice {
 impl<'t, R: Wait, K: PoolIds> Pool<'t, R, K> {
     /// The pool of these parts, in whose accounts nothing has happened, and its shares, which are at zero. By `rt` codes are put in.
     /// An account that takes more bytes than it may gets no turns, and commands to it that take memory are answered as if memory was refused,
-    /// until it is reset; but messages to its shoens and answers go through as long as what is kept for them lasts, with a short turn after each.
+    /// until it is reset; but messages to its shoens and answers go through as long as what is kept for them lasts, and short turns read them.
     pub fn new(
         rt: &'t R,
         alloc: Global,
@@ -99,7 +98,6 @@ impl<'t, R: Wait, K: PoolIds> Pool<'t, R, K> {
                 common,
                 places,
                 most_bytes,
-                grants: Grants::new(),
             },
             shares,
         ))
@@ -135,12 +133,9 @@ impl<'t, R: Wait, K: PoolIds> Pool<'t, R, K> {
             return (Answer::over(found, account, command), None);
         }
         let (answer, due) = found.act(self.rt, &self.common, &self.tables, share, command);
-        // What was sent over the bound is read, by one short turn.
-        if reserve_of(command) > 0
-            && was_sent(answer.performed())
-            && found.is_over(self.most_bytes)
-        {
-            self.grants.grant(account);
+        // What was sent is read over the bound too, by short turns.
+        if was_sent(answer.performed()) {
+            guard.unread = guard.unread.saturating_add(1);
         }
         (answer, due)
     }
@@ -190,7 +185,8 @@ impl<'t, R: Wait, K: PoolIds> Pool<'t, R, K> {
     }
 
     /// A turn of an account under its lock, as `PoolAccount::turn`, between `enter` and `leave` of a gate. An account that takes more bytes
-    /// than it may gets none, but a short one after a message to one of its shoens. Unless the ticket is to be put back, none is out afterwards.
+    /// than it may gets none, but short ones while messages to its shoens may be unread. Unless the ticket is to be put back, none is out
+    /// afterwards.
     pub(crate) fn turn<G: Gate, W: Wait>(
         &self,
         rt: &W,
@@ -207,19 +203,22 @@ impl<'t, R: Wait, K: PoolIds> Pool<'t, R, K> {
             return NO_TURN;
         };
         let mut guard = place.lock(rt);
+        let unread = guard.unread;
         let found = &mut *guard.account;
         // As in `visit`.
         if found.account() != account {
             return NO_TURN;
         }
-        let is_short = self.grants.take(account) && found.is_over(self.most_bytes);
+        let is_short = unread > 0 && found.is_over(self.most_bytes);
+        let more = unread > MOST_GRANTED_STEPS;
         if !found.may_turn(self.most_bytes, is_short) {
             found.clear_ticket();
             return NO_TURN;
         }
         gate.enter(number);
-        let slice = found.time_slice(self.rt, &self.common, &self.tables, share, is_short);
+        let slice = found.time_slice(self.rt, &self.common, &self.tables, share, is_short, more);
         gate.leave(number);
+        guard.note_steps(slice.steps);
         slice
     }
 
@@ -232,7 +231,6 @@ impl<'t, R: Wait, K: PoolIds> Pool<'t, R, K> {
             common: _,
             places,
             most_bytes: _,
-            grants: _,
         } = self;
         drop_all(places);
     }
