@@ -15,7 +15,7 @@ use Rattle.kl1_host_work.specs.declared.exchange.Waiting.TheVariants.{Nothing, N
 
 module _ {K C : Type 0} {g : naming.Ghosts K} {shown : shown_ids.Ghosts K} {h : connecting.Ghosts C} where
   -- an answer waits for its account's note, if the note came when all of this had been done
-  pub cared : (rules : Rules) (names : List (List ℕ)) (replies_wait : Bool) (ds : List Done) (d : Done) (v : HistoryValue) (o : Outgoing K C g shown h) (w : Waiting K C g shown h) → IsNoticeOf v o w → IsNoted rules (slice_get names d.account) d.account o → v.done ≡ ds → IsCared rules names replies_wait ds d w
+  pub cared : (rules : Rules) (names : List (List ℕ)) (replies_wait : Bool) (ds : List Done) (d : Done) (v : HistoryValue) (o : Outgoing K C g shown h) (w : Waiting K C shown g h) → IsNoticeOf v o w → IsNoted rules (slice_get names d.account) d.account o → v.done ≡ ds → IsCared rules names replies_wait ds d w
   cared rules names replies_wait ds d v o Nothing notice noted is = absurd notice
   cared rules names replies_wait ds d v o (Noted leave after) notice noted is =
       let P : Outgoing K C g shown h → Type 0 = λ (x : Outgoing K C g shown h). IsNoted rules (slice_get names d.account) d.account x in
