@@ -79,14 +79,15 @@ impl<'f, R: Wait + Clock + Eprint + Files + RandomSource, K: LoginKeys> Program<
     fn door_of(&self, address: SocketAddr) -> PausingDoor<'f, R, LoginLog<'f, R>>
         ensures { result.keys.now ≡ self.now.keys.now }
     {
+        let keys = self.keys;
         PausingDoor {
             rt: self.rt,
-            keys: self.keys,
+            keys,
             pauses: self.pauses,
             address: address_number(address.ip()),
             teller: LoginLog {
                 log: self.log,
-                accounts: self.keys,
+                accounts: keys,
                 address,
             },
         }
@@ -332,7 +333,9 @@ where
         match event {
             HostEvent::Restored { account, entries } => self.tell_restored(account, entries),
             HostEvent::Opened(_) => {}
-            HostEvent::TurnedAway(address) => self.log.tell_of(b"turned_away", address, &[]),
+            HostEvent::TurnedAway(address) => {
+                self.tell_paced(PacedLine::TurnedAway, b"turned_away", address)
+            }
             HostEvent::Unserved(address) => {
                 self.tell_paced(PacedLine::Unserved, b"no_thread", address)
             }

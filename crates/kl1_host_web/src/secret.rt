@@ -32,10 +32,10 @@ fn encoded(bytes: &[u8]) -> Option<[u8; SECRET_BYTES]>
 }
 
 /// A session of an account that begins now. Its name and its token are two parts of one text that nobody can guess, so who knows the one
-/// doesn't know the other. `None` if the machine gives no randomness.
+/// doesn't know the other. It counts as asked for last at a second that the machine tells now. `None` if the machine gives no randomness.
 pub(crate) fn new_session<M: Machine>(machine: &M, account: usize) -> Option<WebSession>
     ensures account { IfSome result (λ session. session.account ≡ account) }
-    ensures drawn { IfSome result (IsDrawn (M.gives machine.now)) }
+    ensures drawn { IfSome result (IsDrawn (M.tells machine.now) (M.gives machine.now)) }
 {
     let mut random = [0u8; 2 * RANDOM_BYTES];
     if !machine.fill(&mut random) {

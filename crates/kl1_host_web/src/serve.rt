@@ -188,7 +188,7 @@ impl<'p, R: Wait, M: Machine, K: LoginKeys> Service<'p, R, M, K> {
         requires within { account < (A.house accounts.old).accounts }
         requires opened { LetsIn K.opens account }
         ensures house { A.house accounts.new ≡ A.house accounts.old }
-        ensures asked { Begun (M.gives self.now.machine.now) (A.house accounts.old).names account (A.asked accounts.old) (A.asked accounts.new) result }
+        ensures asked { Begun (M.tells self.now.machine.now) (M.gives self.now.machine.now) (A.house accounts.old).names account (A.asked accounts.old) (A.asked accounts.new) result }
     {
         let Some(session) = new_session(self.machine, account) else {
             let _ = accounts.act(account, &Command::Does(Event::Logout));
@@ -218,7 +218,7 @@ impl<'p, R: Wait, M: Machine, K: LoginKeys> Service<'p, R, M, K> {
         requires keys { (A.house accounts.old).opens ≡ K.opens }
         requires opened { IsOpenedIn (A.house accounts.old) outcome }
         ensures house { A.house accounts.new ≡ A.house accounts.old }
-        ensures ends { Ends (M.gives self.now.machine.now) (A.house accounts.old).names allowed.now (Ok outcome) (A.asked accounts.old) (A.asked accounts.new) result }
+        ensures ends { Ends (M.tells self.now.machine.now) (M.gives self.now.machine.now) (A.house accounts.old).names allowed.now (Ok outcome) (A.asked accounts.old) (A.asked accounts.new) result }
     {
         match outcome {
             Outcome::Told(answer) => Ok(answer),
@@ -242,7 +242,7 @@ impl<'p, R: Wait, M: Machine, K: LoginKeys> Service<'p, R, M, K> {
     ) -> Result<Answer, AllocError>
         requires { (A.house accounts.old).opens ≡ K.opens }
         ensures house { A.house accounts.new ≡ A.house accounts.old }
-        ensures answers { AnswersWithin (M.gives self.now.machine.now) (is_within (A.house accounts.old).accounts allowed.now) (A.house accounts.old) allowed.now head.now.target.items body.now (A.asked accounts.old) (A.asked accounts.new) result }
+        ensures answers { AnswersWithin (M.tells self.now.machine.now) (M.gives self.now.machine.now) (is_within (A.house accounts.old).accounts allowed.now) (A.house accounts.old) allowed.now head.now.target.items body.now (A.asked accounts.old) (A.asked accounts.new) result }
     {
         if !is_within(accounts.count(), allowed) {
             return refused(self.alloc, Refusal::Nobody);

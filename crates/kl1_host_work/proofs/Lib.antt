@@ -4,5 +4,6 @@ pub mod Notices
 pub mod OpenedByName
 pub mod OwnHistories
 pub mod Restarts
+pub mod SentRestarts
 pub mod Shelves
 pub mod UsedNames

@@ -1,6 +1,7 @@
 -- Accounts that are restored, in order.
-use Rattle.std.proofs.Common.{arith, ◌≡◌, ℕ, ◌<◌, List, [], ◌∷◌, ◌++◌, length, get_or, map, ap, sym, subst, ◌∙◌}
-use Rattle.std.specs.Prelude.{slice_get}
+use Rattle.std.proofs.Common.{arith, ◌≡◌, ℕ, ◌<◌, List, [], ◌∷◌, ◌++◌, length, get_or, take, map, ap, sym, subst, ◌∙◌}
+use Rattle.std.specs.Prelude.{slice_get, Option}
+use Rattle.std.proofs.Math.Seq.{take-append_seam}
 use Rattle.std.proofs.lemmas.List.{map-append, length-map, get_or-map}
 use Rattle.kl1_model.specs.declared.rules.Rules.{Rules}
 use Rattle.kl1_log.specs.declared.disk.Disk as disk
@@ -12,12 +13,16 @@ use Rattle.kl1_host_work.specs.declared.restoring.Standing.{Standing}
 use Rattle.kl1_host_work.specs.declared.restoring.Stage.{Stage}
 use Rattle.kl1_host_work.specs.declared.restoring.Stage.TheVariants.{Waits, Stands}
 use Rattle.kl1_host_work.specs.Stages.{AreWaiting, AreStanding}
-use Rattle.kl1_host_work.specs.Standings.{IsRestarted, AreRestored}
+use Rattle.kl1_host_work.specs.Standings.{IsRestarted, AreRestarted, AreRestored}
 
 -- one of a list that has some
 one_of : {R : Type 0} (rs : List R) (k : ℕ) → k < length rs → R
 one_of [] k few = absurd (omega (arith, few))
 one_of (r ∷ rs) k few = r
+
+-- what was written back of a slice is what it was at last
+pub written_back : {R : Type 0} (n : ℕ) (xs ys : List R) → length xs ≡ n → take n (xs ++ ys) ≡ xs
+written_back n xs ys e = subst (λ (m : ℕ). take m (xs ++ ys) ≡ xs) e (take-append_seam xs ys)
 
 module _ {R D J : Type 0} {g : disk.Ghosts D} {h : naming.Ghosts J} {shown : shown_ids.Ghosts J} (stage : R → Stage D J g h shown) where
   -- one more waits
@@ -42,28 +47,52 @@ module _ {R D J : Type 0} {g : disk.Ghosts D} {h : naming.Ghosts J} {shown : sho
         ∙ sym (map-append (λ (x : Standing D J g h shown). x.linked.file) before.0 (s ∷ [])),
   )
 
+  -- what was at one place, and what is there now, of which the first is restored to the second
+  pub record Restarted (rules : Rules) (name : Option (List ℕ)) (x y : R) : Type 0 where
+    pub was : R
+    pub is : R
+    pub was_there : was ≡ x
+    pub is_there : is ≡ y
+    pub restarted : IsRestarted rules name (stage was) (stage is)
+
+  -- accounts each of which is restored
+  pub each_restarted : (rules : Rules) (names : List (List ℕ)) (before after : List R) → length after ≡ length before → ((k : ℕ) (r : R) → k < length before → Restarted rules (slice_get names k) (get_or before k r) (get_or after k r)) → AreRestarted rules names (map stage before) (map stage after)
+  each_restarted rules names before after long each = record {
+    all = length-map after stage ∙ long ∙ sym (length-map before stage);
+    each = λ k s few.
+        let in_before : k < length before = omega (arith, length-map before stage, few) in
+        let in_after : k < length after = omega (arith, long, in_before) in
+        let r : R = one_of before k in_before in
+        let at : Restarted rules (slice_get names k) (get_or before k r) (get_or after k r) = each k r in_before in
+        let was : stage at.was ≡ get_or (map stage before) k s = ap stage at.was_there ∙ sym (get_or-map stage before k r s in_before) in
+        let is : stage at.is ≡ get_or (map stage after) k s = ap stage at.is_there ∙ sym (get_or-map stage after k r s in_after) in
+        subst (λ (x : Stage D J g h shown). IsRestarted rules (slice_get names k) x (get_or (map stage after) k s)) was
+        (subst (λ (x : Stage D J g h shown). IsRestarted rules (slice_get names k) (stage at.was) x) is at.restarted);
+  }
+
   -- accounts that waited, each restored, and that all stand are restored
-  pub are_restored : (rules : Rules) (names : List (List ℕ)) (found : List (AccountFile D)) (before after : List R) (files : List (KeptFile D J g h shown)) → AreWaiting found (map stage before) → AreStanding (map stage after) files → length after ≡ length before → ((k : ℕ) (r : R) → k < length before → IsRestarted rules (slice_get names k) (stage (get_or before k r)) (stage (get_or after k r))) → AreRestored rules names found files
-  are_restored rules names found before after files waiting standing long restarted =
-      let waits : length before ≡ length found = sym (length-map before stage) ∙ ap length waiting ∙ length-map found (λ (x : AccountFile D). Waits x) in
-      let stands : length after ≡ length standing.0 = sym (length-map after stage) ∙ ap length standing.1 ∙ length-map standing.0 (λ (x : Standing D J g h shown). Stands x) in
+  pub are_restored : (rules : Rules) (names : List (List ℕ)) (found : List (AccountFile D)) (waited before after written : List R) (files : List (KeptFile D J g h shown)) → before ≡ waited → AreWaiting found (map stage waited) → AreStanding (map stage written) files → written ≡ after → AreRestarted rules names (map stage before) (map stage after) → AreRestored rules names found files
+  are_restored rules names found waited before after written files same waiting standing back restarted =
+      let b : List (Stage D J g h shown) = map stage before in
+      let a : List (Stage D J g h shown) = map stage after in
+      let waits : b ≡ map (λ (x : AccountFile D). Waits x) found = ap (map stage) same ∙ waiting in
+      let as_many : length b ≡ length found = ap length waits ∙ length-map found (λ (x : AccountFile D). Waits x) in
+      let standing_now : a ≡ map (λ (x : Standing D J g h shown). Stands x) standing.0 = sym (ap (map stage) back) ∙ standing.1 in
+      let stands : length a ≡ length standing.0 = ap length standing_now ∙ length-map standing.0 (λ (x : Standing D J g h shown). Stands x) in
+      let all : length a ≡ length b = restarted.all in
       record {
         standings = standing.0;
         files_are = standing.2;
-        all = sym stands ∙ long ∙ waits;
-        each = λ k s a few.
-            let in_before : k < length before = omega (arith, waits, few) in
-            let in_after : k < length after = omega (arith, long, in_before) in
-            let in_standing : k < length standing.0 = omega (arith, stands, in_after) in
-            let r : R = one_of before k in_before in
-            let was : stage (get_or before k r) ≡ Waits (get_or found k a) =
-            sym (get_or-map stage before k r (Waits a) in_before)
-            ∙ ap (λ (ss : List (Stage D J g h shown)). get_or ss k (Waits a)) waiting
-            ∙ get_or-map (λ (x : AccountFile D). Waits x) found k a (Waits a) few in
-            let is : stage (get_or after k r) ≡ Stands (get_or standing.0 k s) =
-            sym (get_or-map stage after k r (Stands s) in_after)
-            ∙ ap (λ (ss : List (Stage D J g h shown)). get_or ss k (Stands s)) standing.1
-            ∙ get_or-map (λ (x : Standing D J g h shown). Stands x) standing.0 k s (Stands s) in_standing in
-            subst (λ (x : Stage D J g h shown). IsRestarted rules (slice_get names k) (Waits (get_or found k a)) x) is
-            (subst (λ (x : Stage D J g h shown). IsRestarted rules (slice_get names k) x (stage (get_or after k r))) was (restarted k r in_before));
+        all = sym stands ∙ all ∙ as_many;
+        each = λ k s x few.
+            let in_before : k < length b = omega (arith, as_many, few) in
+            let in_standing : k < length standing.0 = omega (arith, stands, all, in_before) in
+            let was : get_or b k (Waits x) ≡ Waits (get_or found k x) =
+            ap (λ (ss : List (Stage D J g h shown)). get_or ss k (Waits x)) waits
+            ∙ get_or-map (λ (y : AccountFile D). Waits y) found k x (Waits x) few in
+            let is : get_or a k (Waits x) ≡ Stands (get_or standing.0 k s) =
+            ap (λ (ss : List (Stage D J g h shown)). get_or ss k (Waits x)) standing_now
+            ∙ get_or-map (λ (y : Standing D J g h shown). Stands y) standing.0 k s (Waits x) in_standing in
+            subst (λ (y : Stage D J g h shown). IsRestarted rules (slice_get names k) (Waits (get_or found k x)) y) is
+            (subst (λ (y : Stage D J g h shown). IsRestarted rules (slice_get names k) y (get_or a k (Waits x))) was (restarted.each k (Waits x) in_before));
       }

@@ -29,6 +29,11 @@ module _ {D J : Type 0} {g : disk.Ghosts D} {h : naming.Ghosts J} {shown : shown
   IsRestarted rules name (Stands s) after = ⊤
   IsRestarted rules name (Fails fault) after = ⊤
 
+  -- of the first accounts, each that waited stands among the second by the journal of its file, if it stands
+  pub record AreRestarted (rules : Rules) (names : List (List ℕ)) (before after : List (Stage D J g h shown)) : Type 0 where
+    pub all : length after ≡ length before
+    pub each : (k : ℕ) (s : Stage D J g h shown) → k < length before → IsRestarted rules (slice_get names k) (get_or before k s) (get_or after k s)
+
   -- these are the files of accounts that stand, in order, each by the journal of the file that was found for it
   pub record AreRestored (rules : Rules) (names : List (List ℕ)) (found : List (AccountFile D)) (files : List (KeptFile D J g h shown)) : Type 0 where
     pub standings : List (Standing D J g h shown)

@@ -2,7 +2,7 @@
 
 ghost use Rattle.std.specs.Prelude.{◌≡◌, ◌<◌, ◌++◌, ◌∷◌, [], map, slice_get, IfOk, OnOk};
 ghost use Rattle.kl1_host_work.specs.Restarts.{IsAllRestored};
-ghost use Rattle.kl1_host_work.specs.Standings.{IsStandingOf, IsRestarted, AreRestored};
+ghost use Rattle.kl1_host_work.specs.Standings.{IsStandingOf, IsRestarted, AreRestarted, AreRestored};
 ghost use Rattle.kl1_host_work.specs.Stages.{AreWaiting, AreStanding};
 
 use crate::budget::Budget;
@@ -255,6 +255,28 @@ fn shelf_of<F: Front, D: Disk + Drop, K: PoolIds + Naming>(
     Ok(shelf)
 }
 
+/// Restores the accounts of a pool, in order, several at the same time.
+fn restore_each<'t, D: Disk + Drop + Send, N, R: Wait + Sync, K>(
+    rt: &N,
+    alloc: Global,
+    pool: &Pool<'t, R, K>,
+    restarts: &mut [Restart<D, K>],
+)
+where
+    N: Threads + Wait + Sync,
+    K: PoolIds + Naming + Send + Sync,
+    ensures { AreRestarted K.rules K.names (map (λ r. r.stage) restarts.old) (map (λ r. r.stage) restarts.new) }
+{
+    thread::for_each_mut(
+        rt,
+        restarts,
+        lanes(rt),
+        &|account: usize, restart: &mut Restart<D, K>|
+            ensures { IsRestarted K.rules (slice_get K.names account) restart.entry.now.stage restart.exit.now.stage }
+        { restore_one(rt, alloc, pool, account, restart) },
+    );
+}
+
 /// Restores the accounts of a pool from their files, each with one of the shares, several at the same time; then tells `front` of each, in
 /// order. If some can't be restored, the fault of the first of them is told. Each may load sources of `bytes` bytes.
 pub(crate) fn restore_all<'t, F: Front, D: Disk + Drop + Send, N, R: Wait + Sync, K>(
@@ -273,13 +295,6 @@ where
     ensures { IfOk result (λ shelf. AreRestored K.rules K.names files.items shelf.files.items) }
 {
     let mut restarts = restarts_of(alloc, files, own, shares)?;
-    thread::for_each_mut(
-        rt,
-        restarts.as_mut_slice(),
-        lanes(rt),
-        &|account: usize, restart: &mut Restart<D, K>| {
-            restore_one(rt, alloc, pool, account, restart)
-        },
-    );
+    restore_each(rt, alloc, pool, restarts.as_mut_slice());
     shelf_of(alloc, front, restarts, bytes)
 }

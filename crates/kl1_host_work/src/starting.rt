@@ -182,6 +182,7 @@ where
     requires tables { (parts.table ≡ K.table) × (parts.seats ≡ K.seats) × (parts.codes ≡ K.codes) }
     requires names { (parts.rules ≡ K.rules) × (parts.names ≡ K.names) }
     requires bound { parts.most_bytes ≡ K.most_bytes }
+    requires most { parts.most_bytes ≡ setup.memory_each }
     requires tickets { (parts.tally ≡ K.tally) × (parts.queue ≡ K.queue) × (parts.accounts ≡ K.accounts) × (parts.shares ≡ K.shares) }
     requires shown { parts.histories ≡ K.histories }
     requires accounts { AreAccountsOf (F.names front.now) parts.names parts.accounts }
@@ -207,6 +208,7 @@ where
     R: Net<Listener = TcpListener, Stream = TcpStream> + Threads + Wait + Clock + Sync,
     F::Entrance: Send,
     requires accounts { AreAccountsOf (F.names front.now) parts.names parts.accounts }
+    requires most { parts.most_bytes ≡ setup.memory_each }
 {
     run_parts::<F, D, R, Brand>(rt, alloc, listeners, front, parts, found, setup)
 }
