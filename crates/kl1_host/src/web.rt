@@ -304,6 +304,17 @@ impl<'w, R: Wait + Clock + Eprint + Files, P: Performer + Drop, V: HostView> Acc
         self.noted.changed(change);
     }
 
+    fn has(&self, account: usize) -> bool {
+        match self.door.keys.get(account) {
+            Some(key) => !key.name.is_empty(),
+            None => false,
+        }
+    }
+
+    fn restoring(&self, account: usize) -> Option<(u64, u64)> {
+        self.host.restoring(account)
+    }
+
     fn measures(&self, account: usize) -> Measures {
         let bytes = match self.door.keys.get(account) {
             Some(key) => disk_of(self.rt, self.alloc, self.folder, key.name.as_slice()),
@@ -320,7 +331,12 @@ impl<'w, R: Wait + Clock + Eprint + Files, P: Performer + Drop, V: HostView> Acc
 
     fn sums(&self) -> Sums {
         let mut sums = Sums {
-            accounts: self.door.keys.len() as u64,
+            accounts: self
+                .door
+                .keys
+                .iter()
+                .filter(|key| !key.name.is_empty())
+                .count() as u64,
             sessions: 0,
             events: 0,
             steps: 0,

@@ -195,6 +195,8 @@ pub enum SessionTest {
     IsCalled([u8; SECRET_BYTES]),
     /// Whether it is of this account, and its last request was before this second.
     IsIdle { account: usize, before: u64 },
+    /// Whether it is of the account of this number.
+    IsOf(usize),
 }
 
 /// Whether a session passes a test.
@@ -206,6 +208,7 @@ fn passes(test: SessionTest, session: &WebSession) -> bool
         SessionTest::IsIdle { account, before } => {
             session.account == account && session.last < before
         }
+        SessionTest::IsOf(account) => session.account == account,
     }
 }
 

@@ -25,7 +25,7 @@ pub use origin::host_of;
 pub use pace::{MOST_LEFT_OUT, Pace, TOLD_AGAIN_AFTER};
 pub use pausing_door::{LoginTeller, PausingDoor};
 pub use quantities::{MOST_BYTES, MOST_MILLISECONDS, duration_in, size_in};
-pub use settings::{BadSetting, MOST_CONNECTIONS, MOST_WORKERS, Settings};
+pub use settings::{BadSetting, MOST_CONNECTIONS, MOST_SPARE, MOST_WORKERS, Settings};
 pub use settings_file::{BadSettings, FIRST_SETTINGS, settings_in};
 pub use status_lines::{Number, put_account_status, put_host};
 pub use sums::{SUM_BYTES, bad_line, put_account, read_sums};

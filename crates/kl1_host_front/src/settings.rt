@@ -37,6 +37,8 @@ pub struct Settings {
     pub codes_each: u64,
     /// How many bytes the journal of an account may have on disk.
     pub disk_each: u64,
+    /// How many accounts may come while the host runs.
+    pub spare_accounts: u32,
 }
 
 /// The most workers.
@@ -44,6 +46,9 @@ pub const MOST_WORKERS: u32 = 64;
 
 /// The most connections that are open at once.
 pub const MOST_CONNECTIONS: u32 = 65_536;
+
+/// The most accounts that may come while a host runs.
+pub const MOST_SPARE: u32 = 31;
 
 /// Why a setting isn't taken.
 #[derive(Clone, Copy)]
@@ -62,6 +67,8 @@ pub enum BadSetting {
     Origin,
     /// It is `"always"`, `"never"` or a time up to an hour.
     Sync,
+    /// It is a number from 0 to 31.
+    Spare,
     /// Memory was refused.
     Memory,
 }
@@ -78,6 +85,7 @@ impl BadSetting {
             BadSetting::Time => "is a time, as \"10m\", \"90s\" or \"100ms\"",
             BadSetting::Origin => "is an origin, as \"https://kl1.example.org\"",
             BadSetting::Sync => "is \"always\", \"never\" or a time up to an hour, as \"100ms\"",
+            BadSetting::Spare => "is a number from 0 to 31",
             BadSetting::Memory => "takes memory that there isn't",
         }
     }
@@ -121,6 +129,14 @@ fn number_of(value: &Value, most: u32) -> Result<u32, BadSetting>
         Ok(number as u32)
     } else {
         Err(BadSetting::Number(most))
+    }
+}
+
+/// How many accounts may come: from 0 on.
+fn spare_of(value: &Value) -> Result<u32, BadSetting> {
+    match value.as_integer() {
+        Some(number) if number >= 0 && number <= i64::from(MOST_SPARE) => Ok(number as u32),
+        _ => Err(BadSetting::Spare),
     }
 }
 
@@ -170,6 +186,7 @@ impl Settings {
             memory_each: 256_000_000,
             codes_each: 64_000_000,
             disk_each: 1_000_000_000,
+            spare_accounts: 4,
         })
     }
 
@@ -189,6 +206,7 @@ impl Settings {
             "memory_each" => self.memory_each = size_of(value)?,
             "codes_each" => self.codes_each = size_of(value)?,
             "disk_each" => self.disk_each = size_of(value)?,
+            "spare_accounts" => self.spare_accounts = spare_of(value)?,
             _ => return Err(BadSetting::Unknown),
         }
         Ok(())

@@ -1,5 +1,5 @@
 -- What becomes of what is wanted.
-use Rattle.std.specs.Prelude.{◌≡◌, ◌<◌, ℕ, suc, Bool, true, false, if◌then◌else◌, ⊤, ◌++◌, List, [], ◌∷◌, map, codes, Option, Some, None, slice_get, Result, IfOk, IsOkAnd}
+use Rattle.std.specs.Prelude.{◌≡◌, ◌⊎◌, ◌<◌, ℕ, suc, Bool, true, false, if◌then◌else◌, ⊤, ◌++◌, List, [], ◌∷◌, map, codes, Option, Some, None, slice_get, Result, IfOk, IsOkAnd}
 use Rattle.std.specs.Str.{is_utf8}
 use Rattle.serde_json.specs.Data.{Data, null, number, unsigned, string, array, object, Items, no_items, item, member, no_members}
 use Rattle.serde_json.specs.View.{items_of}
@@ -21,7 +21,7 @@ use Rattle.kl1_host_door.specs.declared.answer.Answer.{Answer}
 use Rattle.kl1_host_door.specs.declared.answer.Content.{Content}
 use Rattle.kl1_host_door.specs.declared.answer.Cookie.{Cookie}
 use Rattle.kl1_host_door.specs.declared.answer.Cookie.TheVariants.{Kept, Cleared}
-use Rattle.kl1_host_door.specs.declared.status.Status.TheVariants.{Good}
+use Rattle.kl1_host_door.specs.declared.status.Status.TheVariants.{Good, Unavailable}
 use Rattle.kl1_host_door.specs.Refusals.{status_of, words_of}
 use Rattle.kl1_host_door.specs.Sessions.{LetsIn}
 use Rattle.kl1_host_page.specs.Files.{file_at}
@@ -107,6 +107,10 @@ IsTold (outcome.Told answer) = KeepsCookie answer
 IsTold (outcome.Opens account) = ⊥
 IsTold (outcome.Closes answer) = ⊥
 
+-- an answer says to try again: it keeps the cookie, and the browser's session with it
+abbrev pub IsWait : Answer → Type 0
+IsWait answer = (answer.status ≡ Unavailable) × (answer.cookie ≡ Kept)
+
 -- an outcome is an answer that refuses for this reason
 abbrev pub Refuses : Refusal → Outcome → Type 0
 Refuses why (outcome.Told answer) = IsRefusal why answer
@@ -151,7 +155,7 @@ IsShown a path (outcome.Closes answer) = ⊥
 -- a login was answered, by `welcome` or not: the session of a browser begins only after `welcome`
 abbrev pub Enters : Bool → ℕ → Outcome → Type 0
 Enters true account o = o ≡ outcome.Opens account
-Enters false account o = Refuses refusal.ManySessions o
+Enters false account o = Refuses refusal.ManySessions o ⊎ Tells IsWait o
 
 -- a logout was answered, by `bye` or not: the session of a browser ends after `bye`, also without memory, and only then
 abbrev pub Leaves : {E : Type 0} → Bool → Performed → Result Outcome E → Type 0

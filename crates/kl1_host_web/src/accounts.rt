@@ -115,6 +115,16 @@ pub trait Accounts {
         ensures house { house self.new ≡ house self.old }
         ensures asked { asked self.new ≡ asked self.old ++ changed change.step.value change.before.value.items ∷ [] };
 
+    /// Whether there is an account of this number: one that was removed isn't.
+    fn has(&self, _account: usize) -> bool {
+        true
+    }
+
+    /// How many events are done of how many, if an account is being restored.
+    fn restoring(&self, _account: usize) -> Option<(u64, u64)> {
+        None
+    }
+
     /// What an account has done.
     fn measures(&self, account: usize) -> Measures
         requires { account < (house self.now).accounts };

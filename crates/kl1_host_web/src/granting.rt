@@ -8,7 +8,7 @@ ghost use Rattle.kl1_host_web.specs.Wishes.{wish_view, enter, leave, do_to, load
 ghost use Rattle.kl1_host_web.specs.Telling.{KeepsCookie, Grants, Entered, Shows, IsOfOne, IsTold, Tells, IsReply, IsLoad, IsSyntax, Lists, ListsFor, IsOpenedIn, Refuses, Enters, Leaves};
 
 use crate::accounts::Accounts;
-use crate::json::{refused, told_command, told_load, told_name, told_syntax};
+use crate::json::{refused, restoring, told_command, told_load, told_name, told_syntax};
 use crate::outcome::Outcome;
 use crate::pages::{account_page, open_page, shoens_page, waiting_page};
 use crate::wish::Wish;
@@ -63,9 +63,11 @@ fn enter<A: Accounts>(
     };
     let performed = accounts.act(account, &Command::Does(Event::Login));
     if is_welcome(&performed) {
-        Ok(Outcome::Opens(account))
-    } else {
-        refuse(alloc, Refusal::ManySessions)
+        return Ok(Outcome::Opens(account));
+    }
+    match accounts.restoring(account) {
+        Some((done, all)) => Ok(Outcome::Told(restoring(alloc, done, all)?)),
+        None => refuse(alloc, Refusal::ManySessions),
     }
 }
 

@@ -182,6 +182,24 @@ impl<'p, R: Wait, M: Machine, K: LoginKeys> Service<'p, R, M, K> {
         }
     }
 
+    /// Takes the sessions of browsers of an account out of the book; answers how many. They aren't logged out of here: that waits for the account.
+    pub fn forget_account<A: Accounts>(&self, accounts: &mut A, account: usize) -> u64
+        ensures house { A.house accounts.new ≡ A.house accounts.old }
+    {
+        let mut count = 0u64;
+        for _ in self.rt.forever() {
+            let mut guard = self.page.sessions.lock(self.rt);
+            let book = &mut *guard;
+            let (session, change) = book.take(SessionTest::IsOf(account));
+            accounts.note_change(change);
+            if session.is_none() {
+                break;
+            }
+            count = count.saturating_add(1);
+        }
+        count
+    }
+
     /// Begins the session of a browser to which a session of its account is open. If it can't begin, or can't be told, that is closed again,
     /// so that a login that fails leaves nothing open.
     fn begin<A: Accounts>(&self, accounts: &mut A, account: usize) -> Result<Answer, AllocError>

@@ -30,6 +30,12 @@ module _ {D J : Type 0} {g : disk.Ghosts D} {h : naming.Ghosts J} {shown : shown
   IsLinkedIf (Linked l) j generation = IsLinked l j generation
   IsLinkedIf (Failed fault) j generation = ⊤
 
+  -- a file that isn't linked yet is of this account
+  abbrev pub IsOwnOf : ℕ → Linkage D J g h shown → Type 0
+  IsOwnOf account (Unlinked file own) = own.account ≡ account
+  IsOwnOf account (Linked l) = ⊥
+  IsOwnOf account (Failed fault) = ⊤
+
   -- a file that isn't linked yet takes the stamps of the account that it is of
   abbrev pub Takes : Linkage D J g h shown → StampValue → Type 0
   Takes (Unlinked file own) s = slice_get shown.histories own.account ≡ Some s.history

@@ -1,10 +1,11 @@
 -- What the answers to a connection wait for.
-use Rattle.std.specs.Prelude.{◌≡◌, ◌⊎◌, ℕ, Bool, true, not, ◌||◌, List, [], ◌∷◌, ◌++◌, slice_get}
+use Rattle.std.specs.Prelude.{◌≡◌, ◌⊎◌, ℕ, Bool, true, not, ◌||◌, List, [], ◌∷◌, ◌++◌}
 use Rattle.kl1_model.specs.declared.rules.Rules.{Rules}
 use Rattle.kl1_model_server.specs.Command.{Command}
 use Rattle.kl1_command.specs.declared.performed.Performed.{Performed}
 use Rattle.kl1_command.specs.declared.performed.Performed.TheVariants.{Memory}
 use Rattle.kl1_session.specs.Conversations.{Done}
+use Rattle.kl1_pool.specs.Names.{called_at}
 use Rattle.kl1_pool_history.specs.Histories.{HistoryValue}
 use Rattle.kl1_journal_stamps.specs.declared.shown_ids.ShownIds as shown_ids
 use Rattle.kl1_host_journals.specs.declared.history.Naming as naming
@@ -41,7 +42,7 @@ module _ {K C : Type 0} {g : naming.Ghosts K} {shown : shown_ids.Ghosts K} {h : 
   -- lost. Or it waits for nothing, if memory was refused, or if it tells nothing that is to be on disk before
   abbrev pub IsCared : Rules → List (List ℕ) → Bool → List Done → Done → Waiting K C g shown h → Type 0
   IsCared rules names replies_wait ds d Nothing = (d.answer ≡ Memory) ⊎ (tells_nothing d.command replies_wait ≡ true)
-  IsCared rules names replies_wait ds d (Noted leave after) = (after.value.done ≡ ds) × IsNoted rules (slice_get names d.account) d.account leave.value
+  IsCared rules names replies_wait ds d (Noted leave after) = (after.value.done ≡ ds) × IsNoted rules (called_at names d.account) d.account leave.value
 
   -- so, if something was done
   abbrev pub IsTold : Rules → List (List ℕ) → Bool → List Done → Notice K C g shown h → Type 0

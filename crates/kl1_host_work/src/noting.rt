@@ -1,6 +1,7 @@
 // What has come to an account's journal, noted under the account's lock.
 
-ghost use Rattle.std.specs.Prelude.{◌≡◌, ◌<◌, slice_get};
+ghost use Rattle.std.specs.Prelude.{◌≡◌, ◌<◌, ⊤, MatchOption, Some, slice_get, IfSome};
+ghost use Rattle.kl1_pool.specs.Names.{called_at, is_called};
 ghost use Rattle.kl1_pool.specs.Showing.{IsSeenOfSome};
 ghost use Rattle.kl1_host_journals.specs.Outgoings.{IsNotedFor};
 ghost use Rattle.kl1_host_work.specs.Noted.{is_lost, IsNoted};
@@ -17,11 +18,11 @@ use std::sync::Wait;
 
 /// Notes a journal of an account that it is shown, and lets the leave to write of a connection wait for it.
 #[derive(Drop)]
-struct Noting<'k, W: Wait, J: Naming, C: Connecting> {
-    rt: &'k W,
-    keeper: &'k Keeper<J>,
-    account: usize,
-    outgoing: Outgoing<J, C>,
+pub(crate) struct Noting<'k, W: Wait, J: Naming, C: Connecting> {
+    pub(crate) rt: &'k W,
+    pub(crate) keeper: &'k Keeper<J>,
+    pub(crate) account: usize,
+    pub(crate) outgoing: Outgoing<J, C>,
 }
 
 impl<'k, W: Wait, J: Naming, C: Connecting> JournalReader for Noting<'k, W, J, C> {
@@ -41,16 +42,17 @@ impl<'k, W: Wait, J: Naming, C: Connecting> JournalReader for Noting<'k, W, J, C
 }
 
 /// Notes what has come to the journal of an account, and lets the leave to write of a connection wait until it is on disk. `Lost` if memory
-/// was refused, or if another account was found, which never is so.
+/// was refused, or if another account was found, or one of another name than it is asked for by, which never is so.
 pub(crate) fn note_for<'t, W: Wait, R: Wait, K: PoolIds + Naming, C: Connecting>(
     rt: &W,
     pool: &Pool<'t, R, K>,
     keeper: &Keeper<K>,
     account: usize,
+    name: Option<&[u8]>,
     outgoing: Outgoing<K, C>,
 ) -> Outgoing<K, C>
     requires { account < K.accounts }
-    ensures { IsNoted K.rules (slice_get K.names account) account result }
+    ensures { IsNoted K.rules (λ own. called_at K.names account own × MatchOption name ⊤ (λ n. is_called n.now own)) account result }
 {
     let mut noting = Noting {
         rt,
@@ -58,7 +60,7 @@ pub(crate) fn note_for<'t, W: Wait, R: Wait, K: PoolIds + Naming, C: Connecting>
         account,
         outgoing,
     };
-    let is_seen = pool.look(rt, account, &mut noting);
+    let is_seen = pool.look(rt, account, name, &mut noting);
     let Noting { outgoing, .. } = noting;
     let Outgoing::Waits(held) = outgoing else {
         return Outgoing::Lost;
@@ -79,7 +81,7 @@ pub(crate) fn note<'t, W: Wait, R: Wait, K: PoolIds + Naming>(
 )
     requires { account < K.accounts }
 {
-    let _ = note_for::<W, R, K, Brand>(rt, pool, keeper, account, Outgoing::Lost);
+    let _ = note_for::<W, R, K, Brand>(rt, pool, keeper, account, None, Outgoing::Lost);
 }
 
 /// Whether a leave is lost.
@@ -117,12 +119,12 @@ pub(crate) fn note_told<'t, W: Wait, R: Wait, K: PoolIds + Naming, C: Connecting
 )
     requires { account < K.accounts }
 {
-    let Some(keeper) = host.keepers.get(account) else {
+    let Some(keeper) = host.keeper(account) else {
         return;
     };
     if host.syncing.replies_wait {
         let before = take_leave(rt, host, outgoing, account);
-        outgoing.set(note_for(rt, pool, keeper, account, before));
+        outgoing.set(note_for(rt, pool, keeper, account, None, before));
     } else if keeper.is_called() {
         note(rt, pool, keeper, account);
     }

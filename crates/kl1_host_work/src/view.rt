@@ -2,6 +2,7 @@
 
 ghost use Rattle.std.specs.Prelude.{◌<◌};
 
+use crate::account_place::PlaceState;
 use crate::connections::Desk;
 use crate::front::{Front, HostView, Sight};
 use crate::noting::note_told;
@@ -61,7 +62,7 @@ pub(crate) fn sessions_of<'t, F: Front, W: Wait, R: Wait, K: PoolIds + Naming>(
     requires { account < K.accounts }
 {
     let mut reader = SessionsReader { sessions: 0 };
-    if desk.pool.look(rt, account, &mut reader) {
+    if desk.pool.look(rt, account, None, &mut reader) {
         Some(reader.sessions)
     } else {
         None
@@ -104,11 +105,16 @@ impl<F: Front, N: Wait + Clock, R: Wait, K: PoolIds + Naming, C: Connecting> Hos
     }
 
     fn is_stopped(&self, account: usize) -> bool {
-        let desk = self.desk;
-        let keepers = desk.host.keepers;
-        match keepers.get(account) {
+        match self.desk.host.keeper(account) {
             Some(keeper) => keeper.on_disk().is_stopped(),
             None => true,
+        }
+    }
+
+    fn restoring(&self, account: usize) -> Option<(u64, u64)> {
+        match self.desk.host.places.get(account)?.standing(self.rt) {
+            PlaceState::Restores { done, all } => Some((done, all)),
+            _ => None,
         }
     }
 

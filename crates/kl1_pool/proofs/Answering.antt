@@ -31,22 +31,22 @@ untouched_part f (performed.Whole reply) a b h = tt
 untouched_part f (performed.Short n) a b h = tt
 untouched_part f performed.Memory a b h = ap f h
 
-by_some : (rules : Rules) (name : Option (List ℕ)) (most : ℕ) (c : Command) (p : Performed) → IsGivenBySomeWithin rules name most c p → IsGivenWithin rules name most c p
+by_some : (rules : Rules) (name : List ℕ → Type 0) (most : ℕ) (c : Command) (p : Performed) → IsGivenBySomeWithin rules name most c p → IsGivenWithin rules name most c p
 by_some rules name most c (performed.Whole reply) h = h
 by_some rules name most c (performed.Short n) h = h
 by_some rules name most c performed.Memory h = tt
 
 -- the bytes left out
-without_bytes : (rules : Rules) (name : Option (List ℕ)) (most : ℕ) (c : Command) (p : Performed) → IsGivenBySomeWithin rules name most c p → IsGivenBySome rules name c p
+without_bytes : (rules : Rules) (name : List ℕ → Type 0) (most : ℕ) (c : Command) (p : Performed) → IsGivenBySomeWithin rules name most c p → IsGivenBySome rules name c p
 without_bytes rules name most c p h = (h.0, h.1, h.2, h.3, h.4)
 
-pub given_at_all : (rules : Rules) (name : Option (List ℕ)) (most : ℕ) (c : Command) (p : Performed) → IsGivenWithin rules name most c p → IsGiven rules name c p
+pub given_at_all : (rules : Rules) (name : List ℕ → Type 0) (most : ℕ) (c : Command) (p : Performed) → IsGivenWithin rules name most c p → IsGiven rules name c p
 given_at_all rules name most c (performed.Whole reply) h = without_bytes rules name most c (performed.Whole reply) h
 given_at_all rules name most c (performed.Short n) h = without_bytes rules name most c (performed.Short n) h
 given_at_all rules name most c performed.Memory h = tt
 
 -- the answer of an account to a command
-pub given : (rules : Rules) (name : Option (List ℕ)) (most room : ℕ) (old new : Held) (c : Command) (p : Performed) → (takes_memory c ≡ true → (f : Reading) → bytes_taken (kept_of f old) ≤ bound_of most c) → IsKept old → old.0.rules ≡ rules → name ≡ Some old.0.own_name → AreNames new.0.names → ((f : Reading) → Fits new.0.names f → Fits old.0.names f) → ((f : Reading) → Fits new.0.names f → PerformsWithin (Some room) (kept_of f old) c p (kept_of f new)) →
+pub given : (rules : Rules) (name : List ℕ → Type 0) (most room : ℕ) (old new : Held) (c : Command) (p : Performed) → (takes_memory c ≡ true → (f : Reading) → bytes_taken (kept_of f old) ≤ bound_of most c) → IsKept old → old.0.rules ≡ rules → name old.0.own_name → AreNames new.0.names → ((f : Reading) → Fits new.0.names f → Fits old.0.names f) → ((f : Reading) → Fits new.0.names f → PerformsWithin (Some room) (kept_of f old) c p (kept_of f new)) →
     IsGivenWithin rules name most c p
 given rules name most room old new c p within kept keeps called names before does =
     let f = reading_of new.0.names in
@@ -54,34 +54,34 @@ given rules name most room old new c p within kept keeps called names before doe
     by_some rules name most c p (room, kept_of f old, kept_of f new, record { replay = (kept.replay f (before f fits)).is; keeps_to = keeps; called = called }, does f fits, λ takes. within takes f)
 
 -- what is shown of an account that was found
-pub of_some : (rules : Rules) (name : Option (List ℕ)) (h : Held) (P : State → Type 0) → IsFound rules name h → ((f : Reading) → Fits h.0.names f → P (kept_of f h).state) → IsOfSome rules name P
+pub of_some : (rules : Rules) (name : List ℕ → Type 0) (h : Held) (P : State → Type 0) → IsFound rules name h → ((f : Reading) → Fits h.0.names f → P (kept_of f h).state) → IsOfSome rules name P
 of_some rules name h P found shows =
     let f = reading_of h.0.names in
     let fits = reading_fits h.0.names found.names in
     (kept_of f h, record { replay = (found.kept.replay f fits).is; keeps_to = found.keeps_to; called = found.called }, shows f fits)
 
 -- what is seen of the journal of an account that was found
-pub seen_of_some : (rules : Rules) (name : Option (List ℕ)) (h : Held) (ended : ℕ) (P : Journal → ℕ → Type 0) → IsFound rules name h → P h.1 ended → IsSeenOfSome rules name P
+pub seen_of_some : (rules : Rules) (name : List ℕ → Type 0) (h : Held) (ended : ℕ) (P : Journal → ℕ → Type 0) → IsFound rules name h → P h.1 ended → IsSeenOfSome rules name P
 seen_of_some rules name h ended P found seen =
     let f = reading_of h.0.names in
     (kept_of f h, ended, record { replay = (found.kept.replay f (reading_fits h.0.names found.names)).is; keeps_to = found.keeps_to; called = found.called }, seen)
 
 -- what an account that was found has counted
-pub counted_by_some : {p : TotalsBeforeReset} {h : Held} {b : Book} (rules : Rules) (name : Option (List ℕ)) (events steps : ℕ) → IsFound rules name h → IsCounted p h.1 b → (events ≡ b.events) × (steps ≡ b.steps) → IsCountedBySome rules name events steps
+pub counted_by_some : {p : TotalsBeforeReset} {h : Held} {b : Book} (rules : Rules) (name : List ℕ → Type 0) (events steps : ℕ) → IsFound rules name h → IsCounted p h.1 b → (events ≡ b.events) × (steps ≡ b.steps) → IsCountedBySome rules name events steps
 counted_by_some {p} {h} {b} rules name events steps found counted told =
     let f = reading_of h.0.names in
     let account : IsAccount rules name (kept_of f h) = record { replay = (found.kept.replay f (reading_fits h.0.names found.names)).is; keeps_to = found.keeps_to; called = found.called } in
     (kept_of f h, p, account, told.0 ∙ counted.events, told.1 ∙ counted.steps)
 
 -- what an account that was found takes
-pub taken_by_some : {h : Held} (rules : Rules) (name : Option (List ℕ)) (bytes : ℕ) → IsFound rules name h → ((f : Reading) → bytes ≡ bytes_taken (kept_of f h)) → IsTakenBySome rules name bytes
+pub taken_by_some : {h : Held} (rules : Rules) (name : List ℕ → Type 0) (bytes : ℕ) → IsFound rules name h → ((f : Reading) → bytes ≡ bytes_taken (kept_of f h)) → IsTakenBySome rules name bytes
 taken_by_some {h} rules name bytes found takes =
     let f = reading_of h.0.names in
     let account : IsAccount rules name (kept_of f h) = record { replay = (found.kept.replay f (reading_fits h.0.names found.names)).is; keeps_to = found.keeps_to; called = found.called } in
     (kept_of f h, account, takes f)
 
 -- how an account is restored
-pub restored_by : (rules : Rules) (name : Option (List ℕ)) (old new : Held) (es : List Entry) (r : Restored) → old.1.entries ≡ [] → IsKept old → old.0.rules ≡ rules → name ≡ Some old.0.own_name → AreNames new.0.names → ((f : Reading) → Fits new.0.names f → Fits old.0.names f) →
+pub restored_by : (rules : Rules) (name : List ℕ → Type 0) (old new : Held) (es : List Entry) (r : Restored) → old.1.entries ≡ [] → IsKept old → old.0.rules ≡ rules → name old.0.own_name → AreNames new.0.names → ((f : Reading) → Fits new.0.names f → Fits old.0.names f) →
     ((f : Reading) → Fits new.0.names f → IsRestored (kept_of f old).state es r (kept_of f new).state) → IsRestoredBySome rules name es r
 restored_by rules name old new es r fresh kept keeps called names before restored =
     let f = reading_of new.0.names in
@@ -94,7 +94,7 @@ turn_within most true k t few is_short = inr (few, (is_short refl).0, (is_short 
 turn_within most false k t few is_short = inl few
 
 -- the turn of an account
-pub turn_of : (rules : Rules) (name : Option (List ℕ)) (most : ℕ) (short : Bool) (old new : Held) (t : TimeSlice) → ((f : Reading) → bytes_taken (kept_of f old) ≤ turn_bound most short) → (short ≡ true → (t.steps ≤ MOST_GRANTED_STEPS) × (t.again ≡ false)) → IsKept old → old.0.rules ≡ rules → name ≡ Some old.0.own_name → AreNames new.0.names → ((f : Reading) → Fits new.0.names f → Fits old.0.names f) →
+pub turn_of : (rules : Rules) (name : List ℕ → Type 0) (most : ℕ) (short : Bool) (old new : Held) (t : TimeSlice) → ((f : Reading) → bytes_taken (kept_of f old) ≤ turn_bound most short) → (short ≡ true → (t.steps ≤ MOST_GRANTED_STEPS) × (t.again ≡ false)) → IsKept old → old.0.rules ≡ rules → name old.0.own_name → AreNames new.0.names → ((f : Reading) → Fits new.0.names f → Fits old.0.names f) →
     ((f : Reading) → Fits new.0.names f → AreFirstSteps (kept_of f old) t.steps (kept_of f new)) → ((f : Reading) → Fits new.0.names f → t.again ≡ goes_on MOST_STEPS t.steps (kept_of f new)) → IsTurnOfSome rules name most t
 turn_of rules name most short old new t few is_short kept keeps called names before steps again =
     let f = reading_of new.0.names in

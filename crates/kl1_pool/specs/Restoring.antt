@@ -1,5 +1,5 @@
 -- What the entries of a journal do to an account, one after another, and how a restore ends.
-use Rattle.std.specs.Prelude.{◌≡◌, ℕ, ◌+◌, ◌≤◌, ◌⊎◌, true, false, if◌then◌else◌, List, [], ◌∷◌, length, take, drop, fold, Option, IsTrue}
+use Rattle.std.specs.Prelude.{◌≡◌, ℕ, ◌+◌, ◌≤◌, ◌⊎◌, true, false, if◌then◌else◌, List, [], ◌∷◌, length, take, drop, fold, IsTrue}
 use Rattle.kl1_model.specs.declared.rules.Rules.{Rules}
 use Rattle.kl1_model.specs.State.{State}
 use Rattle.kl1_model.specs.Event.{Reply, ran, is_refused}
@@ -83,11 +83,11 @@ told_entry e result.Whole = told_of (e ∷ []) 0
 told_entry e (result.Stopped k end) = told_of [] k
 
 -- some account of these rules and of this name, whose journal had no entries, was restored so
-abbrev pub IsRestoredBySome : Rules → Option (List ℕ) → List Entry → Restored → Type 0
+abbrev pub IsRestoredBySome : Rules → (List ℕ → Type 0) → List Entry → Restored → Type 0
 IsRestoredBySome rules name es r = (before : Kept) × (after : State) × IsAccount rules name before × (before.journal.entries ≡ []) × IsRestored before.state es r after
 
 -- so, or memory was refused before anything was done
-abbrev pub IsRestoredOf : Rules → Option (List ℕ) → List Entry → Restored → Type 0
+abbrev pub IsRestoredOf : Rules → (List ℕ → Type 0) → List Entry → Restored → Type 0
 IsRestoredOf rules name es r = IsRestoredBySome rules name es r ⊎ (r ≡ record { entries = 0; steps = 0; end = ending.Memory })
 
 -- how many events and steps are counted of a restore from these entries

@@ -1,5 +1,5 @@
 -- What a turn leaves.
-use Rattle.std.specs.Prelude.{◌≡◌, ℕ, ◌≤◌, ◌⊎◌, true, nat_le, not, ◌&&◌, Bool, false, List, Option}
+use Rattle.std.specs.Prelude.{◌≡◌, ℕ, ◌≤◌, ◌⊎◌, true, nat_le, not, ◌&&◌, Bool, false, List}
 use Rattle.kl1_model.specs.declared.rules.Rules.{Rules}
 use Rattle.kl1_model.specs.Event as model
 use Rattle.kl1_model.specs.Choice.{quiet}
@@ -25,10 +25,10 @@ abbrev pub IsTurnWithin : ℕ → Kept → TimeSlice → Type 0
 IsTurnWithin most before t = (bytes_taken before ≤ most) ⊎ ((bytes_taken before ≤ turn_bound most true) × (t.steps ≤ MOST_GRANTED_STEPS) × (t.again ≡ false))
 
 -- some account of these rules and of this name does the steps of a turn, its first ones, within its bytes; the turn tells whether it goes on
-abbrev pub IsTurnOfSome : Rules → Option (List ℕ) → ℕ → TimeSlice → Type 0
+abbrev pub IsTurnOfSome : Rules → (List ℕ → Type 0) → ℕ → TimeSlice → Type 0
 IsTurnOfSome rules name most t =
     (before : Kept) × (after : Kept) × IsAccount rules name before × AreFirstSteps before t.steps after × (t.again ≡ goes_on MOST_STEPS t.steps after) × IsTurnWithin most before t
 
 -- a turn is that of some such account; or none was done, and the ticket isn't put back
-abbrev pub IsTurn : Rules → Option (List ℕ) → ℕ → TimeSlice → Type 0
+abbrev pub IsTurn : Rules → (List ℕ → Type 0) → ℕ → TimeSlice → Type 0
 IsTurn rules name most t = IsTurnOfSome rules name most t ⊎ ((t.steps ≡ 0) × (t.again ≡ false))

@@ -1,21 +1,22 @@
 // Accounts under locks, with what threads share besides.
 
-ghost use Rattle.std.specs.Prelude.{◌≡◌, ◌<◌, ◌≤◌, IfOk, All, slice_get, vec_len};
+ghost use Rattle.std.specs.Prelude.{◌≡◌, ◌<◌, ◌≤◌, ℕ, List, Some, IfOk, MatchOption, All, length, slice_get, vec_len};
 ghost use Rattle.kl1_pool_tickets.specs.Counts.{Moved, Acts, new_counts};
 ghost use Rattle.kl1_pool_tickets.specs.declared.serving.TheConstants.{MOST_STEPS};
 ghost use Rattle.kl1_command.specs.Commands.{command_view};
 ghost use Rattle.kl1_command.specs.Told.{events_told, steps_told};
+ghost use Rattle.kl1_pool.specs.Names.{called_at};
 ghost use Rattle.kl1_pool.specs.Stepping.{IsTurn};
 
 use crate::answer::Answer;
 use crate::gate::Gate;
 use crate::grants::Grants;
-use crate::locked_slot::LockedSlot;
+use crate::locked_slot::{LockedSlot, Tenant};
 use crate::locked_slots::{drop_all, places_of};
 use crate::memory::{reserve_of, was_sent};
 use crate::parts::PoolParts;
-use crate::pool_account::DueTicket;
-use crate::pool_ids::PoolIds;
+use crate::pool_account::{DueTicket, PoolAccount};
+use crate::pool_ids::{Names, PoolIds};
 use crate::shared_tables::SharedTables;
 use kl1_command::Command;
 use kl1_pool_tickets::{Opened, PoolShared, Share, TimeSlice};
@@ -31,11 +32,14 @@ pub struct Pool<'t, R: Wait, K: PoolIds> {
     pub(crate) tables: SharedTables<'t, K>,
     pub(crate) common: PoolShared<K>,
     pub(crate) places: Vec<Mutex<LockedSlot<'t, R, K>>>,
+    /// How many accounts have names that K names: those of the first places.
+    pub(crate) named: usize,
     /// The most bytes that an account may take if it is to go on.
     pub(crate) most_bytes: u64,
     pub(crate) grants: Grants,
     pub ghost counted: { vec_len places ≡ K.accounts },
     pub ghost bounded: { most_bytes ≡ K.most_bytes },
+    pub ghost listed: { named ≡ length K.names },
 }
 
 /// What becomes of a ticket if no turn was done.
@@ -45,7 +49,8 @@ const NO_TURN: TimeSlice = TimeSlice {
 };
 
 impl<'t, R: Wait, K: PoolIds> Pool<'t, R, K> {
-    /// The pool of these parts, in whose accounts nothing has happened, and its shares, which are at zero. By `rt` codes are put in.
+    /// The pool of these parts, in whose accounts nothing has happened, and its shares, which are at zero. By `rt` codes are put in. To the other places
+    /// accounts may come, by `admit`.
     /// An account that takes more bytes than it may gets no turns, and commands to it that take memory are answered as if memory was refused,
     /// until it is reset; but messages to its shoens and answers go through as long as what is kept for them lasts, with a short turn after each.
     pub fn new(
@@ -67,7 +72,6 @@ impl<'t, R: Wait, K: PoolIds> Pool<'t, R, K> {
             accounts,
             rules,
             seats,
-            used,
             most_bytes,
             tickets,
             shown,
@@ -82,59 +86,59 @@ impl<'t, R: Wait, K: PoolIds> Pool<'t, R, K> {
             codes: code_table,
             of: PhantomData,
         };
-        let places = places_of::<LockedSlot<'t, R, K>>(
-            alloc,
-            &tables,
-            accounts,
-            rules,
-            seats,
-            books,
-            used.as_slice(),
-            shown,
-        )?;
-        Ok((
-            Pool {
-                rt,
-                tables,
-                common,
-                places,
-                most_bytes,
-                grants: Grants::new(),
-            },
-            shares,
-        ))
+        let places = places_of::<LockedSlot<'t, R, K>>(alloc, rules, seats, books, shown)?;
+        let pool = Pool {
+            rt,
+            tables,
+            common,
+            places,
+            named: accounts.len(),
+            most_bytes,
+            grants: Grants::new(),
+        };
+        match pool.settle(alloc, accounts.as_slice()) {
+            Ok(()) => Ok((pool, shares)),
+            Err(refused) => {
+                pool.discard();
+                Err(refused)
+            }
+        }
     }
 
-    /// How many accounts there are.
+    /// How many places for accounts there are.
     pub fn accounts(&self) -> usize
         ensures { result ≡ K.accounts }
     {
         self.places.len()
     }
 
-    /// Does a command to an account under its lock; and its ticket that is to be put, if there is one.
-    fn visit<W: Wait>(
+    /// Does a command to an account that is found at a place, if it is the one that was asked for; and its ticket that is to be put, if there is one.
+    fn act_on<N: Names>(
         &self,
-        rt: &W,
+        found: &mut PoolAccount<'t, R, K>,
         account: usize,
+        name: Option<&[u8]>,
         command: &Command,
         share: &mut Share<K>,
-    ) -> (Answer<K>, Option<DueTicket<K>>)
-        requires within { account < K.accounts }
+    ) -> (Answer<K, N>, Option<DueTicket<K>>)
+        requires named { MatchOption name ((own : List ℕ) → called_at K.names account own → called_at N.names account own) (λ n. slice_get N.names account ≡ Some n.now) }
         ensures counted { Moved account (events_told result.0.performed) (steps_told result.0.performed) 0 0 share.old share.new }
         ensures account { result.0.account ≡ account }
         ensures command { result.0.command ≡ command_view command.now }
     {
-        let mut guard = self.places[account].lock(rt);
-        let found = &mut *guard.account;
         // The lock tells nothing of which account lies under it. It is always this one.
         if found.account() != account {
             return (Answer::misplaced(found, account, command), None);
         }
+        if !found.is_asked_as(name) {
+            return (Answer::misnamed(found, account, name, command), None);
+        }
         if found.is_beyond(self.most_bytes, command) {
             return (Answer::over(found, account, command), None);
         }
-        let (answer, due) = found.act(self.rt, &self.common, &self.tables, share, command);
+        // Called for the fact that it proves: the name is the one that K names, if it names one.
+        found.shows_counts();
+        let (answer, due) = found.act::<N>(self.rt, &self.common, &self.tables, share, command);
         // What was sent over the bound is read, by one short turn.
         if reserve_of(command) > 0
             && was_sent(answer.performed())
@@ -145,21 +149,47 @@ impl<'t, R: Wait, K: PoolIds> Pool<'t, R, K> {
         (answer, due)
     }
 
-    /// Does a command to an account under its lock, as `PoolAccount::perform`. Afterwards a ticket of the account is put unless the
-    /// account is quiet or one is out.
-    pub fn act<W: Wait>(
+    /// Does a command to an account under its lock; and its ticket that is to be put, if there is one.
+    fn visit<N: Names, W: Wait>(
         &self,
         rt: &W,
         account: usize,
+        name: Option<&[u8]>,
         command: &Command,
         share: &mut Share<K>,
-    ) -> Answer<K>
+    ) -> (Answer<K, N>, Option<DueTicket<K>>)
         requires within { account < K.accounts }
+        requires named { MatchOption name ((own : List ℕ) → called_at K.names account own → called_at N.names account own) (λ n. slice_get N.names account ≡ Some n.now) }
+        ensures counted { Moved account (events_told result.0.performed) (steps_told result.0.performed) 0 0 share.old share.new }
+        ensures account { result.0.account ≡ account }
+        ensures command { result.0.command ≡ command_view command.now }
+    {
+        let mut guard = self.places[account].lock(rt);
+        let slot = &mut *guard;
+        match &mut *slot.tenant {
+            Some(Tenant::Account(found)) => self.act_on(found, account, name, command, share),
+            Some(Tenant::Nobody(place)) => (Answer::absent(place, account, command), None),
+            None => unreachable!(),
+        }
+    }
+
+    /// Does a command to an account under its lock, as `PoolAccount::perform`: to the one of this number, which is to be called so, if it is asked for by
+    /// a name. Afterwards a ticket of the account is put unless the account is quiet or one is out.
+    pub fn act<N: Names, W: Wait>(
+        &self,
+        rt: &W,
+        account: usize,
+        name: Option<&[u8]>,
+        command: &Command,
+        share: &mut Share<K>,
+    ) -> Answer<K, N>
+        requires within { account < K.accounts }
+        requires named { MatchOption name ((own : List ℕ) → called_at K.names account own → called_at N.names account own) (λ n. slice_get N.names account ≡ Some n.now) }
         ensures counted { Acts account (events_told result.performed) (steps_told result.performed) share.old share.new }
         ensures account { result.account ≡ account }
         ensures command { result.command ≡ command_view command.now }
     {
-        let (answer, due) = self.visit(rt, account, command, share);
+        let (answer, due) = self.visit::<N, W>(rt, account, name, command, share);
         if let Some(due) = due {
             self.offer(rt, account, due, share);
         }
@@ -178,37 +208,41 @@ impl<'t, R: Wait, K: PoolIds> Pool<'t, R, K> {
         ensures { Acts account 0 0 share.old share.new }
     {
         if let Some(unput) = due.put(rt, &self.common, account, share) {
-            self.places[account].lock(rt).account.take_back(unput);
+            let mut guard = self.places[account].lock(rt);
+            let slot = &mut *guard;
+            match &mut *slot.tenant {
+                Some(Tenant::Account(found)) => found.take_back(unput),
+                Some(Tenant::Nobody(place)) => unput.forget(place),
+                None => unreachable!(),
+            }
         }
     }
 
     /// Notes that no ticket of an account is out.
     pub(crate) fn clear_ticket<W: Wait>(&self, rt: &W, account: usize) {
         if let Some(place) = self.places.get(account) {
-            place.lock(rt).account.clear_ticket();
+            let mut guard = place.lock(rt);
+            let slot = &mut *guard;
+            if let Some(Tenant::Account(found)) = &mut *slot.tenant {
+                found.clear_ticket();
+            }
         }
     }
 
-    /// A turn of an account under its lock, as `PoolAccount::turn`, between `enter` and `leave` of a gate. An account that takes more bytes
-    /// than it may gets none, but a short one after a message to one of its shoens. Unless the ticket is to be put back, none is out afterwards.
-    pub(crate) fn turn<G: Gate, W: Wait>(
+    /// A turn of an account that is found at a place, as `turn`.
+    fn turn_on<G: Gate>(
         &self,
-        rt: &W,
+        found: &mut PoolAccount<'t, R, K>,
         gate: &G,
         number: u64,
         account: usize,
         share: &mut Share<K>,
     ) -> TimeSlice
         ensures few { result.steps ≤ MOST_STEPS }
-        ensures turn { IsTurn K.rules (slice_get K.names account) K.most_bytes result }
+        ensures turn { IsTurn K.rules (called_at K.names account) K.most_bytes result }
         ensures counted { Moved account result.steps result.steps 0 0 share.old share.new }
     {
-        let Some(place) = self.places.get(account) else {
-            return NO_TURN;
-        };
-        let mut guard = place.lock(rt);
-        let found = &mut *guard.account;
-        // As in `visit`.
+        // As in `act_on`.
         if found.account() != account {
             return NO_TURN;
         }
@@ -223,6 +257,31 @@ impl<'t, R: Wait, K: PoolIds> Pool<'t, R, K> {
         slice
     }
 
+    /// A turn of an account under its lock, as `PoolAccount::turn`, between `enter` and `leave` of a gate. An account that takes more bytes
+    /// than it may gets none, but a short one after a message to one of its shoens. Unless the ticket is to be put back, none is out afterwards.
+    pub(crate) fn turn<G: Gate, W: Wait>(
+        &self,
+        rt: &W,
+        gate: &G,
+        number: u64,
+        account: usize,
+        share: &mut Share<K>,
+    ) -> TimeSlice
+        ensures few { result.steps ≤ MOST_STEPS }
+        ensures turn { IsTurn K.rules (called_at K.names account) K.most_bytes result }
+        ensures counted { Moved account result.steps result.steps 0 0 share.old share.new }
+    {
+        let Some(place) = self.places.get(account) else {
+            return NO_TURN;
+        };
+        let mut guard = place.lock(rt);
+        let slot = &mut *guard;
+        match &mut *slot.tenant {
+            Some(Tenant::Account(found)) => self.turn_on(found, gate, number, account, share),
+            _ => NO_TURN,
+        }
+    }
+
     /// Drops a pool whose shares can't be gathered. A drop without this call is proved only where the tables that are lent to the pool
     /// are made.
     pub fn discard(self) {
@@ -231,6 +290,7 @@ impl<'t, R: Wait, K: PoolIds> Pool<'t, R, K> {
             tables: _,
             common: _,
             places,
+            named: _,
             most_bytes: _,
             grants: _,
         } = self;

@@ -50,6 +50,15 @@ pub(crate) enum EntryResult {
     Stopped { steps: u64, end: RestoreEnd },
 }
 
+/// The first steps of a run between two looks at a meter.
+const STEPS_A_PIECE: u64 = 65_536;
+
+/// Who is told how far a restore is, and may end it.
+pub trait Meter {
+    /// Takes in that so many events more are done; whether the restore goes on.
+    fn goes_on(&self, events: u64) -> bool;
+}
+
 /// A host that tells whether its account keeps to rules by which there are runs, and that adds up what it counts.
 pub(crate) trait RestoringHost: Host {
     /// Whether the account keeps to rules by which there are runs.
@@ -178,8 +187,38 @@ fn restore_event<H: RestoringHost>(host: &mut H, event: &Event) -> EntryResult
     }
 }
 
+/// First steps until `reductions` are done, in pieces, between which the meter is asked.
+fn run_pieces<H: RestoringHost, M: Meter>(host: &mut H, meter: &M, reductions: u64) -> EntryResult
+    ensures does { (f : H.Reading) → H.fits host.new f → IsEntryDone (H.kept f host.old).state (runs reductions) result (H.kept f host.new).state }
+    ensures counted { (f : H.Reading) → H.fits host.new f → H.counted host.old (told_entry (runs reductions) result) host.new }
+    ensures before { (f : H.Reading) → H.fits host.new f → H.fits host.old f }
+    ensures beside { H.beside host.new ≡ H.beside host.old }
+{
+    let mut done = 0u64;
+    for _ in 0..u64::MAX {
+        let piece = STEPS_A_PIECE.min(reductions - done);
+        let run = run_steps(host, piece);
+        done += run.done;
+        match result_of_run(run) {
+            EntryResult::Whole => {}
+            EntryResult::Stopped { end, .. } => return EntryResult::Stopped { steps: done, end },
+        }
+        // What is the run's last piece is told with its entry.
+        if done >= reductions {
+            return EntryResult::Whole;
+        }
+        if !meter.goes_on(piece) {
+            return EntryResult::Stopped {
+                steps: done,
+                end: RestoreEnd::Memory,
+            };
+        }
+    }
+    EntryResult::Whole
+}
+
 /// Does a run.
-fn restore_run<H: RestoringHost>(host: &mut H, reductions: u64) -> EntryResult
+fn restore_run<H: RestoringHost, M: Meter>(host: &mut H, meter: &M, reductions: u64) -> EntryResult
     ensures does { (f : H.Reading) → H.fits host.new f → IsEntryDone (H.kept f host.old).state (runs reductions) result (H.kept f host.new).state }
     ensures counted { (f : H.Reading) → H.fits host.new f → H.counted host.old (told_entry (runs reductions) result) host.new }
     ensures before { (f : H.Reading) → H.fits host.new f → H.fits host.old f }
@@ -197,12 +236,11 @@ fn restore_run<H: RestoringHost>(host: &mut H, reductions: u64) -> EntryResult
             end: RestoreEnd::Full,
         };
     }
-    let run = run_steps(host, reductions);
-    result_of_run(run)
+    run_pieces(host, meter, reductions)
 }
 
 /// Does what an entry asks for.
-fn restore_deed<H: RestoringHost>(host: &mut H, deed: Deed) -> EntryResult
+fn restore_deed<H: RestoringHost, M: Meter>(host: &mut H, meter: &M, deed: Deed) -> EntryResult
     ensures does { (e : Entered) → deed_in deed ≡ Some e → (f : H.Reading) → H.fits host.new f → IsEntryDone (H.kept f host.old).state e result (H.kept f host.new).state }
     ensures counted { (e : Entered) → deed_in deed ≡ Some e → (f : H.Reading) → H.fits host.new f → H.counted host.old (told_entry e result) host.new }
     ensures before { (f : H.Reading) → H.fits host.new f → H.fits host.old f }
@@ -210,12 +248,17 @@ fn restore_deed<H: RestoringHost>(host: &mut H, deed: Deed) -> EntryResult
 {
     match deed {
         Deed::Event(event) => restore_event(host, &event),
-        Deed::Run(reductions) => restore_run(host, reductions),
+        Deed::Run(reductions) => restore_run(host, meter, reductions),
     }
 }
 
 /// Does an entry.
-fn restore_entry<H: RestoringHost>(alloc: Global, host: &mut H, entry: Entry<'_>) -> EntryResult
+fn restore_entry<H: RestoringHost, M: Meter>(
+    alloc: Global,
+    host: &mut H,
+    meter: &M,
+    entry: Entry<'_>,
+) -> EntryResult
     ensures does { (f : H.Reading) → H.fits host.new f → IsEntryDone (H.kept f host.old).state (entry_shown entry.entry) result (H.kept f host.new).state }
     ensures counted { (f : H.Reading) → H.fits host.new f → H.counted host.old (told_entry (entry_shown entry.entry) result) host.new }
     ensures before { (f : H.Reading) → H.fits host.new f → H.fits host.old f }
@@ -226,14 +269,26 @@ fn restore_entry<H: RestoringHost>(alloc: Global, host: &mut H, entry: Entry<'_>
             steps: 0,
             end: RestoreEnd::Memory,
         },
-        Ok(deed) => restore_deed(host, deed),
+        Ok(deed) => restore_deed(host, meter, deed),
     }
 }
 
-/// Does the entries of a journal, one after another, until one isn't accepted whole.
-pub(crate) fn restore_all<H: RestoringHost>(
+/// The events of an entry that are told when it is done: of a run those of its last piece.
+fn last_events(entry: &Entry<'_>) -> u64 {
+    match entry {
+        Entry::Run(reductions) => match reductions % STEPS_A_PIECE {
+            0 => STEPS_A_PIECE,
+            rest => rest,
+        },
+        _ => 1,
+    }
+}
+
+/// Does the entries of a journal, one after another, until one isn't accepted whole, or `meter` says so, which is told as want of memory.
+pub(crate) fn restore_all<H: RestoringHost, M: Meter>(
     alloc: Global,
     host: &mut H,
+    meter: &M,
     journal: &Journal,
 ) -> Restored
     ensures restored { (f : H.Reading) → H.fits host.new f → IsRestored (H.kept f host.old).state journal.now.journal.entries result (H.kept f host.new).state }
@@ -251,7 +306,8 @@ pub(crate) fn restore_all<H: RestoringHost>(
                 end: RestoreEnd::Full,
             };
         }
-        match restore_entry(alloc, host, entry) {
+        let events = last_events(&entry);
+        match restore_entry(alloc, host, meter, entry) {
             EntryResult::Whole => done += 1,
             EntryResult::Stopped { steps, end } => {
                 return Restored {
@@ -260,6 +316,13 @@ pub(crate) fn restore_all<H: RestoringHost>(
                     end,
                 };
             }
+        }
+        if !meter.goes_on(events) {
+            return Restored {
+                entries: done,
+                steps: 0,
+                end: RestoreEnd::Memory,
+            };
         }
     }
     Restored {

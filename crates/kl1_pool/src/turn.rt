@@ -1,6 +1,6 @@
 // Turns of an account of a pool.
 
-ghost use Rattle.std.specs.Prelude.{◌≡◌, ◌≤◌, min, slice_get, if◌then◌else◌, true, false};
+ghost use Rattle.std.specs.Prelude.{◌≡◌, ◌≤◌, min, if◌then◌else◌, true, false};
 ghost use Rattle.kl1_command.specs.Told.{told_steps};
 ghost use Rattle.kl1_command.specs.Stepping.{IsEnd, RunsOn};
 ghost use Rattle.kl1_pool_tickets.specs.Counts.{Moved};
@@ -9,6 +9,7 @@ ghost use Rattle.kl1_journal.specs.Keeping.{Reading, Fits, kept_of};
 ghost use Rattle.kl1_pool.specs.Counted.{room_in};
 ghost use Rattle.kl1_pool.specs.PoolAccounts.{HasCounted};
 ghost use Rattle.kl1_pool.specs.Memory.{IsWithinTurn};
+ghost use Rattle.kl1_pool.specs.Names.{called_at};
 ghost use Rattle.kl1_pool.specs.Stepping.{AreFirstSteps, goes_on, IsTurnOfSome};
 ghost use Rattle.kl1_pool.specs.declared.turn.TheConstants.{MOST_GRANTED_STEPS};
 
@@ -116,7 +117,7 @@ impl<'t, R: Wait, K: PoolIds> PoolAccount<'t, R, K> {
     ) -> TimeSlice
         requires within { IsWithinTurn K.most_bytes is_short self.old }
         ensures few { result.steps ≤ MOST_STEPS }
-        ensures turn { IsTurnOfSome K.rules (slice_get K.names self.old.book.account) K.most_bytes result }
+        ensures turn { IsTurnOfSome K.rules (called_at K.names self.old.book.account) K.most_bytes result }
         ensures counted { Moved self.old.book.account result.steps result.steps 0 0 share.old share.new }
         ensures out { self.new.is_out ≡ (if result.again then self.old.is_out else false) }
     {
@@ -138,7 +139,7 @@ impl<'t, R: Wait, K: PoolIds> PoolAccount<'t, R, K> {
     ) -> TimeSlice
         requires within { IsWithinTurn K.most_bytes is_short self.old }
         ensures few { result.steps ≤ MOST_STEPS }
-        ensures turn { IsTurnOfSome K.rules (slice_get K.names self.old.book.account) K.most_bytes result }
+        ensures turn { IsTurnOfSome K.rules (called_at K.names self.old.book.account) K.most_bytes result }
         ensures counted { Moved self.old.book.account result.steps result.steps 0 0 share.old share.new }
         ensures out { self.new.is_out ≡ self.old.is_out }
     {

@@ -1,15 +1,16 @@
 // What was done for one connection, with the share in which it was counted.
 
-ghost use Rattle.std.specs.Prelude.{◌≡◌, ◌<◌, [], ◌++◌, ◌∷◌, map};
+ghost use Rattle.std.specs.Prelude.{◌≡◌, ◌<◌, ℕ, List, [], ◌++◌, ◌∷◌, Some, MatchOption, map, slice_get};
 ghost use Rattle.kl1_command.specs.Commands.{command_view};
 ghost use Rattle.kl1_command.specs.declared.performed.Performed.TheVariants.{Memory};
+ghost use Rattle.kl1_pool.specs.Names.{called_at};
 ghost use Rattle.kl1_pool_history.specs.Entries.{done_of};
 ghost use Rattle.kl1_pool_history.specs.Histories.{AreAnswered};
 
 use kl1_command::{Command, Performed};
-use kl1_pool::{Pool, PoolIds, Share};
+use kl1_pool::{Names, Pool, PoolIds, Share};
 use logbook::{Opening, Rule, Seen, Start};
-use std::marker::Model;
+use std::marker::{Model, PhantomData};
 use std::snapshot::Snapshot;
 use std::sync::Wait;
 
@@ -83,19 +84,21 @@ fn with_entry(
     seen
 }
 
-/// What was done for one connection, in order, with the share in which it was counted. Nothing comes to it but what `act` has a pool do,
+/// What was done for one connection, to accounts called as N says, in order, with the share in which it was counted. Nothing comes to it but what `act` has a pool do,
 /// and what `refuse` refuses. Which commands were done has no bytes, so only a contract can tell it.
 #[derive(Drop)]
-pub struct History<K: PoolIds> {
+pub struct History<K: PoolIds, N: Names> {
     share: Share<K>,
     begun: Snapshot<Share<K>>,
     seen: Seen<Entry, (), Unruled>,
+    of: PhantomData<N>,
 }
 
-impl<K: PoolIds> Model for History<K> {
+impl<K: PoolIds, N: Names> Model for History<K, N> {
     ghost use Rattle.std.specs.Prelude.{map};
     ghost use Rattle.std.specs.Coded.{codes};
     ghost use Rattle.kl1_model.specs.code.TermCode.{term_code};
+    ghost use Rattle.kl1_pool.specs.Names.{called_at};
     ghost use Rattle.kl1_pool_history.specs.Entries.{done_of};
     ghost use Rattle.kl1_pool_history.specs.Histories.{HistoryValue, AreAnswered};
 
@@ -105,32 +108,39 @@ impl<K: PoolIds> Model for History<K> {
 
     ghost view = { λ h. record { begun = h.begun.value; share = h.share; done = map done_of h.seen.log } };
 
-    ghost invariant = { λ h. AreAnswered K.rules K.names (map done_of h.seen.log) h.begun.value h.share };
+    ghost invariant = { λ h. AreAnswered K.rules N.names (map done_of h.seen.log) h.begun.value h.share };
 }
 
-impl<K: PoolIds> History<K> {
+impl<K: PoolIds, N: Names> History<K, N> {
     /// Nothing was done yet.
     pub fn new(share: Share<K>) -> Self
         ensures { result ≡ record { begun = share; share = share; done = [] } }
     {
         let (seen, _pens) = Seen::open_row::<(), Nothing>(&(), Start::alone(), 0);
         let begun = Snapshot::of(&share);
-        History { share, begun, seen }
+        History {
+            share,
+            begun,
+            seen,
+            of: PhantomData,
+        }
     }
 
-    /// Has a pool do a command to the account of this number, from 0, once.
+    /// Has a pool do a command to the account of this number, from 0, once, which is to be called so, if it is asked for by a name.
     pub fn act<'t, W: Wait, R: Wait>(
         &mut self,
         rt: &W,
         pool: &Pool<'t, R, K>,
         account: usize,
+        name: Option<&[u8]>,
         command: &Command,
     ) -> Performed
-        requires { account < K.accounts }
+        requires within { account < K.accounts }
+        requires named { MatchOption name ((own : List ℕ) → called_at K.names account own → called_at N.names account own) (λ n. slice_get N.names account ≡ Some n.now) }
         ensures begun { self.new.begun ≡ self.old.begun }
         ensures done { self.new.done ≡ self.old.done ++ record { account = account; command = command_view command.now; answer = result } ∷ [] }
     {
-        let answer = pool.act(rt, account, command, &mut self.share);
+        let answer = pool.act::<N, W>(rt, account, name, command, &mut self.share);
         // Called for the fact that it proves: an account of the pool gives this answer to this command.
         answer.shows_given();
         // What is noted is what the answer says of itself, not what was asked for.
@@ -159,7 +169,7 @@ impl<K: PoolIds> History<K> {
     /// the other, is counted in the share, each once, and nothing else.
     pub fn into_share(self) -> Share<K>
         ensures share { result ≡ self.share }
-        ensures answered { AreAnswered K.rules K.names self.done self.begun result }
+        ensures answered { AreAnswered K.rules N.names self.done self.begun result }
     {
         let History { share, .. } = self;
         share

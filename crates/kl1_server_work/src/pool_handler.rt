@@ -11,7 +11,7 @@ use std::sync::Wait;
 pub struct PoolHandler<'p, 't, R: Wait, K: PoolIds> {
     pub rt: &'p R,
     pub pool: &'p Pool<'t, R, K>,
-    pub history: History<K>,
+    pub history: History<K, K>,
 }
 
 impl<'p, 't, R: Wait, K: PoolIds> CommandHandler for PoolHandler<'p, 't, R, K> {
@@ -26,6 +26,6 @@ impl<'p, 't, R: Wait, K: PoolIds> CommandHandler for PoolHandler<'p, 't, R, K> {
     ghost beside = { λ handler. handler.history.begun };
 
     fn act(&mut self, account: usize, command: &Command) -> Performed {
-        self.history.act(self.rt, self.pool, account, command)
+        self.history.act(self.rt, self.pool, account, None, command)
     }
 }

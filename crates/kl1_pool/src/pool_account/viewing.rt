@@ -7,6 +7,7 @@ ghost use Rattle.kl1_journal_stamps.specs.Stamps.{StampValue};
 ghost use Rattle.kl1_user_events.specs.Viewing.{shoen_page, goal_page, goal_text, goal_term, AreAwaited, IsPresence, usage_of};
 ghost use Rattle.kl1_pool.specs.Counted.{reduces_in};
 ghost use Rattle.kl1_pool.specs.Memory.{bytes_taken, IsBeyond, IsWithin, IsWithinTurn};
+ghost use Rattle.kl1_pool.specs.Names.{called_at};
 ghost use Rattle.kl1_pool.specs.Showing.{IsFound};
 
 use crate::looking::JournalReader;
@@ -93,9 +94,10 @@ impl<'t, R: Wait, K: PoolIds> PoolAccount<'t, R, K> {
         }
     }
 
-    /// Whether the account has this number. Then it keeps to the rules and has the name that K names, and is the replay of its journal.
+    /// Whether the account has this number. Then it keeps to the rules and has the name that K names, if it names one, and is the replay of its
+    /// journal.
     pub(crate) fn is_at(&self, account: usize) -> bool
-        ensures { IsTrue result → IsFound K.rules (slice_get K.names account) self.now.held }
+        ensures { IsTrue result → IsFound K.rules (called_at K.names account) self.now.held }
     {
         // Called for the facts that it proves.
         self.shows_counts();
@@ -142,14 +144,6 @@ impl<'t, R: Wait, K: PoolIds> PoolAccount<'t, R, K> {
         ensures { IsTrue result → IsWithinTurn most is_short self.now }
     {
         !self.is_over(turn_bound(most, is_short))
-    }
-
-    /// Whether the journal has no entries.
-    pub(crate) fn has_no_entries(&self) -> bool
-        ensures { IsTrue result → self.now.held.1.entries ≡ [] }
-    {
-        let mut entries = self.lent_journal().entries();
-        entries.next().is_none()
     }
 
     /// Lets a reader read the journal, and how many events were counted before the last reset. Answers whether it did: it didn't if

@@ -47,7 +47,10 @@ fn seen<'t, R: Wait, K: PoolIds>(
         text: Text::new(out.alloc),
         ended: 0,
     };
-    if account >= pool.accounts() || !pool.look(rt, account, &mut copy) || copy.text.has_failed {
+    if account >= pool.accounts()
+        || !pool.look(rt, account, None, &mut copy)
+        || copy.text.has_failed
+    {
         out.fail();
     }
     copy

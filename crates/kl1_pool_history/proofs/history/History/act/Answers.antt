@@ -11,4 +11,4 @@ invariant_of-self g c =
     let parts = c.into_parts-performed.result in
     let d : Done = record { account = parts.1.value; command = command_view parts.2.value; answer = parts.0 } in
     let a : Done = record { account = c.act-answer.result.account; command = c.act-answer.result.command; answer = c.act-answer.result.performed } in
-    act_more g.K.PoolIds.rules g.K.PoolIds.names (map done_of c.self.inside.seen.log) (map done_of c.with_entry.result.log) c.args.account d a c.self.inside.begun.value c.self.inside.share c.act-answer.new.share c.self.invariant c.shows_given.ensures c.act-answer.ensures.counted c.act-answer.ensures.account c.into_parts-performed.ensures.account c.into_parts-performed.ensures.command c.into_parts-performed.ensures.performed c.with_entry.ensures
+    act_more g.K.PoolIds.rules g.N.Names.names (map done_of c.self.inside.seen.log) (map done_of c.with_entry.result.log) c.args.account d a c.self.inside.begun.value c.self.inside.share c.act-answer.new.share c.self.invariant c.shows_given.ensures c.act-answer.ensures.counted c.act-answer.ensures.account c.into_parts-performed.ensures.account c.into_parts-performed.ensures.command c.into_parts-performed.ensures.performed c.with_entry.ensures
