@@ -12,7 +12,7 @@ use Rattle.kl1_host_journals.specs.declared.history.Naming as naming
 use Rattle.kl1_host_journals.specs.declared.leave.Connecting as connecting
 use Rattle.kl1_host_journals.specs.declared.outgoing.Outgoing.{Outgoing}
 use Rattle.kl1_host_work.specs.Filling.{is_of_sessions}
-use Rattle.kl1_host_work.specs.Noted.{IsNoted}
+use Rattle.kl1_host_work.specs.Noted.{IsNotedAfter}
 use Rattle.kl1_host_work.specs.declared.exchange.Waiting.{Waiting}
 use Rattle.kl1_host_work.specs.declared.exchange.Waiting.TheVariants.{Nothing, Noted}
 use Rattle.kl1_host_work.specs.declared.exchange.Notice.{Notice}
@@ -33,16 +33,11 @@ pub record Adds (account : ℕ) (c : Command) (p : Performed) (old new : Exchang
   pub replies_wait : new.replies_wait ≡ old.replies_wait
 
 module _ {K C : Type 0} {g : naming.Ghosts K} {shown : shown_ids.Ghosts K} {h : connecting.Ghosts C} where
-  -- this leave was noted when all of this had been done
-  abbrev pub IsNoticeOf : HistoryValue → Outgoing K C g shown h → Waiting K C g shown h → Type 0
-  IsNoticeOf v o Nothing = ⊥
-  IsNoticeOf v o (Noted leave after) = (leave.value ≡ o) × (after.value ≡ v)
-
-  -- The answer to the last of what was done waits for its account's note, which came after it: the leave to write was held for that, or is
-  -- lost. Or it waits for nothing, if memory was refused, or if it tells nothing that is to be on disk before
+  -- The answer to the last of what was done waits for its account's note, which has it: the leave to write was held for that, or is lost. Or it
+  -- waits for nothing, if memory was refused, or if it tells nothing that is to be on disk before
   abbrev pub IsCared : Rules → List (List ℕ) → Bool → List Done → Done → Waiting K C g shown h → Type 0
   IsCared rules names replies_wait ds d Nothing = (d.answer ≡ Memory) ⊎ (tells_nothing d.command replies_wait ≡ true)
-  IsCared rules names replies_wait ds d (Noted leave after) = (after.value.done ≡ ds) × IsNoted rules (called_at names d.account) d.account leave.value
+  IsCared rules names replies_wait ds d (Noted leave after) = (after.value.done ≡ ds) × IsNotedAfter rules (called_at names d.account) d leave.value
 
   -- so, if something was done
   abbrev pub IsTold : Rules → List (List ℕ) → Bool → List Done → Notice K C g shown h → Type 0

@@ -1,15 +1,15 @@
 // What was done for a connection, and for what its answers wait.
 
-ghost use Rattle.std.specs.Prelude.{◌≡◌, ◌<◌, true, false, [], Some, slice_get};
+ghost use Rattle.std.specs.Prelude.{◌≡◌, ◌⊎◌, ◌<◌, true, false, [], Some, slice_get};
 ghost use Rattle.kl1_command.specs.Commands.{command_view};
 ghost use Rattle.kl1_command.specs.declared.performed.Performed.TheVariants.{Memory};
 ghost use Rattle.kl1_pool.specs.Names.{called_at};
 ghost use Rattle.kl1_pool_history.specs.Histories.{AreAnswered};
-ghost use Rattle.kl1_host_work.specs.Noted.{is_lost, IsNoted};
-ghost use Rattle.kl1_host_work.specs.Notices.{tells_nothing, Adds, IsNoticeOf, IsTold};
+ghost use Rattle.kl1_host_work.specs.Noted.{is_lost, IsNotedAfter};
+ghost use Rattle.kl1_host_work.specs.Notices.{tells_nothing, Adds, IsTold};
 
 use crate::filling::is_of_sessions;
-use crate::noting::note_for;
+use crate::noting::{Noting, if_held};
 use kl1_command::{Command, Performed};
 use kl1_host_journals::{Connecting, Keeper, Naming, Outgoing};
 use kl1_pool::{Names, Pool, PoolIds, Share};
@@ -32,28 +32,6 @@ enum Waiting<K: PoolIds + Naming, C: Connecting + Names> {
 #[derive(Drop)]
 pub struct Notice<K: PoolIds + Naming, C: Connecting + Names> {
     waiting: Waiting<K, C>,
-}
-
-/// Notes an account to which the last of what was done was done, and lets the leave to write of the connection wait for it. The leave is to
-/// be there, so that nobody else has it.
-fn noted<'t, W: Wait, R: Wait, K: PoolIds + Naming, C: Connecting + Names>(
-    rt: &W,
-    pool: &Pool<'t, R, K>,
-    keeper: &Keeper<K>,
-    account: usize,
-    name: &[u8],
-    history: &History<K, C>,
-    leave: Outgoing<K, C>,
-) -> (Outgoing<K, C>, Notice<K, C>)
-    requires within { account < K.accounts }
-    requires named { slice_get C.names account ≡ Some name.now }
-    requires here { is_lost leave ≡ false }
-    ensures noted { IsNoted K.rules (called_at C.names account) account result.0 }
-    ensures notice { IsNoticeOf history.now result.0 result.1.waiting }
-{
-    let leave = note_for(rt, pool, keeper, account, Some(name), leave);
-    let waiting = Waiting::Noted(Snapshot::of(&leave), Snapshot::of(history));
-    (leave, Notice { waiting })
 }
 
 /// What was done for one connection, in order, and for what the last answer waits.
@@ -132,7 +110,8 @@ impl<K: PoolIds + Naming, C: Connecting + Names> Exchange<K, C> {
         performed
     }
 
-    /// Has a pool do a command, and then lets the leave to write wait for what it did.
+    /// Has a pool do a command, and lets the leave to write wait for the note of what it did, which is made under the account's lock; if memory was
+    /// refused, it is as it was. The leave is to be there, so that nobody else has it.
     pub(crate) fn act_noted<'t, W: Wait, R: Wait>(
         &mut self,
         rt: &W,
@@ -147,12 +126,27 @@ impl<K: PoolIds + Naming, C: Connecting + Names> Exchange<K, C> {
         requires named { slice_get C.names account ≡ Some name.now }
         requires here { is_lost leave ≡ false }
         ensures done { Adds account (command_view command.now) result.0 self.old self.new }
-        ensures noted { IsNoted K.rules (called_at C.names account) account result.1 }
+        ensures noted { (result.0 ≡ Memory) ⊎ IsNotedAfter K.rules (called_at C.names account) (record { account = account; command = command_view command.now; answer = result.0 }) result.1 }
     {
-        let answered = self.history.act(rt, pool, account, Some(name), command);
-        let (leave, notice) = noted(rt, pool, keeper, account, name, &self.history, leave);
-        self.notice = notice;
-        (answered, leave)
+        let mut noting = Noting {
+            rt,
+            keeper,
+            account,
+            outgoing: leave,
+        };
+        let (performed, is_shown) = self
+            .history
+            .act_shown(rt, pool, account, name, command, &mut noting);
+        let Noting { outgoing, .. } = noting;
+        let (leave, waiting) = if matches!(&performed, Performed::Memory) {
+            (outgoing, Waiting::Nothing)
+        } else {
+            let leave = if_held(outgoing, account, is_shown);
+            let waiting = Waiting::Noted(Snapshot::of(&leave), Snapshot::of(&self.history));
+            (leave, waiting)
+        };
+        self.notice = Notice { waiting };
+        (performed, leave)
     }
 
     /// The share in which what was done is counted, as `History::into_share`; and for what the last answer waits.

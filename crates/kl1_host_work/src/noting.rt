@@ -1,10 +1,10 @@
 // What has come to an account's journal, noted under the account's lock.
 
-ghost use Rattle.std.specs.Prelude.{◌≡◌, ◌<◌, ⊤, MatchOption, Some, slice_get, IfSome};
-ghost use Rattle.kl1_pool.specs.Names.{called_at, is_called};
+ghost use Rattle.std.specs.Prelude.{◌≡◌, ◌<◌};
+ghost use Rattle.kl1_pool.specs.Names.{called_at};
 ghost use Rattle.kl1_pool.specs.Showing.{IsSeenOfSome};
 ghost use Rattle.kl1_host_journals.specs.Outgoings.{IsNotedFor};
-ghost use Rattle.kl1_host_work.specs.Noted.{is_lost, IsNoted};
+ghost use Rattle.kl1_host_work.specs.Noted.{is_lost, IsHeldFor, IsNoted};
 
 use crate::host::Host;
 use kl1_host_journals::{Connecting, Keeper, Naming, Outgoing};
@@ -42,17 +42,16 @@ impl<'k, W: Wait, J: Naming, C: Connecting> JournalReader for Noting<'k, W, J, C
 }
 
 /// Notes what has come to the journal of an account, and lets the leave to write of a connection wait until it is on disk. `Lost` if memory
-/// was refused, or if another account was found, or one of another name than it is asked for by, which never is so.
+/// was refused, or if another account was found, which never is so.
 pub(crate) fn note_for<'t, W: Wait, R: Wait, K: PoolIds + Naming, C: Connecting>(
     rt: &W,
     pool: &Pool<'t, R, K>,
     keeper: &Keeper<K>,
     account: usize,
-    name: Option<&[u8]>,
     outgoing: Outgoing<K, C>,
 ) -> Outgoing<K, C>
     requires { account < K.accounts }
-    ensures { IsNoted K.rules (λ own. called_at K.names account own × MatchOption name ⊤ (λ n. is_called n.now own)) account result }
+    ensures { IsNoted K.rules (called_at K.names account) account result }
 {
     let mut noting = Noting {
         rt,
@@ -60,15 +59,24 @@ pub(crate) fn note_for<'t, W: Wait, R: Wait, K: PoolIds + Naming, C: Connecting>
         account,
         outgoing,
     };
-    let is_seen = pool.look(rt, account, name, &mut noting);
+    let is_seen = pool.look(rt, account, &mut noting);
     let Noting { outgoing, .. } = noting;
-    let Outgoing::Waits(held) = outgoing else {
-        return Outgoing::Lost;
-    };
-    if is_seen && held.account() as usize == account {
-        Outgoing::Waits(held)
-    } else {
-        Outgoing::Lost
+    if_held(outgoing, account, is_seen)
+}
+
+/// A leave to write, if it waits for this account and `is_held`; else it is lost.
+pub(crate) fn if_held<J: Naming, C: Connecting>(
+    outgoing: Outgoing<J, C>,
+    account: usize,
+    is_held: bool,
+) -> Outgoing<J, C>
+    ensures { IsHeldFor account is_held outgoing result }
+{
+    match outgoing {
+        Outgoing::Waits(held) if is_held && held.account() as usize == account => {
+            Outgoing::Waits(held)
+        }
+        _ => Outgoing::Lost,
     }
 }
 
@@ -81,7 +89,7 @@ pub(crate) fn note<'t, W: Wait, R: Wait, K: PoolIds + Naming>(
 )
     requires { account < K.accounts }
 {
-    let _ = note_for::<W, R, K, Brand>(rt, pool, keeper, account, None, Outgoing::Lost);
+    let _ = note_for::<W, R, K, Brand>(rt, pool, keeper, account, Outgoing::Lost);
 }
 
 /// Whether a leave is lost.
@@ -124,7 +132,7 @@ pub(crate) fn note_told<'t, W: Wait, R: Wait, K: PoolIds + Naming, C: Connecting
     };
     if host.syncing.replies_wait {
         let before = take_leave(rt, host, outgoing, account);
-        outgoing.set(note_for(rt, pool, keeper, account, None, before));
+        outgoing.set(note_for(rt, pool, keeper, account, before));
     } else if keeper.is_called() {
         note(rt, pool, keeper, account);
     }

@@ -62,7 +62,7 @@ pub(crate) fn sessions_of<'t, F: Front, W: Wait, R: Wait, K: PoolIds + Naming>(
     requires { account < K.accounts }
 {
     let mut reader = SessionsReader { sessions: 0 };
-    if desk.pool.look(rt, account, None, &mut reader) {
+    if desk.pool.look(rt, account, &mut reader) {
         Some(reader.sessions)
     } else {
         None

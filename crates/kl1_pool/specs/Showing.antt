@@ -4,7 +4,11 @@ use Rattle.kl1_model.specs.declared.rules.Rules.{Rules}
 use Rattle.kl1_model.specs.State.{State}
 use Rattle.kl1_model_server.specs.Journal.{Journal, Kept}
 use Rattle.kl1_atoms.specs.Names.{AreNames}
-use Rattle.kl1_journal.specs.Keeping.{Held, IsKept}
+use Rattle.kl1_model_server.specs.Command.{Command}
+use Rattle.kl1_command.specs.declared.performed.Performed.{Performed}
+use Rattle.kl1_command.specs.declared.performed.Performed.TheVariants as performed
+use Rattle.kl1_command.specs.Room.{PerformsWithin}
+use Rattle.kl1_journal.specs.Keeping.{Held, Reading, Fits, kept_of, IsKept}
 use Rattle.kl1_pool.specs.Answers.{IsAccount}
 use Rattle.kl1_pool.specs.Counted.{events_in, reduces_in}
 use Rattle.kl1_journal_stamps.specs.Stamps.{ShownValue}
@@ -32,3 +36,22 @@ IsCountedBySome rules name events steps = (k : Kept) × (p : TotalsBeforeReset) 
 -- the journal of a history that was shown last is this one, of this generation
 abbrev pub IsLastOf : ShownValue → Journal → ℕ → Type 0
 IsLastOf shown j ended = shown.last ≡ Some (ended, j)
+
+-- some such account, whose book has some room, answers this command so, and this holds of its journal afterwards, and of how many events were
+-- counted in its journals that resets ended
+abbrev pub IsShownAfter : Rules → (List ℕ → Type 0) → Command → Performed → (Journal → ℕ → Type 0) → Type 0
+IsShownAfter rules named c p P =
+    (room : ℕ) × (before : Kept) × (after : Kept) × (ended : ℕ) × IsAccount rules named before × IsAccount rules named after × PerformsWithin (Some room) before c p after × P after.journal ended
+
+-- an account that was found so answers a command so, and is this afterwards
+pub record IsDone (rules : Rules) (named : List ℕ → Type 0) (c : Command) (p : Performed) (old new : Held) : Type 0 where
+  pub found : IsFound rules named old
+  pub room : ℕ
+  pub does : (f : Reading) → Fits new.0.names f → PerformsWithin (Some room) (kept_of f old) c p (kept_of f new)
+  pub before : (f : Reading) → Fits new.0.names f → Fits old.0.names f
+
+-- so, unless memory was refused
+abbrev pub IsDoneIf : Rules → (List ℕ → Type 0) → Command → Performed → Held → Held → Type 0
+IsDoneIf rules named c (performed.Whole reply) old new = IsDone rules named c (performed.Whole reply) old new
+IsDoneIf rules named c (performed.Short n) old new = IsDone rules named c (performed.Short n) old new
+IsDoneIf rules named c performed.Memory old new = Unit {0}

@@ -192,6 +192,8 @@ impl<'t, R: Wait, K: PoolIds> PoolAccount<'t, R, K> {
         ensures counted { Moved self.old.book.account (events_told result.0.performed) (steps_told result.0.performed) 0 0 share.old share.new }
         ensures account { result.0.account ≡ self.old.book.account }
         ensures command { result.0.command ≡ command_view command.now }
+        ensures does { (f : Reading) → Fits self.new.held.0.names f → PerformsWithin (Some (room_in self.old.book)) (kept_of f self.old.held) (command_view command.now) result.0.performed (kept_of f self.new.held) }
+        ensures before { (f : Reading) → Fits self.new.held.0.names f → Fits self.old.held.0.names f }
         ensures due { (f : Reading) → Fits self.new.held.0.names f → is_some result.1 ≡ (not self.old.is_out && not (quiet (kept_of f self.new.held).state)) }
     {
         let answer = self.perform(rt, common, tables, share, command);

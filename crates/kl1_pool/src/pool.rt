@@ -1,11 +1,13 @@
 // Accounts under locks, with what threads share besides.
 
-ghost use Rattle.std.specs.Prelude.{◌≡◌, ◌<◌, ◌≤◌, ℕ, List, Some, IfOk, MatchOption, All, length, slice_get, vec_len};
+ghost use Rattle.std.specs.Prelude.{◌≡◌, ◌<◌, ◌≤◌, ℕ, List, Some, IfOk, MatchOption, All, length, slice_get, true, false, vec_len};
 ghost use Rattle.kl1_pool_tickets.specs.Counts.{Moved, Acts, new_counts};
 ghost use Rattle.kl1_pool_tickets.specs.declared.serving.TheConstants.{MOST_STEPS};
 ghost use Rattle.kl1_command.specs.Commands.{command_view};
 ghost use Rattle.kl1_command.specs.Told.{events_told, steps_told};
+ghost use Rattle.kl1_journal_stamps.specs.Stamps.{StampValue};
 ghost use Rattle.kl1_pool.specs.Names.{called_at};
+ghost use Rattle.kl1_pool.specs.Showing.{IsDoneIf, IsShownAfter};
 ghost use Rattle.kl1_pool.specs.Stepping.{IsTurn};
 
 use crate::answer::Answer;
@@ -13,12 +15,13 @@ use crate::gate::Gate;
 use crate::grants::Grants;
 use crate::locked_slot::{LockedSlot, Tenant};
 use crate::locked_slots::{drop_all, places_of};
+use crate::looking::JournalReader;
 use crate::memory::{reserve_of, was_sent};
 use crate::parts::PoolParts;
 use crate::pool_account::{DueTicket, PoolAccount};
 use crate::pool_ids::{Names, PoolIds};
 use crate::shared_tables::SharedTables;
-use kl1_command::Command;
+use kl1_command::{Command, Performed};
 use kl1_pool_tickets::{Opened, PoolShared, Share, TimeSlice};
 use std::alloc::{AllocError, Global};
 use std::marker::PhantomData;
@@ -125,6 +128,7 @@ impl<'t, R: Wait, K: PoolIds> Pool<'t, R, K> {
         ensures counted { Moved account (events_told result.0.performed) (steps_told result.0.performed) 0 0 share.old share.new }
         ensures account { result.0.account ≡ account }
         ensures command { result.0.command ≡ command_view command.now }
+        ensures done { IsDoneIf K.rules (called_at N.names account) (command_view command.now) result.0.performed found.old.held found.new.held }
     {
         // The lock tells nothing of which account lies under it. It is always this one.
         if found.account() != account {
@@ -194,6 +198,68 @@ impl<'t, R: Wait, K: PoolIds> Pool<'t, R, K> {
             self.offer(rt, account, due, share);
         }
         answer
+    }
+
+    /// `act_on`, after which a reader reads the account's journal, unless memory was refused; and whether it did.
+    fn show_on<N: Names, L: JournalReader>(
+        &self,
+        found: &mut PoolAccount<'t, R, K>,
+        account: usize,
+        name: &[u8],
+        command: &Command,
+        share: &mut Share<K>,
+        reader: &mut L,
+    ) -> (Answer<K, N>, Option<DueTicket<K>>, bool)
+        requires named { slice_get N.names account ≡ Some name.now }
+        requires takes { (s : StampValue) → slice_get K.histories account ≡ Some s.history → L.takes reader.old s }
+        ensures counted { Moved account (events_told result.0.performed) (steps_told result.0.performed) 0 0 share.old share.new }
+        ensures account { result.0.account ≡ account }
+        ensures command { result.0.command ≡ command_view command.now }
+        ensures shown { result.2 ≡ true → IsShownAfter K.rules (called_at N.names account) (command_view command.now) result.0.performed (λ j ended. L.reads reader.old reader.new j ended) }
+        ensures same { result.2 ≡ false → reader.new ≡ reader.old }
+    {
+        let (answer, due) = self.act_on::<N>(found, account, Some(name), command, share);
+        if matches!(answer.performed(), Performed::Memory) || !found.is_called(name) {
+            return (answer, due, false);
+        }
+        let is_shown = found.look_at(account, reader);
+        (answer, due, is_shown)
+    }
+
+    /// Does a command to the account of this number, which is to be called so, under its lock, as `act`; and lets a reader read the account's
+    /// journal then, under the same lock, unless memory was refused. Answers whether it did.
+    pub fn act_shown<N: Names, W: Wait, L: JournalReader>(
+        &self,
+        rt: &W,
+        account: usize,
+        name: &[u8],
+        command: &Command,
+        share: &mut Share<K>,
+        reader: &mut L,
+    ) -> (Answer<K, N>, bool)
+        requires within { account < K.accounts }
+        requires named { slice_get N.names account ≡ Some name.now }
+        requires takes { (s : StampValue) → slice_get K.histories account ≡ Some s.history → L.takes reader.old s }
+        ensures counted { Acts account (events_told result.0.performed) (steps_told result.0.performed) share.old share.new }
+        ensures account { result.0.account ≡ account }
+        ensures command { result.0.command ≡ command_view command.now }
+        ensures shown { result.1 ≡ true → IsShownAfter K.rules (called_at N.names account) (command_view command.now) result.0.performed (λ j ended. L.reads reader.old reader.new j ended) }
+        ensures same { result.1 ≡ false → reader.new ≡ reader.old }
+    {
+        let mut guard = self.places[account].lock(rt);
+        let slot = &mut *guard;
+        let (answer, due, is_shown) = match &mut *slot.tenant {
+            Some(Tenant::Account(found)) => {
+                self.show_on::<N, L>(found, account, name, command, share, reader)
+            }
+            Some(Tenant::Nobody(place)) => (Answer::absent(place, account, command), None, false),
+            None => unreachable!(),
+        };
+        drop(guard);
+        if let Some(due) = due {
+            self.offer(rt, account, due, share);
+        }
+        (answer, is_shown)
     }
 
     /// Puts an account's ticket; if it can't be put, none is out.

@@ -81,8 +81,7 @@ impl<'t, R: Wait, K: PoolIds> PoolAccount<'t, R, K> {
         ensures seen { IfSome result.1 (λ shown. IsSeenOfSome K.rules (called_at K.names account) (λ j ended. L.reads reader.old reader.new j ended × IsLastOf shown j ended)) }
     {
         let mut found = self;
-        // Its first half is asked for the facts that it proves, as well.
-        if !found.is_at(account) || !found.look(reader) || !reader.is_done() {
+        if !found.look_at(account, reader) || !reader.is_done() {
             return (Tenant::Account(found), None);
         }
         let PoolAccount { book, shown, .. } = found;

@@ -1,14 +1,16 @@
 // What was done for one connection, with the share in which it was counted.
 
-ghost use Rattle.std.specs.Prelude.{◌≡◌, ◌<◌, ℕ, List, [], ◌++◌, ◌∷◌, Some, MatchOption, map, slice_get};
+ghost use Rattle.std.specs.Prelude.{◌≡◌, ◌<◌, ℕ, List, [], ◌++◌, ◌∷◌, Some, MatchOption, map, slice_get, true, false};
 ghost use Rattle.kl1_command.specs.Commands.{command_view};
 ghost use Rattle.kl1_command.specs.declared.performed.Performed.TheVariants.{Memory};
+ghost use Rattle.kl1_journal_stamps.specs.Stamps.{StampValue};
 ghost use Rattle.kl1_pool.specs.Names.{called_at};
+ghost use Rattle.kl1_pool.specs.Showing.{IsShownAfter};
 ghost use Rattle.kl1_pool_history.specs.Entries.{done_of};
 ghost use Rattle.kl1_pool_history.specs.Histories.{AreAnswered};
 
 use kl1_command::{Command, Performed};
-use kl1_pool::{Names, Pool, PoolIds, Share};
+use kl1_pool::{JournalReader, Names, Pool, PoolIds, Share};
 use logbook::{Opening, Rule, Seen, Start};
 use std::marker::{Model, PhantomData};
 use std::snapshot::Snapshot;
@@ -98,7 +100,9 @@ impl<K: PoolIds, N: Names> Model for History<K, N> {
     ghost use Rattle.std.specs.Prelude.{map};
     ghost use Rattle.std.specs.Coded.{codes};
     ghost use Rattle.kl1_model.specs.code.TermCode.{term_code};
+    ghost use Rattle.kl1_journal_stamps.specs.Stamps.{StampValue};
     ghost use Rattle.kl1_pool.specs.Names.{called_at};
+    ghost use Rattle.kl1_pool.specs.Showing.{IsShownAfter};
     ghost use Rattle.kl1_pool_history.specs.Entries.{done_of};
     ghost use Rattle.kl1_pool_history.specs.Histories.{HistoryValue, AreAnswered};
 
@@ -147,6 +151,39 @@ impl<K: PoolIds, N: Names> History<K, N> {
         let (performed, done_to, done) = answer.into_parts();
         self.seen = with_entry(&self.seen, done_to, done, &performed);
         performed
+    }
+
+    /// `act`, of a name, after which a reader reads the account's journal, as `Pool::act_shown`; and whether it did.
+    pub fn act_shown<'t, W: Wait, R: Wait, L: JournalReader>(
+        &mut self,
+        rt: &W,
+        pool: &Pool<'t, R, K>,
+        account: usize,
+        name: &[u8],
+        command: &Command,
+        reader: &mut L,
+    ) -> (Performed, bool)
+        requires within { account < K.accounts }
+        requires named { slice_get N.names account ≡ Some name.now }
+        requires takes { (s : StampValue) → slice_get K.histories account ≡ Some s.history → L.takes reader.old s }
+        ensures begun { self.new.begun ≡ self.old.begun }
+        ensures done { self.new.done ≡ self.old.done ++ record { account = account; command = command_view command.now; answer = result.0 } ∷ [] }
+        ensures shown { result.1 ≡ true → IsShownAfter K.rules (called_at N.names account) (command_view command.now) result.0 (λ j ended. L.reads reader.old reader.new j ended) }
+        ensures same { result.1 ≡ false → reader.new ≡ reader.old }
+    {
+        let (answer, is_shown) = pool.act_shown::<N, W, L>(
+            rt,
+            account,
+            name,
+            command,
+            &mut self.share,
+            reader,
+        );
+        // As in `act`.
+        answer.shows_given();
+        let (performed, done_to, done) = answer.into_parts();
+        self.seen = with_entry(&self.seen, done_to, done, &performed);
+        (performed, is_shown)
     }
 
     /// Answers a command as if memory was refused. Nothing is done.

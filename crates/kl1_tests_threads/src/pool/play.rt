@@ -137,8 +137,8 @@ fn account_of(name: &[u8]) -> usize {
 }
 
 /// Does what a record asks for. Beside commands, `rest` waits until the account is quiet, `turns N` until N turns have ended, and
-/// `replay` puts how the replay of its journal ends, `look` puts its journal as it is looked at, `restore NAME COUNT` does the entries of
-/// another account's journal to it, but for the first COUNT of them, 0 if it isn't given, `memory` puts whether it takes more bytes than it may, and `grow` waits until it does.
+/// `replay` puts how the replay of its journal ends, `look` puts its journal as it is looked at, `restore NAME COUNT` lets it come
+/// with another account's journal, but for the first COUNT of its entries, 0 if it isn't given, `memory` puts whether it takes more bytes than it may, and `grow` waits until it does.
 fn play_record<'t, R: Wait, K: PoolIds>(
     rt: &R,
     pool: &Pool<'t, R, K>,
