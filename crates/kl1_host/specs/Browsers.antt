@@ -3,7 +3,7 @@ use Rattle.std.specs.Prelude.{◌≡◌, ⊤, ℕ, Bool, List, [], ◌++◌, Som
 use Rattle.std.specs.declared.option.Option.{Option}
 use Rattle.kl1_session.specs.Conversations.{Done}
 use Rattle.kl1_session.specs.Files.{Entry}
-use Rattle.kl1_host_front.specs.Sums.{opened_by_sum}
+use Rattle.kl1_host_front.specs.Sums.{opened_by_sum, sum_of}
 use Rattle.kl1_host_door.specs.declared.door.Site.{Site}
 use Rattle.kl1_host_web.specs.Asking.{Asked, House, AreDone}
 use Rattle.kl1_host_web.specs.Serving.{Exchange, Serves}
@@ -20,6 +20,6 @@ pub record IsServed (entries : List Entry) (accounts idle : ℕ) (sites : List S
   pub left : Option (List ℕ)
   pub asked : List Asked
   pub dones : List Done
-  pub serves : Serves (λ second. ⊤) (λ bytes. ⊤) idle (record { accounts = accounts; names = name_at entries; opens = opened_by_sum entries; before = before }) sites is_local served unread left [] asked
+  pub serves : Serves (λ second. ⊤) (λ bytes. ⊤) idle (record { accounts = accounts; names = name_at entries; opens = opened_by_sum entries; entries = entries; marks = sum_of; before = before }) sites is_local served unread left [] asked
   pub done : after ≡ before ++ dones
   pub each : AreDone asked dones

@@ -2,6 +2,7 @@
 
 ghost use Rattle.std.specs.Prelude.{◌≡◌, ◌≤◌, ℕ, [], length};
 ghost use Rattle.kl1_session.specs.Views.{entries_view};
+ghost use Rattle.kl1_host_front.specs.Sums.{sum_of};
 ghost use Rattle.kl1_host_web.specs.Records.{asked_in};
 ghost use Rattle.kl1_host.specs.Browsers.{IsServed};
 ghost use Rattle.kl1_host.specs.Ends.{end_word};
@@ -66,6 +67,8 @@ pub struct Program<'f, R: Wait + Clock + Eprint + Files<File = File> + RandomSou
     pub begun: Instant,
     /// Who asked it to stop, and waits for its end.
     pub asker: &'f Mutex<Option<UnixStream>>,
+    /// Keys are known by their sums.
+    pub ghost are_marks: { K.marks ≡ sum_of },
 }
 
 /// Who lets in whoever connects from this address, by these keys.

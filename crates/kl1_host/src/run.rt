@@ -1,6 +1,7 @@
 // A host runs.
 
 ghost use Rattle.std.specs.Prelude.{◌≡◌, true};
+ghost use Rattle.kl1_host_front.specs.Sums.{sum_of};
 ghost use Rattle.kl1_host.specs.Setups.{IsSynced, IsSetUp};
 
 use crate::accounts::{Accounts, accounts_in};
@@ -175,7 +176,7 @@ where
     })
 }
 
-/// Runs a host with what is opened until it is asked to stop. `K` stands for the keys of its accounts, by which sessions of browsers are opened.
+/// Runs a host with what is opened until it is asked to stop. `K` stands for the book of its browsers' sessions, which are opened by keys that are known by their sums.
 fn run_opened<R, K: LoginKeys + Send + Sync>(
     log: &Log<'_, R>,
     folder: &str,
@@ -194,6 +195,7 @@ where
         + Eprint
         + Sync,
     R::Dir: Send + Sync,
+    requires marks { K.marks ≡ sum_of }
     requires begins { K.begins ≡ true }
 {
     let (rt, alloc, settings) = (log.rt, log.alloc, &opened.settings);

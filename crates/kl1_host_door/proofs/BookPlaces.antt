@@ -66,8 +66,8 @@ pub none_touched : (id : List ℕ) (second : ℕ) (xs : List WebSession) → pla
 none_touched id second xs e = untouched id second 0 xs e
 
 -- a session whose last request is at another second was opened as it was
-pub seen_opened : (opens : Opens) (xs slice : List WebSession) (i second : ℕ) (s : WebSession) → slice ≡ xs → i < length slice → s ≡ get_or xs i s → All (IsOpened opens) xs → All (IsOpened opens) (set xs i (seen_at second s))
-seen_opened opens xs slice i second s is within at opened =
+pub seen_opened : (marks : List ℕ → List ℕ) (xs slice : List WebSession) (i second : ℕ) (s : WebSession) → slice ≡ xs → i < length slice → s ≡ get_or xs i s → All (IsOpened marks) xs → All (IsOpened marks) (set xs i (seen_at second s))
+seen_opened marks xs slice i second s is within at opened =
     let inside : i < length xs = subst (λ (l : List WebSession). i < length l) is within in
-    let one : IsOpened opens s = subst (IsOpened opens) (sym at) (All-get_or (IsOpened opens) xs i s inside opened) in
-    All-set (IsOpened opens) xs i (seen_at second s) one opened
+    let one : IsOpened marks s = subst (IsOpened marks) (sym at) (All-get_or (IsOpened marks) xs i s inside opened) in
+    All-set (IsOpened marks) xs i (seen_at second s) one opened

@@ -78,6 +78,10 @@ owner_of fields sessions = sought true fields sessions
 abbrev pub LetsIn : Opens → ℕ → Type 0
 LetsIn opens account = ∥ ((name : List ℕ) × (key : List ℕ) × (opens name key ≡ Some account)) ∥₁
 
--- a session is one that was opened by a name and a key which let in to its account
-abbrev pub IsOpened : Opens → WebSession → Type 0
-IsOpened opens session = LetsIn opens session.account
+-- a mark is that of some key
+abbrev pub IsOfKey : (List ℕ → List ℕ) → List ℕ → Type 0
+IsOfKey marks mark = ∥ ((key : List ℕ) × (mark ≡ marks key)) ∥₁
+
+-- a session was opened by a key whose mark it has
+abbrev pub IsOpened : (List ℕ → List ℕ) → WebSession → Type 0
+IsOpened marks session = IsOfKey marks session.mark

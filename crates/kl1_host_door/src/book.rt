@@ -3,6 +3,7 @@
 ghost use Rattle.std.specs.Prelude.{◌≡◌, ◌<◌, ◌≤◌, true, [], length, vec_capacity, All, IfOk, IfSome};
 ghost use Rattle.kl1_host_door.specs.declared.limits.TheConstants.{MOST_SESSIONS};
 ghost use Rattle.kl1_host_door.specs.declared.book.BookStep.TheVariants.{Adds, Takes};
+ghost use Rattle.kl1_session.specs.Views.{entries_view};
 ghost use Rattle.kl1_host_door.specs.Sessions.{IsOpened};
 ghost use Rattle.kl1_host_door.specs.Doors.{authorized};
 ghost use Rattle.kl1_host_door.specs.Bodies.{may_send};
@@ -15,7 +16,7 @@ use crate::limits::{MOST_SESSIONS, SECRET_BYTES};
 use crate::login_keys::LoginKeys;
 use crate::refusal::Refusal;
 use crate::session::WebSession;
-use kl1_session::is_same_key;
+use kl1_session::{Key, is_same_key};
 use std::alloc::{AllocError, Global};
 use std::marker::{Model, PhantomData};
 use std::snapshot::Snapshot;
@@ -33,7 +34,7 @@ pub enum BookStep {
     Looks,
 }
 
-/// What was done to the sessions of the keys `K`, and which were open before. Only a `SessionBook` makes one. It has no bytes, so only
+/// What was done to the sessions that `K` stands for, and which were open before. Only a `SessionBook` makes one. It has no bytes, so only
 /// contracts see what it tells.
 #[derive(Drop)]
 pub struct BookChange<K: LoginKeys> {
@@ -57,14 +58,13 @@ impl<K: LoginKeys> BookChange<K> {
     }
 }
 
-/// The sessions of browsers that are open, at most `MOST_SESSIONS`, in the order in which they were opened: each by a name and a key that
-/// let in to its account.
+/// The sessions of browsers that are open, at most `MOST_SESSIONS`, in the order in which they were opened: each by a key, of which it has the mark.
 #[derive(Drop)]
 pub struct SessionBook<K: LoginKeys> {
     list: Vec<WebSession>,
     of: PhantomData<K>,
     ghost room: { MOST_SESSIONS ≤ vec_capacity list },
-    ghost opened: { All (IsOpened K.opens) list.items },
+    ghost opened: { All (IsOpened K.marks) list.items },
 }
 
 impl<K: LoginKeys> Model for SessionBook<K> {
@@ -102,7 +102,7 @@ impl<K: LoginKeys> SessionBook<K> {
 
     /// Adds a session, and tells whether it did: as many may be open as `MOST_SESSIONS`.
     pub fn add(&mut self, session: WebSession) -> (bool, BookChange<K>)
-        requires { IsOpened K.opens session }
+        requires { IsOpened K.marks session }
         ensures room { result.0 ≡ has_room self.old }
         ensures added { IsAdded result.0 session self.old self.new }
         ensures step { result.1.step.value ≡ Adds session }
@@ -141,33 +141,35 @@ impl<K: LoginKeys> SessionBook<K> {
         sites: &[Site],
         is_local: bool,
         since: u64,
+        keys: &[Key],
         count: u64,
     ) -> Result<bool, Refusal>
-        ensures opened { All (IsOpened K.opens) self.now }
-        ensures value { result ≡ may_send count (authorized head.now self.now sites.now is_local since) }
+        ensures opened { All (IsOpened K.marks) self.now }
+        ensures value { result ≡ may_send count (authorized head.now self.now sites.now is_local since (entries_view keys.now)) }
     {
-        let allowed = authorize(head, self.list.as_slice(), sites, is_local, since);
+        let allowed = authorize(head, self.list.as_slice(), sites, is_local, since, keys);
         may_send(count, &allowed)
     }
 
     /// What a request may have by the sessions, of a host that is known by these names; `is_local` tells whether it comes from the machine
-    /// of the host. A session whose last request was before the second `since` lets in nobody. If the request is let in by a session, `now`
-    /// becomes the second of that session's last request.
+    /// of the host. A session whose last request was before the second `since` lets in nobody, nor does one that was opened by another key than
+    /// that of its account among these. If the request is let in by a session, `now` becomes the second of that session's last request.
     pub fn admit(
         &mut self,
         head: &Head,
         sites: &[Site],
         is_local: bool,
         since: u64,
+        keys: &[Key],
         now: u64,
     ) -> (Result<Allowed, Refusal>, BookChange<K>)
-        ensures opened { All (IsOpened K.opens) self.old }
-        ensures allowed { result.0 ≡ authorized head.now self.old sites.now is_local since }
+        ensures opened { All (IsOpened K.marks) self.old }
+        ensures allowed { result.0 ≡ authorized head.now self.old sites.now is_local since (entries_view keys.now) }
         ensures seen { self.new ≡ after (seen_by now result.0) self.old }
         ensures step { result.1.step.value ≡ seen_by now result.0 }
         ensures before { result.1.before.value.items ≡ self.old }
     {
-        let allowed = authorize(head, self.list.as_slice(), sites, is_local, since);
+        let allowed = authorize(head, self.list.as_slice(), sites, is_local, since, keys);
         if let Ok(Allowed::Owner { id, .. }) = &allowed {
             let change = self.change(BookStep::Touches(*id, now));
             self.touch(*id, now);

@@ -1,23 +1,22 @@
 // Whom names and keys let in.
 
-ghost use Rattle.std.specs.Prelude.{Bool};
-ghost use Rattle.kl1_session.specs.Doors.{Opens};
+ghost use Rattle.std.specs.Prelude.{ℕ, List, Bool};
 
 use std::marker::Brand;
 
-/// The names and the keys of a host's accounts, of which each host has one set.
+/// By what the keys of a host's accounts are known, and the sessions that they open.
 pub trait LoginKeys {
-    /// The account to which a name and a key let in.
-    ghost opens: { Opens };
+    /// The mark of a key.
+    ghost marks: { List ℕ → List ℕ };
 
     /// Whether the book of the host's sessions may begin. Only who picks the keys knows it, so there is one book for them.
     ghost begins: { Bool };
 }
 
 impl LoginKeys for Brand {
-    ghost use Rattle.std.specs.Prelude.{false, None};
+    ghost use Rattle.std.specs.Prelude.{false};
 
-    ghost opens = { λ name key. None };
+    ghost marks = { λ key. key };
 
     ghost begins = { false };
 }

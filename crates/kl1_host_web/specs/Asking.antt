@@ -1,10 +1,12 @@
 -- What is asked of the accounts of a host.
-use Rattle.std.specs.Prelude.{◌≡◌, ◌⊎◌, ℕ, List, [], ◌∷◌, ◌++◌}
+use Rattle.std.specs.Prelude.{◌≡◌, ◌⊎◌, ℕ, List, [], ◌∷◌, ◌++◌, Some}
 use Rattle.kl1_model_server.specs.Command.{Command}
 use Rattle.kl1_command.specs.declared.performed.Performed.{Performed}
 use Rattle.kl1_command.specs.declared.performed.Performed.TheVariants.{Memory}
 use Rattle.kl1_session.specs.Doors.{Opens}
+use Rattle.kl1_session.specs.Files.{Entry}
 use Rattle.kl1_session.specs.Conversations.{Done}
+use Rattle.kl1_host_door.specs.Doors.{mark_at}
 use Rattle.kl1_host_door.specs.declared.session.WebSession.{WebSession}
 use Rattle.kl1_host_door.specs.declared.book.BookStep.{BookStep}
 
@@ -15,11 +17,14 @@ pub data Asked : Type 0 where
   looked : ℕ → Asked
   changed : BookStep → List WebSession → Asked
 
--- how many accounts there are, what each is called, to which of them a name and a key let in, and what was done before by what does the commands
+-- how many accounts there are, what each is called, to which of them a name and a key let in, what stands there of their keys, by what a key is known, and
+-- what was done before by what does the commands
 pub record House : Type 0 where
   pub accounts : ℕ
   pub names : ℕ → List ℕ
   pub opens : Opens
+  pub entries : List Entry
+  pub marks : List ℕ → List ℕ
   pub before : List Done
 
 -- these commands were done, in this order, each once: just those of what was asked, but some may be missing that are answered as if memory was
@@ -35,3 +40,7 @@ AreDone (changed step sessions ∷ xs) ds = AreDone xs ds
 -- after some commands others were done, for what was asked
 abbrev pub HasDone : List Done → List Done → List Asked → Type 0
 HasDone before after asked = (dones : List Done) × (after ≡ before ++ dones) × AreDone asked dones
+
+-- keys are known by these marks, and a key that lets in to an account is the one that stands there
+abbrev pub AreMarked : (List ℕ → List ℕ) → House → Type 0
+AreMarked marks house = (house.marks ≡ marks) × ((name key : List ℕ) (account : ℕ) → house.opens name key ≡ Some account → mark_at house.entries account ≡ marks key)

@@ -23,7 +23,6 @@ use Rattle.kl1_host_door.specs.declared.book.SessionTest.TheVariants as test
 use Rattle.kl1_host_door.specs.declared.book.BookStep.TheVariants.{Takes}
 use Rattle.kl1_host_door.specs.Sessions.{IsOpened}
 use Rattle.kl1_host_door.specs.Books.{passes, first_of, seen_by}
-use Rattle.kl1_session.specs.Doors.{Opens}
 use Rattle.kl1_host_web.specs.Asking.{Asked, did, changed, House}
 use Rattle.kl1_host_web.specs.Wishes.{IsRead, wanted}
 use Rattle.kl1_host_web.specs.Telling.{Grants, IsRefusal}
@@ -74,15 +73,15 @@ pub record EndsIdle (tells : ℕ → Type 0) (idle account n : ℕ) (before afte
 
 -- ---- one request that is let in
 
--- what a request of this head may have was looked up in the book of sessions, of which each was opened by a name and a key that let in to its
--- account, at a second that the machine told: a session whose last request is more than `idle` seconds before it lets in nobody. If the request
--- is of one of them, that was noted there.
-pub record Admits (tells : ℕ → Type 0) (opens : Opens) (idle : ℕ) (sites : List Site) (is_local : Bool) (head : Head) (before after : List Asked) (result : Result Allowed Refusal) : Type 0 where
+-- what a request of this head may have was looked up in the book of sessions, of which each was opened by a key, at a second that the machine told:
+-- a session lets in nobody whose last request is more than `idle` seconds before it, or whose account doesn't have that key. If the request is of one
+-- of them, that was noted there.
+pub record Admits (tells : ℕ → Type 0) (house : House) (idle : ℕ) (sites : List Site) (is_local : Bool) (head : Head) (before after : List Asked) (result : Result Allowed Refusal) : Type 0 where
   pub second : ℕ
   pub told : tells second
   pub sessions : List WebSession
-  pub opened : All (IsOpened opens) sessions
-  pub is : result ≡ authorized head sessions sites is_local (second - idle)
+  pub opened : All (IsOpened house.marks) sessions
+  pub is : result ≡ authorized head sessions sites is_local (second - idle) house.entries
   pub noted : after ≡ before ++ changed (seen_by second result) sessions ∷ []
 
 -- the session by which a request was let in is taken out of the book, which has these; nothing is if it was let in by none
@@ -181,12 +180,12 @@ pub record HasBody (n : ℕ) (body : List ℕ) (old new : Option (List ℕ)) : T
 -- ---- the requests of a connection
 
 -- whether a body of n bytes is read after a head was looked up in the book of sessions: who isn't let in has no long one read
-pub record LooksAt (tells : ℕ → Type 0) (opens : Opens) (idle : ℕ) (sites : List Site) (is_local : Bool) (head : Head) (n : ℕ) (result : Result Bool Refusal) : Type 0 where
+pub record LooksAt (tells : ℕ → Type 0) (house : House) (idle : ℕ) (sites : List Site) (is_local : Bool) (head : Head) (n : ℕ) (result : Result Bool Refusal) : Type 0 where
   pub second : ℕ
   pub told : tells second
   pub sessions : List WebSession
-  pub opened : All (IsOpened opens) sessions
-  pub is : result ≡ may_send n (authorized head sessions sites is_local (second - idle))
+  pub opened : All (IsOpened house.marks) sessions
+  pub is : result ≡ may_send n (authorized head sessions sites is_local (second - idle) house.entries)
 
 -- a request by its head and its body, and what was answered; without memory for an answer nothing
 pub record Exchange : Type 0 where
@@ -207,14 +206,14 @@ pub record IsNext (x : Exchange) (old new : Option (List ℕ)) : Type 0 where
 pub record Attends (tells : ℕ → Type 0) (gives : List ℕ → Type 0) (idle : ℕ) (house : House) (sites : List Site) (is_local : Bool) (head : Head) (body : List ℕ) (before after : List Asked) (result : Result Answer AllocError) : Type 0 where
   pub admitted : List Asked
   pub may_have : Result Allowed Refusal
-  pub admits : Admits tells house.opens idle sites is_local head before admitted may_have
+  pub admits : Admits tells house idle sites is_local head before admitted may_have
   pub answers : Answers gives house may_have head.target.items body admitted after result
 
 -- the next request was read, its body after it was looked up whether that is read, and attended to
 pub record Exchanges (tells : ℕ → Type 0) (gives : List ℕ → Type 0) (idle : ℕ) (house : House) (sites : List Site) (is_local : Bool) (x : Exchange) (old new : Option (List ℕ)) (before after : List Asked) : Type 0 where
   pub next : IsNext x old new
   pub is_in : Bool
-  pub looks : LooksAt tells house.opens idle sites is_local x.head (length x.body) (Ok is_in)
+  pub looks : LooksAt tells house idle sites is_local x.head (length x.body) (Ok is_in)
   pub attends : Attends tells gives idle house sites is_local x.head x.body before after x.answer
 
 -- requests were read one after another, here the last of them first, and attended to; accounts were asked nothing else
@@ -225,14 +224,14 @@ Serves tells gives idle house sites is_local (x ∷ earlier) old new before afte
     × Serves tells gives idle house sites is_local earlier old middle before asked × Exchanges tells gives idle house sites is_local x middle new asked after
 
 -- bytes that aren't read yet begin with a head that tells the length of a body, which isn't read for this reason
-pub record KeepsOut (tells : ℕ → Type 0) (opens : Opens) (idle : ℕ) (sites : List Site) (is_local : Bool) (why : Refusal) (old : Option (List ℕ)) : Type 0 where
+pub record KeepsOut (tells : ℕ → Type 0) (house : House) (idle : ℕ) (sites : List Site) (is_local : Bool) (why : Refusal) (old : Option (List ℕ)) : Type 0 where
   pub bytes : List ℕ
   pub head : Head
   pub count : ℕ
   pub front : IsFront bytes old
   pub is : IsHead bytes head
   pub told : body_bytes head ≡ Ok count
-  pub looks : LooksAt tells opens idle sites is_local head count (Err why)
+  pub looks : LooksAt tells house idle sites is_local head count (Err why)
 
 -- what became of the next request: it was read and attended to, of a page that came by https or not; or it can't be read for this reason, or
 -- nothing more comes, and accounts were asked nothing; if memory was refused, either
@@ -240,7 +239,7 @@ abbrev pub Steps : (ℕ → Type 0) → (List ℕ → Type 0) → ℕ → House 
 Steps tells gives idle house sites is_local old new before after (Ok (served.Answered answer secure goes_on)) =
     (head : Head) × (body : List ℕ) × (secure ≡ is_secure head sites) × Exchanges tells gives idle house sites is_local (record { head = head; body = body; answer = Ok answer }) old new before after
 Steps tells gives idle house sites is_local old new before after (Ok (served.Refused why)) =
-    (after ≡ before) × (HasNoHead why old ⊎ (HasNoBody why old ⊎ KeepsOut tells house.opens idle sites is_local why old))
+    (after ≡ before) × (HasNoHead why old ⊎ (HasNoBody why old ⊎ KeepsOut tells house idle sites is_local why old))
 Steps tells gives idle house sites is_local old new before after (Ok served.Ended) = after ≡ before
 Steps tells gives idle house sites is_local old new before after (Err e) =
     (after ≡ before)

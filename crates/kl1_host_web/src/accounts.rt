@@ -3,10 +3,12 @@
 ghost use Rattle.std.specs.Prelude.{◌≡◌, ◌<◌, ◌++◌, ◌∷◌, [], ℕ, List, IfOk, IfSome, OnOk, ⊤};
 ghost use Rattle.kl1_command.specs.Commands.{command_view};
 ghost use Rattle.kl1_user_events.specs.declared.shoen_view.ShoenView.{ShoenView};
+ghost use Rattle.kl1_session.specs.Views.{entries_view};
 ghost use Rattle.kl1_host_web.specs.Asking.{Asked, did, looked, changed, House};
 
 use kl1_command::{Command, Performed};
 use kl1_host_door::{BookChange, LoginKeys};
+use kl1_session::Key;
 use kl1_user_events::{Extent, GoalNo, GoalView, Presence, ShoenNo, ShoenView, Usage};
 use std::alloc::AllocError;
 
@@ -88,6 +90,10 @@ pub trait Accounts {
         ensures within { IfSome result (λ n. n < (house self.old).accounts) }
         ensures house { house self.new ≡ house self.old }
         ensures asked { asked self.new ≡ asked self.old };
+
+    /// The keys of the accounts.
+    fn keys(&self) -> &[Key]
+        ensures { entries_view result.now ≡ (house self.now).entries };
 
     /// Puts the name of an account after the bytes.
     fn put_name(&self, account: usize, out: &mut Vec<u8>) -> Result<(), AllocError>

@@ -7,10 +7,11 @@ ghost use Rattle.kl1_host_door.specs.Answers.{answer_text};
 ghost use Rattle.kl1_host_door.specs.declared.session.WebSession.{WebSession};
 ghost use Rattle.kl1_host_door.specs.declared.book.BookStep.TheVariants.{Adds, Takes};
 ghost use Rattle.kl1_host_door.specs.declared.book.SessionTest.TheVariants.{IsCalled};
-ghost use Rattle.kl1_host_door.specs.Sessions.{LetsIn, IsOpened};
+ghost use Rattle.kl1_host_door.specs.Sessions.{IsOfKey, IsOpened};
+ghost use Rattle.kl1_host_door.specs.Doors.{mark_at};
 ghost use Rattle.kl1_host_door.specs.Books.{has_room};
 ghost use Rattle.kl1_command.specs.declared.performed.Performed.{Performed};
-ghost use Rattle.kl1_host_web.specs.Asking.{Asked, changed};
+ghost use Rattle.kl1_host_web.specs.Asking.{AreMarked, Asked, changed};
 ghost use Rattle.kl1_host_web.specs.Telling.{IsOpenedIn};
 ghost use Rattle.kl1_host_web.specs.Beginning.{Begun};
 ghost use Rattle.kl1_host_web.specs.Serving.{Seeks, logout_of, EndsIdle, Admits, LooksAt, closing, Ends, is_within, AnswersWithin, Attends, Exchange, Serves, Steps};
@@ -20,7 +21,7 @@ use crate::granting::grant;
 use crate::incoming::{Inbox, Incoming};
 use crate::json::{refused, told_session};
 use crate::outcome::Outcome;
-use crate::secret::new_session;
+use crate::secret::{mark_of, new_session};
 use crate::site::{Machine, Page};
 use crate::wish::wish_of;
 use kl1_command::Command;
@@ -133,7 +134,7 @@ impl<'p, R: Wait, M: Machine, K: LoginKeys> Service<'p, R, M, K> {
 
     /// Adds a session of a browser, and tells whether there was room for it.
     fn add<A: Accounts>(&self, accounts: &mut A, session: WebSession) -> bool
-        requires { IsOpened K.opens session }
+        requires { IsOpened K.marks session }
         ensures house { A.house accounts.new ≡ A.house accounts.old }
         ensures asked { (others : List WebSession) × (result ≡ has_room others) × (A.asked accounts.new ≡ A.asked accounts.old ++ changed (Adds session) others ∷ []) }
     {
@@ -146,26 +147,42 @@ impl<'p, R: Wait, M: Machine, K: LoginKeys> Service<'p, R, M, K> {
 
     /// What a request may have, by the sessions that are open now.
     fn allowed<A: Accounts>(&self, accounts: &mut A, head: &Head) -> Result<Allowed, Refusal>
+        requires { AreMarked K.marks (A.house accounts.old) }
         ensures house { A.house accounts.new ≡ A.house accounts.old }
-        ensures admits { Admits (M.tells self.now.machine.now) K.opens self.now.page.idle self.now.page.sites.now self.now.is_local head.now (A.asked accounts.old) (A.asked accounts.new) result }
+        ensures admits { Admits (M.tells self.now.machine.now) (A.house accounts.old) self.now.page.idle self.now.page.sites.now self.now.is_local head.now (A.asked accounts.old) (A.asked accounts.new) result }
     {
         let now = self.machine.seconds();
         let since = now.saturating_sub(self.page.idle);
         let mut guard = self.page.sessions.lock(self.rt);
         let book = &mut *guard;
-        let (allowed, change) = book.admit(head, self.page.sites, self.is_local, since, now);
+        let (allowed, change) = book.admit(
+            head,
+            self.page.sites,
+            self.is_local,
+            since,
+            accounts.keys(),
+            now,
+        );
         accounts.note_change(change);
         allowed
     }
 
     /// Whether a request is let in to an account, whose body of `count` bytes is read, by the sessions that are open now; or why that isn't read.
-    fn may_send(&self, head: &Head, count: u64) -> Result<bool, Refusal>
-        ensures { LooksAt (M.tells self.now.machine.now) K.opens self.now.page.idle self.now.page.sites.now self.now.is_local head.now count result }
+    fn may_send<A: Accounts>(&self, accounts: &A, head: &Head, count: u64) -> Result<bool, Refusal>
+        requires { AreMarked K.marks (A.house accounts.now) }
+        ensures { LooksAt (M.tells self.now.machine.now) (A.house accounts.now) self.now.page.idle self.now.page.sites.now self.now.is_local head.now count result }
     {
         let since = self.machine.seconds().saturating_sub(self.page.idle);
         let guard = self.page.sessions.lock(self.rt);
         let book = &*guard;
-        book.may_send(head, self.page.sites, self.is_local, since, count)
+        book.may_send(
+            head,
+            self.page.sites,
+            self.is_local,
+            since,
+            accounts.keys(),
+            count,
+        )
     }
 
     /// Ends the sessions of an account whose browsers made no request for too long: each is taken out of the book and logged out, until there
@@ -204,11 +221,12 @@ impl<'p, R: Wait, M: Machine, K: LoginKeys> Service<'p, R, M, K> {
     /// so that a login that fails leaves nothing open.
     fn begin<A: Accounts>(&self, accounts: &mut A, account: usize) -> Result<Answer, AllocError>
         requires within { account < (A.house accounts.old).accounts }
-        requires opened { LetsIn K.opens account }
+        requires opened { IsOfKey K.marks (mark_at (A.house accounts.old).entries account) }
         ensures house { A.house accounts.new ≡ A.house accounts.old }
         ensures asked { Begun (M.gives self.now.machine.now) (A.house accounts.old).names account (A.asked accounts.old) (A.asked accounts.new) result }
     {
-        let Some(session) = new_session(self.machine, account) else {
+        let mark = mark_of(accounts.keys(), account);
+        let Some(session) = mark.and_then(|mark| new_session(self.machine, account, mark)) else {
             let _ = accounts.act(account, &Command::Does(Event::Logout));
             return refused(self.alloc, Refusal::Memory);
         };
@@ -233,7 +251,7 @@ impl<'p, R: Wait, M: Machine, K: LoginKeys> Service<'p, R, M, K> {
         allowed: &Allowed,
         outcome: Outcome,
     ) -> Result<Answer, AllocError>
-        requires keys { (A.house accounts.old).opens ≡ K.opens }
+        requires keys { AreMarked K.marks (A.house accounts.old) }
         requires opened { IsOpenedIn (A.house accounts.old) outcome }
         ensures house { A.house accounts.new ≡ A.house accounts.old }
         ensures ends { Ends (M.gives self.now.machine.now) (A.house accounts.old).names allowed.now (Ok outcome) (A.asked accounts.old) (A.asked accounts.new) result }
@@ -258,7 +276,7 @@ impl<'p, R: Wait, M: Machine, K: LoginKeys> Service<'p, R, M, K> {
         allowed: &Allowed,
         body: &[u8],
     ) -> Result<Answer, AllocError>
-        requires { (A.house accounts.old).opens ≡ K.opens }
+        requires { AreMarked K.marks (A.house accounts.old) }
         ensures house { A.house accounts.new ≡ A.house accounts.old }
         ensures answers { AnswersWithin (M.gives self.now.machine.now) (is_within (A.house accounts.old).accounts allowed.now) (A.house accounts.old) allowed.now head.now.target.items body.now (A.asked accounts.old) (A.asked accounts.new) result }
     {
@@ -277,7 +295,7 @@ impl<'p, R: Wait, M: Machine, K: LoginKeys> Service<'p, R, M, K> {
         head: &Head,
         body: &[u8],
     ) -> Result<Answer, AllocError>
-        requires { (A.house accounts.old).opens ≡ K.opens }
+        requires { AreMarked K.marks (A.house accounts.old) }
         ensures house { A.house accounts.new ≡ A.house accounts.old }
         ensures answers { Attends (M.tells self.now.machine.now) (M.gives self.now.machine.now) self.now.page.idle (A.house accounts.old) self.now.page.sites.now self.now.is_local head.now body.now (A.asked accounts.old) (A.asked accounts.new) result }
     {
@@ -294,7 +312,7 @@ impl<'p, R: Wait, M: Machine, K: LoginKeys> Service<'p, R, M, K> {
         inbox: &mut Inbox,
         accounts: &mut A,
     ) -> Result<Served, AllocError>
-        requires { (A.house accounts.old).opens ≡ K.opens }
+        requires { AreMarked K.marks (A.house accounts.old) }
         ensures house { A.house accounts.new ≡ A.house accounts.old }
         ensures steps { Steps (M.tells self.now.machine.now) (M.gives self.now.machine.now) self.now.page.idle (A.house accounts.old) self.now.page.sites.now self.now.is_local (prepend_known inbox.old.kept.items (S.remaining source.old)) (prepend_known inbox.new.kept.items (S.remaining source.new)) (A.asked accounts.old) (A.asked accounts.new) result }
     {
@@ -308,7 +326,7 @@ impl<'p, R: Wait, M: Machine, K: LoginKeys> Service<'p, R, M, K> {
             Err(refusal) => return Ok(Served::Refused(refusal)),
         };
         // Who isn't let in has no long body read. A short one is read also if the request is refused, so that the next one is found.
-        let is_in = match self.may_send(&head, count) {
+        let is_in = match self.may_send(&*accounts, &head, count) {
             Ok(is_in) => is_in,
             Err(refusal) => return Ok(Served::Refused(refusal)),
         };
@@ -348,7 +366,7 @@ impl<'p, R: Wait, M: Machine, K: LoginKeys> Service<'p, R, M, K> {
         sink: &mut T,
         accounts: &mut A,
     )
-        requires { (A.house accounts.old).opens ≡ K.opens }
+        requires { AreMarked K.marks (A.house accounts.old) }
         ensures house { A.house accounts.new ≡ A.house accounts.old }
         ensures served { (served : List Exchange) × (left : Option (List ℕ)) × Serves (M.tells self.now.machine.now) (M.gives self.now.machine.now) self.now.page.idle (A.house accounts.old) self.now.page.sites.now self.now.is_local served (S.remaining source.old) left (A.asked accounts.old) (A.asked accounts.new) }
     {
