@@ -1,5 +1,7 @@
 // The journals of a folder are opened.
 
+ghost use Rattle.std.specs.Prelude.{◌≡◌, IfOk};
+
 use crate::faulty_line::{LineFault, fault_in};
 use crate::folder::{JOURNALS, journal_in, path_in, read_file, refuse_pipe};
 use crate::keyring::Keyring;
@@ -46,21 +48,38 @@ fn no_memory(_refused: AllocError) -> OpenFault {
     OpenFault::Failed(io::Error::from(io::ErrorKind::OutOfMemory))
 }
 
+/// A fault of a place at which no account stands.
+fn no_account() -> OpenFault {
+    OpenFault::Failed(io::Error::other("no account"))
+}
+
 impl<'f, R: Files<File = File> + Clock + Eprint> FolderOpener<'f, R> {
-    /// Opens the file of the account of this name.
+    /// Opens the file of the account with this key, which is called by its name.
     fn opened(
         &self,
-        name: AccountName,
-        text: &str,
+        key: &Key,
         repair: Option<&str>,
-    ) -> Result<AccountFile<FolderFile<&'f R>>, OpenFault> {
+    ) -> Result<AccountFile<FolderFile<&'f R>>, OpenFault>
+        ensures { IfOk result (λ found. found.name ≡ key.now.name.items) }
+    {
         let Log { rt, alloc } = *self.log;
+        let Some(name) = AccountName::read(key.name.as_slice()) else {
+            return Err(no_account());
+        };
+        let text = format!(in alloc; "{}", key.name.escape_ascii()).map_err(no_memory)?;
         let journals = path_in(alloc, self.folder, JOURNALS).map_err(no_memory)?;
         let path = journal_in(alloc, self.folder, text.as_bytes()).map_err(no_memory)?;
         if let Err(error) = refuse_pipe(rt, path.as_str()) {
             return Err(OpenFault::Failed(error));
         }
-        let opened = open_in_folder(rt, alloc, journals.as_str(), text, Rules::Four, repair)?;
+        let opened = open_in_folder(
+            rt,
+            alloc,
+            journals.as_str(),
+            text.as_str(),
+            Rules::Four,
+            repair,
+        )?;
         if let Some(line) = opened.repaired() {
             self.log.tell_repaired(text.as_bytes(), line);
         }
@@ -70,21 +89,15 @@ impl<'f, R: Files<File = File> + Clock + Eprint> FolderOpener<'f, R> {
 
 impl<'f, R: Files<File = File> + Clock + Eprint> Opener<FolderFile<&'f R>> for FolderOpener<'f, R> {
     fn open(&self, account: usize) -> Result<AccountFile<FolderFile<&'f R>>, OpenFault> {
-        let alloc = self.log.alloc;
-        let key = self.keys.keys().get(account);
-        let Some(key) = key else {
-            return Err(OpenFault::Failed(io::Error::other("no account")));
-        };
-        let Some(name) = AccountName::read(key.name.as_slice()) else {
-            return Err(OpenFault::Failed(io::Error::other("no account")));
-        };
-        let text = format!(in alloc; "{}", key.name.escape_ascii()).map_err(no_memory)?;
         let repair = if account < self.firsts {
             self.repair
         } else {
             None
         };
-        self.opened(name, text.as_str(), repair)
+        match self.keys.keys().get(account) {
+            Some(key) => self.opened(key, repair),
+            None => Err(no_account()),
+        }
     }
 }
 

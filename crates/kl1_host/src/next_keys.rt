@@ -1,5 +1,9 @@
 // The next edition of keys, by what the file of accounts says now.
 
+ghost use Rattle.std.specs.Prelude.{◌≡◌, IfOk, option_map};
+ghost use Rattle.kl1_session.specs.Views.{entry_view, entries_view};
+ghost use Rattle.kl1_host.specs.NextKeys.{nobody, named, is_there, next_at, is_rekeyed, is_removed, IsNext};
+
 use kl1_session::Key;
 use std::alloc::{AllocError, Global};
 
@@ -18,12 +22,23 @@ pub struct NextKeys {
 }
 
 /// The key of a name among others.
-fn named<'k>(keys: &'k [Key], name: &[u8]) -> Option<&'k Key> {
-    keys.iter().find(|key| key.name.as_slice() == name)
+fn named<'k>(keys: &'k [Key], name: &[u8]) -> Option<&'k Key>
+    ensures { option_map (λ k. entry_view k.now) result ≡ named (entries_view keys.now) name.now }
+{
+    let mut rest = keys;
+    while let [first, others @ ..] = rest {
+        if first.name.as_slice() == name {
+            return Some(first);
+        }
+        rest = others;
+    }
+    None
 }
 
 /// A copy of a key.
-fn copy_of(alloc: Global, key: &Key) -> Result<Key, AllocError> {
+fn copy_of(alloc: Global, key: &Key) -> Result<Key, AllocError>
+    ensures { IfOk result (λ copy. entry_view copy ≡ entry_view key.now) }
+{
     Ok(Key {
         name: Vec::from_slice(alloc, key.name.as_slice())?,
         key: Vec::from_slice(alloc, key.key.as_slice())?,
@@ -31,11 +46,50 @@ fn copy_of(alloc: Global, key: &Key) -> Result<Key, AllocError> {
 }
 
 /// What stands at the place of an account that was removed.
-fn nobody(alloc: Global) -> Key {
+fn nobody(alloc: Global) -> Key
+    ensures { entry_view result ≡ nobody }
+{
     Key {
         name: Vec::new(alloc),
         key: Vec::new(alloc),
     }
+}
+
+/// Whether an account stands at a place.
+fn is_there(key: &Key) -> bool
+    ensures { result ≡ is_there (entry_view key.now) }
+{
+    !key.name.is_empty()
+}
+
+/// What stands at a place next.
+fn next_at(alloc: Global, key: &Key, wanted: &[Key]) -> Result<Key, AllocError>
+    ensures { IfOk result (λ next. entry_view next ≡ next_at (entries_view wanted.now) (entry_view key.now)) }
+{
+    if !is_there(key) {
+        return Ok(nobody(alloc));
+    }
+    match named(wanted, key.name.as_slice()) {
+        Some(found) => copy_of(alloc, found),
+        None => Ok(nobody(alloc)),
+    }
+}
+
+/// Whether the account of a place is to have another key.
+fn is_rekeyed(key: &Key, wanted: &[Key]) -> bool
+    ensures { result ≡ is_rekeyed (entries_view wanted.now) (entry_view key.now) }
+{
+    match named(wanted, key.name.as_slice()) {
+        Some(found) => is_there(key) && found.key.as_slice() != key.key.as_slice(),
+        None => false,
+    }
+}
+
+/// Whether the account of a place is to leave.
+fn is_removed(key: &Key, wanted: &[Key]) -> bool
+    ensures { result ≡ is_removed (entries_view wanted.now) (entry_view key.now) }
+{
+    is_there(key) && named(wanted, key.name.as_slice()).is_none()
 }
 
 impl NextKeys {
@@ -50,29 +104,27 @@ impl NextKeys {
         }
     }
 
-    /// Whether all is as it was.
-    pub fn is_same(&self) -> bool {
-        self.added.is_empty() && self.rekeyed.is_empty() && self.removed.is_empty()
-    }
-
-    /// Takes over what stands at a place now.
+    /// Takes over what stands at the next place.
     fn take_over(&mut self, alloc: Global, key: &Key, wanted: &[Key]) -> Result<(), AllocError> {
         let place = self.keys.len();
-        match named(wanted, key.name.as_slice()) {
-            Some(found) if !key.name.is_empty() => {
-                if found.key.as_slice() != key.key.as_slice() {
-                    self.rekeyed.push(place)?;
-                }
-                self.keys.push(copy_of(alloc, found)?)?;
-            }
-            _ => {
-                if !key.name.is_empty() {
-                    self.removed.push(place)?;
-                }
-                self.keys.push(nobody(alloc))?;
-            }
+        if is_rekeyed(key, wanted) {
+            self.rekeyed.push(place)?;
         }
-        Ok(())
+        if is_removed(key, wanted) {
+            self.removed.push(place)?;
+        }
+        self.keys.push(next_at(alloc, key, wanted)?)
+    }
+
+    /// Takes in one that comes, if there is a place for it.
+    fn add(&mut self, alloc: Global, key: &Key, places: usize) -> Result<(), AllocError> {
+        let place = self.keys.len();
+        if place >= places {
+            self.left_out = self.left_out.saturating_add(1);
+            return Ok(());
+        }
+        self.added.push(place)?;
+        self.keys.push(copy_of(alloc, key)?)
     }
 }
 
@@ -82,21 +134,17 @@ pub fn next_keys(
     now: &[Key],
     wanted: &[Key],
     places: usize,
-) -> Result<NextKeys, AllocError> {
+) -> Result<NextKeys, AllocError>
+    ensures { IfOk result (IsNext (entries_view now.now) (entries_view wanted.now) places) }
+{
     let mut next = NextKeys::new(alloc);
     for key in now {
         next.take_over(alloc, key, wanted)?;
     }
     for key in wanted {
-        if named(now, key.name.as_slice()).is_some() {
-            continue;
+        if named(now, key.name.as_slice()).is_none() {
+            next.add(alloc, key, places)?;
         }
-        if next.keys.len() >= places {
-            next.left_out = next.left_out.saturating_add(1);
-            continue;
-        }
-        next.added.push(next.keys.len())?;
-        next.keys.push(copy_of(alloc, key)?)?;
     }
     Ok(next)
 }

@@ -1,6 +1,7 @@
 // A host runs.
 
-ghost use Rattle.std.specs.Prelude.{◌≡◌, true};
+ghost use Rattle.std.specs.Prelude.{◌≡◌, ◌≤◌, true};
+ghost use Rattle.kl1_model.specs.declared.limits.TheConstants.{MOST_ACCOUNTS};
 ghost use Rattle.kl1_host_front.specs.Sums.{sum_of};
 ghost use Rattle.kl1_host.specs.Setups.{IsSynced, IsSetUp};
 
@@ -64,7 +65,7 @@ fn syncing_of(sync: Syncs) -> Syncing
 
 /// How a host of this number of accounts is set up, with so many places for these and others.
 fn setup_of(settings: &Settings, accounts: usize, places: usize) -> Setup
-    ensures { IsSetUp settings.now places result }
+    ensures { IsSetUp settings.now accounts places result }
 {
     Setup {
         workers: match settings.workers {
@@ -88,7 +89,9 @@ fn setup_of(settings: &Settings, accounts: usize, places: usize) -> Setup
 }
 
 /// How many places there are for so many accounts of the start and others that may come.
-fn places_for(settings: &Settings, accounts: usize) -> usize {
+fn places_for(settings: &Settings, accounts: usize) -> usize
+    ensures { result ≤ MOST_ACCOUNTS }
+{
     accounts
         .saturating_add(settings.spare_accounts as usize)
         .min(MOST_ACCOUNTS)

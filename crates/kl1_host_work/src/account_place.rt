@@ -1,5 +1,8 @@
 // A place of a host for an account, and how far it is with that.
 
+ghost use Rattle.std.specs.Prelude.{◌≡◌};
+ghost use Rattle.kl1_host_work.specs.Refusals.{lets_in};
+
 use kl1_pool::Meter;
 use std::sync::atomic::{AtomicBool, AtomicU64, Ordering};
 use std::sync::{Condvar, Mutex, Wait};
@@ -43,6 +46,13 @@ struct Orders {
     is_used: bool,
 }
 
+/// Whether who was let in by keys of an edition may do something to an account that is there or isn't, and has its key since an edition.
+fn lets_in(is_open: bool, since: u64, edition: u64) -> bool
+    ensures { result ≡ lets_in is_open since edition }
+{
+    is_open && since <= edition
+}
+
 /// A place of a host for an account.
 #[derive(Drop)]
 pub struct AccountPlace {
@@ -78,7 +88,9 @@ impl AccountPlace {
 
     /// Whether a connection with this edition of keys may do something to the account.
     pub(crate) fn lets_in(&self, edition: u64) -> bool {
-        self.is_open.load(Ordering::SeqCst) && edition >= self.since.load(Ordering::SeqCst)
+        // Whether it is there is looked at first: it is open only since it has this key or an older one.
+        let is_open = self.is_open.load(Ordering::SeqCst);
+        lets_in(is_open, self.since.load(Ordering::SeqCst), edition)
     }
 
     /// Whether the account is there.

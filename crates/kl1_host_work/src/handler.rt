@@ -57,11 +57,12 @@ fn is_logout(command: &Command) -> bool
     matches!(command, Command::Does(Event::Logout))
 }
 
-/// Whether a command is answered as if memory was refused, of an account that is stopped or isn't, and may load `left` bytes of sources.
-fn is_refused(command: &Command, is_stopped: bool, left: u64) -> bool
-    ensures { result ≡ is_refused (command_view command.now) is_stopped left }
+/// Whether a command is answered as if memory was refused, of an account that lets in who is served or doesn't, is stopped or isn't, and may load
+/// `left` bytes of sources.
+fn is_refused(command: &Command, lets_in: bool, is_stopped: bool, left: u64) -> bool
+    ensures { result ≡ is_refused (command_view command.now) lets_in is_stopped left }
 {
-    !is_logout(command) && (is_stopped || left < source_bytes(command) as u64)
+    !is_logout(command) && (!lets_in || is_stopped || left < source_bytes(command) as u64)
 }
 
 /// What an account is called by these keys.
@@ -85,11 +86,11 @@ impl<'p, 't, W: Wait, R: Wait, K: PoolIds + Naming, C: Connecting + Names> HostH
     K,
     C,
 > {
-    /// Whether a command is answered as if memory was refused: the account is stopped, or it has loaded what it may.
+    /// Whether a command is answered as if memory was refused: the account isn't there, or has another key than who is served, it is stopped, or it
+    /// has loaded what it may.
     fn is_refused(&self, account: usize, command: &Command) -> bool {
-        // So is one that isn't there, or for which the connection's keys are too old.
         let is_stopped = match self.host.keeper(account) {
-            Some(keeper) => keeper.on_disk().is_stopped() || !self.host.lets_in(account),
+            Some(keeper) => keeper.on_disk().is_stopped(),
             None => true,
         };
         let left = self.left(account, command);
@@ -98,7 +99,7 @@ impl<'p, 't, W: Wait, R: Wait, K: PoolIds + Naming, C: Connecting + Names> HostH
         {
             sources.refuse();
         }
-        is_refused(command, is_stopped, left)
+        is_refused(command, self.host.lets_in(account), is_stopped, left)
     }
 
     /// How many bytes of sources an account may still load, without end if it has loaded just this one before.

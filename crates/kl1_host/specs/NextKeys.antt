@@ -1,0 +1,46 @@
+-- The next edition of the keys of a host's accounts.
+use Rattle.std.specs.Prelude.{◌≡◌, ℕ, ◌+◌, ◌-◌, Bool, true, false, ◌&&◌, not, if◌then◌else◌, List, [], ◌∷◌, ◌++◌, length, take, map, filter, bytes_eq, Option, Some, None, is_some}
+use Rattle.kl1_session.specs.Files.{Entry}
+use Rattle.kl1_session.specs.Views.{entries_view}
+use Rattle.kl1_host.specs.declared.next_keys.NextKeys.{NextKeys}
+
+-- what stands at a place whose account was removed
+abbrev pub nobody : Entry
+nobody = record { name = []; key = [] }
+
+-- whether an account stands at a place
+abbrev pub is_there : Entry → Bool
+is_there e = not (bytes_eq e.name [])
+
+-- the entry of a name
+abbrev pub named : List Entry → List ℕ → Option Entry
+named [] name = None
+named (e ∷ es) name = if bytes_eq e.name name then Some e else named es name
+
+-- what stands at a place next: what is wanted of the account that stands there, or nobody
+abbrev pub next_at : List Entry → Entry → Entry
+next_at wanted e = if is_there e then elim (named wanted e.name) [ None ↦ nobody | Some w ↦ w ] else nobody
+
+-- whether the account of a place is to have another key, or none
+abbrev pub is_rekeyed : List Entry → Entry → Bool
+is_rekeyed wanted e = is_there e && elim (named wanted e.name) [ None ↦ false | Some w ↦ not (bytes_eq w.key e.key) ]
+
+abbrev pub is_removed : List Entry → Entry → Bool
+is_removed wanted e = is_there e && not (is_some (named wanted e.name))
+
+-- those that are wanted and have no place
+abbrev pub newcomers : List Entry → List Entry → List Entry
+newcomers now wanted = filter (λ w. not (is_some (named now w.name))) wanted
+
+-- the numbers of the places whose entries pass a test, the first of which has this number
+abbrev pub places_where : (Entry → Bool) → ℕ → List Entry → List ℕ
+places_where test n [] = []
+places_where test n (e ∷ es) = if test e then n ∷ places_where test (n + 1) es else places_where test (n + 1) es
+
+-- the next edition, if these accounts are wanted and there are so many places: each account that stays has its place, those that come have the
+-- places after it as far as there are some, and nobody has the place of another
+pub record IsNext (now wanted : List Entry) (places : ℕ) (next : NextKeys) : Type 0 where
+  pub keys : entries_view next.keys.items ≡ map (next_at wanted) now ++ take (places - length now) (newcomers now wanted)
+  pub rekeyed : next.rekeyed.items ≡ places_where (is_rekeyed wanted) 0 now
+  pub removed : next.removed.items ≡ places_where (is_removed wanted) 0 now
+  pub added : next.added.items ≡ places_where (λ e. true) (length now) (take (places - length now) (newcomers now wanted))
