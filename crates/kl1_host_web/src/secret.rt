@@ -34,17 +34,18 @@ fn encoded(bytes: &[u8]) -> Option<[u8; SECRET_BYTES]>
     }
 }
 
-/// A session of an account that begins now, opened by the key of this mark. Its name and its token are two parts of one text that nobody can guess, so who knows the one
-/// doesn't know the other. `None` if the machine gives no randomness.
+/// A session of an account that begins now, opened by the key that stands there. Its name and its token are two parts of one text that nobody can guess, so who knows the one
+/// doesn't know the other. `None` if the machine gives no randomness, or if no key stands there.
 pub(crate) fn new_session<M: Machine>(
     machine: &M,
     account: usize,
-    mark: [u8; MARK_BYTES],
+    keys: &[Key],
 ) -> Option<WebSession>
     ensures account { IfSome result (λ session. session.account ≡ account) }
-    ensures mark { IfSome result (λ session. session.mark ≡ mark.entry) }
+    ensures mark { IfSome result (λ session. session.mark ≡ mark_at (entries_view keys.now) account) }
     ensures drawn { IfSome result (IsDrawn (M.gives machine.now)) }
 {
+    let mark = mark_of(keys, account)?;
     let mut random = [0u8; 2 * RANDOM_BYTES];
     if !machine.fill(&mut random) {
         return None;
@@ -63,7 +64,7 @@ pub(crate) fn new_session<M: Machine>(
 }
 
 /// The mark of the key of an account; `None` if that has none.
-pub(crate) fn mark_of(keys: &[Key], account: usize) -> Option<[u8; MARK_BYTES]>
+fn mark_of(keys: &[Key], account: usize) -> Option<[u8; MARK_BYTES]>
     ensures { IfSome result (λ mark. mark ≡ mark_at (entries_view keys.now) account) }
 {
     let mark = mark_at(keys, account);

@@ -21,7 +21,7 @@ use crate::granting::grant;
 use crate::incoming::{Inbox, Incoming};
 use crate::json::{refused, told_session};
 use crate::outcome::Outcome;
-use crate::secret::{mark_of, new_session};
+use crate::secret::new_session;
 use crate::site::{Machine, Page};
 use crate::wish::wish_of;
 use kl1_command::Command;
@@ -155,14 +155,8 @@ impl<'p, R: Wait, M: Machine, K: LoginKeys> Service<'p, R, M, K> {
         let since = now.saturating_sub(self.page.idle);
         let mut guard = self.page.sessions.lock(self.rt);
         let book = &mut *guard;
-        let (allowed, change) = book.admit(
-            head,
-            self.page.sites,
-            self.is_local,
-            since,
-            accounts.keys(),
-            now,
-        );
+        let (sites, keys) = (self.page.sites, accounts.keys());
+        let (allowed, change) = book.admit(head, sites, self.is_local, since, keys, now);
         accounts.note_change(change);
         allowed
     }
@@ -175,14 +169,8 @@ impl<'p, R: Wait, M: Machine, K: LoginKeys> Service<'p, R, M, K> {
         let since = self.machine.seconds().saturating_sub(self.page.idle);
         let guard = self.page.sessions.lock(self.rt);
         let book = &*guard;
-        book.may_send(
-            head,
-            self.page.sites,
-            self.is_local,
-            since,
-            accounts.keys(),
-            count,
-        )
+        let (sites, keys) = (self.page.sites, accounts.keys());
+        book.may_send(head, sites, self.is_local, since, keys, count)
     }
 
     /// Ends the sessions of an account whose browsers made no request for too long: each is taken out of the book and logged out, until there
@@ -225,8 +213,7 @@ impl<'p, R: Wait, M: Machine, K: LoginKeys> Service<'p, R, M, K> {
         ensures house { A.house accounts.new ≡ A.house accounts.old }
         ensures asked { Begun (M.gives self.now.machine.now) (A.house accounts.old).names account (A.asked accounts.old) (A.asked accounts.new) result }
     {
-        let mark = mark_of(accounts.keys(), account);
-        let Some(session) = mark.and_then(|mark| new_session(self.machine, account, mark)) else {
+        let Some(session) = new_session(self.machine, account, accounts.keys()) else {
             let _ = accounts.act(account, &Command::Does(Event::Logout));
             return refused(self.alloc, Refusal::Memory);
         };

@@ -4,13 +4,14 @@ ghost use Rattle.std.specs.Prelude.{◌≡◌, ◌<◌, ℕ, List, [], ◌++◌,
 ghost use Rattle.kl1_command.specs.Commands.{command_view};
 ghost use Rattle.kl1_command.specs.declared.performed.Performed.TheVariants.{Memory};
 ghost use Rattle.kl1_journal_stamps.specs.Stamps.{StampValue};
+ghost use Rattle.kl1_pool.specs.Answers.{IsGiven};
 ghost use Rattle.kl1_pool.specs.Names.{called_at};
 ghost use Rattle.kl1_pool.specs.Showing.{IsShownAfter};
 ghost use Rattle.kl1_pool_history.specs.Entries.{done_of};
 ghost use Rattle.kl1_pool_history.specs.Histories.{AreAnswered};
 
 use kl1_command::{Command, Performed};
-use kl1_pool::{JournalReader, Names, Pool, PoolIds, Share};
+use kl1_pool::{Answer, JournalReader, Names, Pool, PoolIds, Share};
 use logbook::{Opening, Rule, Seen, Start};
 use std::marker::{Model, PhantomData};
 use std::snapshot::Snapshot;
@@ -86,6 +87,22 @@ fn with_entry(
     seen
 }
 
+/// What was seen, and then an answer, of which is noted what it says of itself, not what was asked for; and what became of its command.
+fn with_answer<K: PoolIds, N: Names>(
+    seen: &Seen<Entry, (), Unruled>,
+    answer: Answer<K, N>,
+) -> (Seen<Entry, (), Unruled>, Performed)
+    ensures noted { map done_of result.0.log ≡ map done_of seen.now.log ++ record { account = answer.account; command = answer.command; answer = answer.performed } ∷ [] }
+    ensures performed { result.1 ≡ answer.performed }
+    ensures given { IsGiven K.rules (called_at N.names answer.account) answer.command answer.performed }
+{
+    // Called for the fact that it proves: an account of the pool gives this answer to this command.
+    answer.shows_given();
+    let (performed, done_to, done) = answer.into_parts();
+    let seen = with_entry(seen, done_to, done, &performed);
+    (seen, performed)
+}
+
 /// What was done for one connection, to accounts called as N says, in order, with the share in which it was counted. Nothing comes to it but what `act` has a pool do,
 /// and what `refuse` refuses. Which commands were done has no bytes, so only a contract can tell it.
 #[derive(Drop)]
@@ -101,6 +118,7 @@ impl<K: PoolIds, N: Names> Model for History<K, N> {
     ghost use Rattle.std.specs.Coded.{codes};
     ghost use Rattle.kl1_model.specs.code.TermCode.{term_code};
     ghost use Rattle.kl1_journal_stamps.specs.Stamps.{StampValue};
+    ghost use Rattle.kl1_pool.specs.Answers.{IsGiven};
     ghost use Rattle.kl1_pool.specs.Names.{called_at};
     ghost use Rattle.kl1_pool.specs.Showing.{IsShownAfter};
     ghost use Rattle.kl1_pool_history.specs.Entries.{done_of};
@@ -145,11 +163,8 @@ impl<K: PoolIds, N: Names> History<K, N> {
         ensures done { self.new.done ≡ self.old.done ++ record { account = account; command = command_view command.now; answer = result } ∷ [] }
     {
         let answer = pool.act::<N, W>(rt, account, name, command, &mut self.share);
-        // Called for the fact that it proves: an account of the pool gives this answer to this command.
-        answer.shows_given();
-        // What is noted is what the answer says of itself, not what was asked for.
-        let (performed, done_to, done) = answer.into_parts();
-        self.seen = with_entry(&self.seen, done_to, done, &performed);
+        let (seen, performed) = with_answer(&self.seen, answer);
+        self.seen = seen;
         performed
     }
 
@@ -179,10 +194,8 @@ impl<K: PoolIds, N: Names> History<K, N> {
             &mut self.share,
             reader,
         );
-        // As in `act`.
-        answer.shows_given();
-        let (performed, done_to, done) = answer.into_parts();
-        self.seen = with_entry(&self.seen, done_to, done, &performed);
+        let (seen, performed) = with_answer(&self.seen, answer);
+        self.seen = seen;
         (performed, is_shown)
     }
 
