@@ -1,5 +1,5 @@
 -- What the entries of a journal do to an account, one after another, and how a restore ends.
-use Rattle.std.specs.Prelude.{◌≡◌, ℕ, ◌+◌, ◌≤◌, ◌⊎◌, true, false, if◌then◌else◌, List, [], ◌∷◌, length, take, drop, fold, IsTrue}
+use Rattle.std.specs.Prelude.{◌≡◌, ℕ, ◌+◌, ◌≤◌, ◌⊎◌, Bool, true, false, if◌then◌else◌, List, [], ◌∷◌, length, take, drop, fold, IsTrue}
 use Rattle.kl1_model.specs.declared.rules.Rules.{Rules}
 use Rattle.kl1_model.specs.State.{State}
 use Rattle.kl1_model.specs.Event.{Reply, ran, is_refused}
@@ -37,6 +37,17 @@ run_length (steps goal clause) = 0
 run_length (answers n report t) = 0
 run_length (runs n) = n
 
+-- so many first steps, all of them done, lead from one account to another
+abbrev pub Leads : State → ℕ → State → Type 0
+Leads s n after = first_steps n s ≡ record { state = after; reply = ran n }
+
+-- whether all steps are done that were asked for
+abbrev pub is_done : FirstStep → Bool
+is_done first_step.Done = true
+is_done first_step.Quiet = false
+is_done (first_step.Refused r) = false
+is_done first_step.Memory = false
+
 -- an entry is what is next, and `k` first steps were done that it has
 abbrev pub IsNext : List Entry → ℕ → Type 0
 IsNext [] k = ⊥
@@ -58,13 +69,13 @@ IsEndAt ending.Full s es k = IsNext es k
 pub record IsRestored (s : State) (es : List Entry) (r : Restored) (after : State) : Type 0 where
   pub few : r.entries ≤ length es
   pub accepted : IsTrue (are_accepted s (take r.entries es))
-  pub steps : first_steps r.steps (after_entries s (take r.entries es)) ≡ record { state = after; reply = ran r.steps }
+  pub steps : Leads (after_entries s (take r.entries es)) r.steps after
   pub ended : IsEndAt r.end (after_entries s (take r.entries es)) (drop r.entries es) r.steps
 
 -- an entry was done whole, or so many first steps of it were
 abbrev pub IsEntryDone : State → Entry → EntryResult → State → Type 0
 IsEntryDone s e result.Whole after = (is_refused (entry_step s e).reply ≡ false) × (after ≡ (entry_step s e).state)
-IsEntryDone s e (result.Stopped k end) after = (first_steps k s ≡ record { state = after; reply = ran k }) × IsEndAt end s (e ∷ []) k
+IsEntryDone s e (result.Stopped k end) after = Leads s k after × IsEndAt end s (e ∷ []) k
 
 -- what became of an entry to which this is the reply
 abbrev pub result_by : Reply → EntryResult

@@ -1,6 +1,6 @@
 // Doing the entries of a journal to an account.
 
-ghost use Rattle.std.specs.Prelude.{◌≡◌, take, Some, IfOk, IsTrue, false};
+ghost use Rattle.std.specs.Prelude.{◌≡◌, ◌≤◌, take, Some, IfOk, IsTrue, false};
 ghost use Rattle.kl1_model.specs.State.{has_runs};
 ghost use Rattle.kl1_model_server.specs.Journal.{Entry as Entered, runs};
 ghost use Rattle.kl1_user_events.specs.Views.{event_of, reply_of};
@@ -8,9 +8,10 @@ ghost use Rattle.kl1_journal_entries.specs.Found.{deed_in};
 ghost use Rattle.kl1_journal_entries.specs.Lined.{entry_of};
 ghost use Rattle.kl1_journal_entries.specs.Shown.{entry_shown};
 ghost use Rattle.kl1_journal_entries.specs.Slots.{goal_in};
-ghost use Rattle.kl1_command.specs.Told.{Told};
+ghost use Rattle.kl1_command.specs.Told.{Told, told_steps};
+ghost use Rattle.kl1_command.specs.Stepping.{IsEnd};
 ghost use Rattle.kl1_command.specs.Room.{HasRoomFor};
-ghost use Rattle.kl1_pool.specs.Restoring.{IsEntryDone, IsRestored, result_by, result_of_run, told_entry, told_of, told_sum};
+ghost use Rattle.kl1_pool.specs.Restoring.{is_done, Leads, IsEntryDone, IsRestored, result_by, result_of_run, told_entry, told_of, told_sum};
 
 use kl1_command::{FirstStep, Host, Steps, run_steps};
 use kl1_journal_entries::{Deed, Entry, Journal};
@@ -187,34 +188,49 @@ fn restore_event<H: RestoringHost>(host: &mut H, event: &Event) -> EntryResult
     }
 }
 
-/// First steps until `reductions` are done, in pieces, between which the meter is asked.
-fn run_pieces<H: RestoringHost, M: Meter>(host: &mut H, meter: &M, reductions: u64) -> EntryResult
-    ensures does { (f : H.Reading) → H.fits host.new f → IsEntryDone (H.kept f host.old).state (runs reductions) result (H.kept f host.new).state }
-    ensures counted { (f : H.Reading) → H.fits host.new f → H.counted host.old (told_entry (runs reductions) result) host.new }
+/// Whether all steps are done that were asked for.
+fn is_done(last: FirstStep) -> bool
+    ensures { result ≡ is_done last }
+{
+    match last {
+        FirstStep::Done => true,
+        _ => false,
+    }
+}
+
+/// Like `run_steps`, in pieces, between which the meter is asked: if it ends them, that is told as want of memory.
+fn metered_steps<H: RestoringHost, M: Meter>(host: &mut H, meter: &M, most: u64) -> Steps
+    requires { HasRoomFor most (H.room host.old) }
+    ensures few { result.done ≤ most }
+    ensures goes { (f : H.Reading) → H.fits host.new f → Leads (H.kept f host.old).state result.done (H.kept f host.new).state }
+    ensures last { (f : H.Reading) → H.fits host.new f → IsEnd most result.done result.last (H.kept f host.new) }
+    ensures counted { H.counted host.old (told_steps result.done) host.new }
     ensures before { (f : H.Reading) → H.fits host.new f → H.fits host.old f }
     ensures beside { H.beside host.new ≡ H.beside host.old }
 {
-    let mut done = 0u64;
-    for _ in 0..u64::MAX {
-        let piece = STEPS_A_PIECE.min(reductions - done);
+    let mut done = 0;
+    while done < most {
+        let piece = STEPS_A_PIECE.min(most - done);
         let run = run_steps(host, piece);
         done += run.done;
-        match result_of_run(run) {
-            EntryResult::Whole => {}
-            EntryResult::Stopped { end, .. } => return EntryResult::Stopped { steps: done, end },
+        if !(is_done(run.last) && done < most) {
+            return Steps {
+                done,
+                last: run.last,
+            };
         }
-        // What is the run's last piece is told with its entry.
-        if done >= reductions {
-            return EntryResult::Whole;
-        }
+        // What is the last piece is told with its entry.
         if !meter.goes_on(piece) {
-            return EntryResult::Stopped {
-                steps: done,
-                end: RestoreEnd::Memory,
+            return Steps {
+                done,
+                last: FirstStep::Memory,
             };
         }
     }
-    EntryResult::Whole
+    Steps {
+        done,
+        last: FirstStep::Done,
+    }
 }
 
 /// Does a run.
@@ -236,7 +252,8 @@ fn restore_run<H: RestoringHost, M: Meter>(host: &mut H, meter: &M, reductions: 
             end: RestoreEnd::Full,
         };
     }
-    run_pieces(host, meter, reductions)
+    let run = metered_steps(host, meter, reductions);
+    result_of_run(run)
 }
 
 /// Does what an entry asks for.
