@@ -172,7 +172,7 @@ impl<'t, R: Wait, K: PoolIds> Pool<'t, R, K> {
         match mem::replace(&mut *slot.tenant, None) {
             Some(Tenant::Nobody(place)) => {
                 let (tenant, restored, due) = self.admitted(
-                    alloc, place, account, name, journal, comer, share,
+                    alloc, place, account, name, comer, share,
                 );
                 *slot.tenant = Some(tenant);
                 drop(guard);
