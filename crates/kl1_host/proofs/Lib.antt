@@ -1,4 +1,3 @@
 pub mod Cutting
 pub mod Doors
-pub mod FilesOfKeys
 pub mod Browsing

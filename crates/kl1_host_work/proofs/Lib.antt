@@ -4,5 +4,3 @@ pub mod Notices
 pub mod OpenedByName
 pub mod OwnHistories
 pub mod Restarts
-pub mod Shelves
-pub mod UsedNames

@@ -66,6 +66,7 @@ fn is_refused(command: &Command, lets_in: bool, is_stopped: bool, left: u64) -> 
 }
 
 /// What an account is called by these keys.
+#[tactic(auto, using(crate::proofs::NamesInOrder::name_at))]
 fn name_at(keys: &[Key], account: usize) -> &[u8]
     requires { account < length keys.now }
     ensures { slice_get (names_in (entries_view keys.now)) account ≡ Some result.now }
