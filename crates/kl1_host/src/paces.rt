@@ -7,6 +7,8 @@ use std::time::Clock;
 /// Lines that are told once a second at most.
 #[derive(Clone, Copy)]
 pub enum PacedLine {
+    /// An address has too many connections.
+    TurnedAway,
     /// No thread could be made for a connection.
     Unserved,
     /// A connection gave way to another.
@@ -16,6 +18,7 @@ pub enum PacedLine {
 /// How often each of these lines is told.
 #[derive(Drop)]
 pub struct Paces {
+    turned_away: Mutex<Pace>,
     unserved: Mutex<Pace>,
     gave_way: Mutex<Pace>,
 }
@@ -24,6 +27,7 @@ impl Paces {
     /// None was told.
     pub fn new() -> Self {
         Paces {
+            turned_away: Mutex::new(Pace::new()),
             unserved: Mutex::new(Pace::new()),
             gave_way: Mutex::new(Pace::new()),
         }
@@ -32,6 +36,7 @@ impl Paces {
     /// How often this line is told.
     fn pace_of(&self, line: PacedLine) -> &Mutex<Pace> {
         match line {
+            PacedLine::TurnedAway => &self.turned_away,
             PacedLine::Unserved => &self.unserved,
             PacedLine::GaveWay => &self.gave_way,
         }

@@ -391,7 +391,9 @@ where
                 self.note_arrival(account, false);
             }
             HostEvent::Opened(_) => {}
-            HostEvent::TurnedAway(address) => self.log.tell_of(b"turned_away", address, &[]),
+            HostEvent::TurnedAway(address) => {
+                self.tell_paced(PacedLine::TurnedAway, b"turned_away", address)
+            }
             HostEvent::Unserved(address) => {
                 self.tell_paced(PacedLine::Unserved, b"no_thread", address)
             }

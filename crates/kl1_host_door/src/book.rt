@@ -34,9 +34,8 @@ pub enum BookStep {
     Looks,
 }
 
-/// What was done to the sessions that `K` stands for, and which were open before. Only a `SessionBook` makes one. It has no bytes, so only
-/// contracts see what it tells.
-#[derive(Drop)]
+/// What was done to the sessions that `K` stands for, and which were open before. Only a `SessionBook` makes one, and it can't be dropped: who
+/// has something done to the book notes it. It has no bytes, so only contracts see what it tells.
 pub struct BookChange<K: LoginKeys> {
     pub step: Snapshot<BookStep>,
     pub before: Snapshot<Vec<WebSession>>,

@@ -30,16 +30,16 @@ use Rattle.kl1_host_web.specs.declared.outcome.Outcome.{Outcome}
 use Rattle.kl1_host_web.proofs.Coming.{consumes_both, consumed_front}
 
 -- the session of an account was closed again, and the answer refuses
-pub begun_refused : (gives : List ℕ → Type 0) (names : ℕ → List ℕ) (account : ℕ) (before after : List Asked) (answer : Performed) (why : Refusal) (result : Result Answer AllocError) → after ≡ before ++ did account (does event.logout) answer ∷ [] → IfOk result (IsRefusal why) → Begun gives names account before after result
-begun_refused gives names account before after answer why result e h = inr (inr (record { answer = answer; asked = e; kept = refusal_keeps why result h }))
+pub begun_refused : (tells : ℕ → Type 0) (gives : List ℕ → Type 0) (names : ℕ → List ℕ) (account : ℕ) (before after : List Asked) (answer : Performed) (why : Refusal) (result : Result Answer AllocError) → after ≡ before ++ did account (does event.logout) answer ∷ [] → IfOk result (IsRefusal why) → Begun tells gives names account before after result
+begun_refused tells gives names account before after answer why result e h = inr (inr (record { answer = answer; asked = e; kept = refusal_keeps why result h }))
 
 -- the session of an account was closed again, without memory for an answer
-pub begun_failed : (gives : List ℕ → Type 0) (names : ℕ → List ℕ) (account : ℕ) (before after : List Asked) (answer : Performed) (error : AllocError) → after ≡ before ++ did account (does event.logout) answer ∷ [] → Begun gives names account before after (Err error)
-begun_failed gives names account before after answer error e = inr (inr (record { answer = answer; asked = e; kept = tt }))
+pub begun_failed : (tells : ℕ → Type 0) (gives : List ℕ → Type 0) (names : ℕ → List ℕ) (account : ℕ) (before after : List Asked) (answer : Performed) (error : AllocError) → after ≡ before ++ did account (does event.logout) answer ∷ [] → Begun tells gives names account before after (Err error)
+begun_failed tells gives names account before after answer error e = inr (inr (record { answer = answer; asked = e; kept = tt }))
 
 -- there was no room for the session
-pub begun_full : (gives : List ℕ → Type 0) (names : ℕ → List ℕ) (account : ℕ) (before middle after : List Asked) (session : WebSession) (others : List WebSession) (v : Bool) (answer : Performed) (why : Refusal) (result : Result Answer AllocError) → session.account ≡ account → v ≡ false → v ≡ has_room others → middle ≡ before ++ changed (Adds session) others ∷ [] → after ≡ middle ++ did account (does event.logout) answer ∷ [] → IfOk result (IsRefusal why) → Begun gives names account before after result
-begun_full gives names account before middle after session others v answer why result of_account e room noted closed h = inr (inl (record {
+pub begun_full : (tells : ℕ → Type 0) (gives : List ℕ → Type 0) (names : ℕ → List ℕ) (account : ℕ) (before middle after : List Asked) (session : WebSession) (others : List WebSession) (v : Bool) (answer : Performed) (why : Refusal) (result : Result Answer AllocError) → session.account ≡ account → v ≡ false → v ≡ has_room others → middle ≡ before ++ changed (Adds session) others ∷ [] → after ≡ middle ++ did account (does event.logout) answer ∷ [] → IfOk result (IsRefusal why) → Begun tells gives names account before after result
+begun_full tells gives names account before middle after session others v answer why result of_account e room noted closed h = inr (inl (record {
   session = session;
   others = others;
   answer = answer;
@@ -50,8 +50,8 @@ begun_full gives names account before middle after session others v answer why r
 }))
 
 -- the session is there, and the browser is told of it
-pub begun_told : (gives : List ℕ → Type 0) (names : ℕ → List ℕ) (account : ℕ) (before after : List Asked) (session : WebSession) (others : List WebSession) (v : Bool) (answer : Answer) → session.account ≡ account → IsDrawn gives session → v ≡ true → v ≡ has_room others → after ≡ before ++ changed (Adds session) others ∷ [] → IsWelcome names session answer → Begun gives names account before after (Ok answer)
-begun_told gives names account before after session others v answer of_account drawn e room noted told = inl (record {
+pub begun_told : (tells : ℕ → Type 0) (gives : List ℕ → Type 0) (names : ℕ → List ℕ) (account : ℕ) (before after : List Asked) (session : WebSession) (others : List WebSession) (v : Bool) (answer : Answer) → session.account ≡ account → IsDrawn tells gives session → v ≡ true → v ≡ has_room others → after ≡ before ++ changed (Adds session) others ∷ [] → IsWelcome names session answer → Begun tells gives names account before after (Ok answer)
+begun_told tells gives names account before after session others v answer of_account drawn e room noted told = inl (record {
   session = session;
   others = others;
   answer = answer;
@@ -64,8 +64,8 @@ begun_told gives names account before after session others v answer of_account d
 })
 
 -- a wish was granted, and what was still to do was done
-pub performs : (gives : List ℕ → Type 0) (house : House) (a : Allowed) (path body : List ℕ) (w : Wish) (before middle after : List Asked) (o : Result Outcome AllocError) (result : Result Answer AllocError) → IsWish a body w → Grants house path (wish_view w) before middle o → Ends gives house.names a o middle after result → Performs gives house a path body before after result
-performs gives house a path body w before middle after o result wish grants ends = record {
+pub performs : (tells : ℕ → Type 0) (gives : List ℕ → Type 0) (house : House) (a : Allowed) (path body : List ℕ) (w : Wish) (before middle after : List Asked) (o : Result Outcome AllocError) (result : Result Answer AllocError) → IsWish a body w → Grants house path (wish_view w) before middle o → Ends tells gives house.names a o middle after result → Performs tells gives house a path body before after result
+performs tells gives house a path body w before middle after o result wish grants ends = record {
   value = wish.0;
   reads = wish.1;
   outcome = o;
@@ -75,17 +75,17 @@ performs gives house a path body w before middle after o result wish grants ends
 }
 
 -- what is known of a request to an account that there is
-pub within : (gives : List ℕ → Type 0) (house : House) (a : Allowed) (path body : List ℕ) (before after : List Asked) (result : Result Answer AllocError) (v : Bool) → v ≡ true → Performs gives house a path body before after result → AnswersWithin gives v house a path body before after result
-within gives house a path body before after result v e p = subst (λ x. AnswersWithin gives x house a path body before after result) (sym e) (inr p)
+pub within : (tells : ℕ → Type 0) (gives : List ℕ → Type 0) (house : House) (a : Allowed) (path body : List ℕ) (before after : List Asked) (result : Result Answer AllocError) (v : Bool) → v ≡ true → Performs tells gives house a path body before after result → AnswersWithin tells gives v house a path body before after result
+within tells gives house a path body before after result v e p = subst (λ x. AnswersWithin tells gives x house a path body before after result) (sym e) (inr p)
 
-pub fails : (gives : List ℕ → Type 0) (house : House) (a : Allowed) (path body : List ℕ) (before after : List Asked) (result : Result Answer AllocError) (v : Bool) → v ≡ true → after ≡ before → IsErr result → AnswersWithin gives v house a path body before after result
-fails gives house a path body before after result v e same err = subst (λ x. AnswersWithin gives x house a path body before after result) (sym e) (inl (record { asked = same; fails = err }))
+pub fails : (tells : ℕ → Type 0) (gives : List ℕ → Type 0) (house : House) (a : Allowed) (path body : List ℕ) (before after : List Asked) (result : Result Answer AllocError) (v : Bool) → v ≡ true → after ≡ before → IsErr result → AnswersWithin tells gives v house a path body before after result
+fails tells gives house a path body before after result v e same err = subst (λ x. AnswersWithin tells gives x house a path body before after result) (sym e) (inl (record { asked = same; fails = err }))
 
-pub denied : (gives : List ℕ → Type 0) (house : House) (a : Allowed) (path body : List ℕ) (before after : List Asked) (result : Result Answer AllocError) (v : Bool) → v ≡ false → after ≡ before → IfOk result (IsRefusal refusal.Nobody) → AnswersWithin gives v house a path body before after result
-denied gives house a path body before after result v e same why = subst (λ x. AnswersWithin gives x house a path body before after result) (sym e) (record { asked = same; refusal = why })
+pub denied : (tells : ℕ → Type 0) (gives : List ℕ → Type 0) (house : House) (a : Allowed) (path body : List ℕ) (before after : List Asked) (result : Result Answer AllocError) (v : Bool) → v ≡ false → after ≡ before → IfOk result (IsRefusal refusal.Nobody) → AnswersWithin tells gives v house a path body before after result
+denied tells gives house a path body before after result v e same why = subst (λ x. AnswersWithin tells gives x house a path body before after result) (sym e) (record { asked = same; refusal = why })
 
 -- a request was attended to by sessions that were open
-pub attended : (tells : ℕ → Type 0) (gives : List ℕ → Type 0) (idle : ℕ) (house : House) (opens : Opens) (sites : List Site) (is_local : Bool) (head : Head) (body : List ℕ) (before admitted after : List Asked) (result : Result Answer AllocError) (r : Result Allowed Refusal) → house.opens ≡ opens → Admits tells opens idle sites is_local head before admitted r → Answers gives house r head.target.items body admitted after result → Attends tells gives idle house sites is_local head body before after result
+pub attended : (tells : ℕ → Type 0) (gives : List ℕ → Type 0) (idle : ℕ) (house : House) (opens : Opens) (sites : List Site) (is_local : Bool) (head : Head) (body : List ℕ) (before admitted after : List Asked) (result : Result Answer AllocError) (r : Result Allowed Refusal) → house.opens ≡ opens → Admits tells opens idle sites is_local head before admitted r → Answers tells gives house r head.target.items body admitted after result → Attends tells gives idle house sites is_local head body before after result
 attended tells gives idle house opens sites is_local head body before admitted after result r keys admits answers = record {
   admitted = admitted;
   may_have = r;
@@ -120,13 +120,13 @@ no_body head why old middle comes e = record {
 }
 
 -- a head whose body isn't read
-pub kept_out : (tells : ℕ → Type 0) (idle : ℕ) (house : House) (opens : Opens) (sites : List Site) (is_local : Bool) (head : Head) (n : ℕ) (why : Refusal) (o : Result Bool Refusal) (old middle : Option (List ℕ)) → house.opens ≡ opens → HasHead head old middle → body_bytes head ≡ Ok n → o ≡ Err why → LooksAt tells opens idle sites is_local head n o → KeepsOut tells house.opens idle sites is_local why old
+pub kept_out : (tells : ℕ → Type 0) (idle : ℕ) (house : House) (opens : Opens) (sites : List Site) (is_local : Bool) (head : Head) (n : ℕ) (why : Refusal) (o : Result Bool Refusal) (old middle : Option (List ℕ)) → house.opens ≡ opens → HasHead head old middle → body_bytes head ≡ Ok n → o ≡ Err why → LooksAt tells opens idle sites is_local head n o → KeepsOut tells house.opens idle sites is_local why old middle
 kept_out tells idle house opens sites is_local head n why o old middle keys comes told refused looks = record {
   bytes = comes.bytes;
   head = head;
   count = n;
-  front = consumed_front old middle comes.bytes comes.consumes;
   is = comes.is;
+  consumes = comes.consumes;
   told = told;
   looks = subst (λ (p : Opens). LooksAt tells p idle sites is_local head n (Err why)) (sym keys) (subst (λ w. LooksAt tells opens idle sites is_local head n w) refused looks);
 }

@@ -17,12 +17,14 @@ use Rattle.kl1_host_door.specs.Books.{has_room}
 use Rattle.kl1_host_web.specs.Asking.{Asked, did, changed}
 use Rattle.kl1_host_web.specs.Telling.{KeepsCookie, shown}
 
--- the name and the token of a session are two parts of bytes that a machine gave, each in base64
-pub record IsDrawn (gives : List ℕ → Type 0) (session : WebSession) : Type 0 where
+-- the name and the token of a session are two parts of bytes that a machine gave, each in base64, and it counts as asked for last at a second
+-- that the machine told
+pub record IsDrawn (tells : ℕ → Type 0) (gives : List ℕ → Type 0) (session : WebSession) : Type 0 where
   pub bytes : List ℕ
   pub given : gives bytes
   pub id : session.id ≡ encode_of url_safe_no_pad (take 24 bytes)
   pub token : session.token ≡ encode_of url_safe_no_pad (drop 24 bytes)
+  pub told : tells session.last
 
 -- what a browser is told of a session that begins: its cookie is the session's name, and the text tells its token, beside what its account is called
 pub record IsWelcome (names : ℕ → List ℕ) (session : WebSession) (answer : Answer) : Type 0 where
@@ -31,12 +33,12 @@ pub record IsWelcome (names : ℕ → List ℕ) (session : WebSession) (answer :
   pub text : answer.body.items ≡ compact_text (object (member (codes "name") (string (shown (names session.account))) (member (codes "token") (string (shown session.token)) no_members)))
 
 -- a session of an account begins: it was drawn, there was room for it beside the others, and it was added to them and told
-pub record Begins (gives : List ℕ → Type 0) (names : ℕ → List ℕ) (account : ℕ) (before after : List Asked) (result : Result Answer AllocError) : Type 0 where
+pub record Begins (tells : ℕ → Type 0) (gives : List ℕ → Type 0) (names : ℕ → List ℕ) (account : ℕ) (before after : List Asked) (result : Result Answer AllocError) : Type 0 where
   pub session : WebSession
   pub others : List WebSession
   pub answer : Answer
   pub of_account : session.account ≡ account
-  pub drawn : IsDrawn gives session
+  pub drawn : IsDrawn tells gives session
   pub room : has_room others ≡ true
   pub asked : after ≡ before ++ changed (Adds session) others ∷ []
   pub is : result ≡ Ok answer
@@ -60,6 +62,6 @@ pub record BeginsNot (account : ℕ) (before after : List Asked) (result : Resul
 
 -- what becomes of a login to an account whose session is open: the session of a browser begins; or it doesn't, and then that of the account
 -- is closed again and the browser's cookie stays as it is
-abbrev pub Begun : (List ℕ → Type 0) → (ℕ → List ℕ) → ℕ → List Asked → List Asked → Result Answer AllocError → Type 0
-Begun gives names account before after result =
-    Begins gives names account before after result ⊎ (HasNoRoom account before after result ⊎ BeginsNot account before after result)
+abbrev pub Begun : (ℕ → Type 0) → (List ℕ → Type 0) → (ℕ → List ℕ) → ℕ → List Asked → List Asked → Result Answer AllocError → Type 0
+Begun tells gives names account before after result =
+    Begins tells gives names account before after result ⊎ (HasNoRoom account before after result ⊎ BeginsNot account before after result)

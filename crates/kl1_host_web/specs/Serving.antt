@@ -91,21 +91,21 @@ closing (allowed.Owner id account a) sessions = changed (Takes (test.IsCalled id
 
 -- what is still asked after a request was granted, and its answer: only the session of a browser may still begin, or that by which the
 -- request was let in end
-abbrev pub Ends : (List ℕ → Type 0) → (ℕ → List ℕ) → Allowed → Result Outcome AllocError → List Asked → List Asked → Result Answer AllocError → Type 0
-Ends gives names a (Err e) before after result = (after ≡ before) × IsErr result
-Ends gives names a (Ok (outcome.Told answer)) before after result = (after ≡ before) × (result ≡ Ok answer)
-Ends gives names a (Ok (outcome.Opens account)) before after result = Begun gives names account before after result
-Ends gives names a (Ok (outcome.Closes answer)) before after result =
+abbrev pub Ends : (ℕ → Type 0) → (List ℕ → Type 0) → (ℕ → List ℕ) → Allowed → Result Outcome AllocError → List Asked → List Asked → Result Answer AllocError → Type 0
+Ends tells gives names a (Err e) before after result = (after ≡ before) × IsErr result
+Ends tells gives names a (Ok (outcome.Told answer)) before after result = (after ≡ before) × (result ≡ Ok answer)
+Ends tells gives names a (Ok (outcome.Opens account)) before after result = Begun tells gives names account before after result
+Ends tells gives names a (Ok (outcome.Closes answer)) before after result =
     (sessions : List WebSession) × (after ≡ before ++ closing a sessions) × (result ≡ answer)
 
 -- what a request wants by its body was granted, and it was answered so
-pub record Performs (gives : List ℕ → Type 0) (house : House) (a : Allowed) (path body : List ℕ) (before after : List Asked) (result : Result Answer AllocError) : Type 0 where
+pub record Performs (tells : ℕ → Type 0) (gives : List ℕ → Type 0) (house : House) (a : Allowed) (path body : List ℕ) (before after : List Asked) (result : Result Answer AllocError) : Type 0 where
   pub value : Option Value
   pub reads : IsRead body value
   pub outcome : Result Outcome AllocError
   pub middle : List Asked
   pub grants : Grants house path (wanted a value) before middle outcome
-  pub ends : Ends gives house.names a outcome middle after result
+  pub ends : Ends tells gives house.names a outcome middle after result
 
 -- memory was refused before anything was asked
 pub record Fails (before after : List Asked) (result : Result Answer AllocError) : Type 0 where
@@ -123,14 +123,14 @@ is_within n (allowed.Anyone a) = true
 is_within n (allowed.Owner id account a) = nat_lt account n
 
 -- what comes of a request for a path that is let in, to an account that there is or isn't
-abbrev pub AnswersWithin : (List ℕ → Type 0) → Bool → House → Allowed → List ℕ → List ℕ → List Asked → List Asked → Result Answer AllocError → Type 0
-AnswersWithin gives true house a path body before after result = Fails before after result ⊎ Performs gives house a path body before after result
-AnswersWithin gives false house a path body before after result = Denies refusal.Nobody before after result
+abbrev pub AnswersWithin : (ℕ → Type 0) → (List ℕ → Type 0) → Bool → House → Allowed → List ℕ → List ℕ → List Asked → List Asked → Result Answer AllocError → Type 0
+AnswersWithin tells gives true house a path body before after result = Fails before after result ⊎ Performs tells gives house a path body before after result
+AnswersWithin tells gives false house a path body before after result = Denies refusal.Nobody before after result
 
 -- what comes of a request for a path that may have this
-abbrev pub Answers : (List ℕ → Type 0) → House → Result Allowed Refusal → List ℕ → List ℕ → List Asked → List Asked → Result Answer AllocError → Type 0
-Answers gives house (Err why) path body before after result = Denies why before after result
-Answers gives house (Ok a) path body before after result = AnswersWithin gives (is_within house.accounts a) house a path body before after result
+abbrev pub Answers : (ℕ → Type 0) → (List ℕ → Type 0) → House → Result Allowed Refusal → List ℕ → List ℕ → List Asked → List Asked → Result Answer AllocError → Type 0
+Answers tells gives house (Err why) path body before after result = Denies why before after result
+Answers tells gives house (Ok a) path body before after result = AnswersWithin tells gives (is_within house.accounts a) house a path body before after result
 
 -- ---- what comes in
 
@@ -207,7 +207,7 @@ pub record Attends (tells : ℕ → Type 0) (gives : List ℕ → Type 0) (idle 
   pub admitted : List Asked
   pub may_have : Result Allowed Refusal
   pub admits : Admits tells house idle sites is_local head before admitted may_have
-  pub answers : Answers gives house may_have head.target.items body admitted after result
+  pub answers : Answers tells gives house may_have head.target.items body admitted after result
 
 -- the next request was read, its body after it was looked up whether that is read, and attended to
 pub record Exchanges (tells : ℕ → Type 0) (gives : List ℕ → Type 0) (idle : ℕ) (house : House) (sites : List Site) (is_local : Bool) (x : Exchange) (old new : Option (List ℕ)) (before after : List Asked) : Type 0 where
@@ -223,13 +223,13 @@ Serves tells gives idle house sites is_local (x ∷ earlier) old new before afte
     (middle : Option (List ℕ)) × (asked : List Asked)
     × Serves tells gives idle house sites is_local earlier old middle before asked × Exchanges tells gives idle house sites is_local x middle new asked after
 
--- bytes that aren't read yet begin with a head that tells the length of a body, which isn't read for this reason
-pub record KeepsOut (tells : ℕ → Type 0) (house : House) (idle : ℕ) (sites : List Site) (is_local : Bool) (why : Refusal) (old : Option (List ℕ)) : Type 0 where
+-- bytes that aren't read yet begin with a head that tells the length of a body, which isn't read for this reason: the others are left
+pub record KeepsOut (tells : ℕ → Type 0) (house : House) (idle : ℕ) (sites : List Site) (is_local : Bool) (why : Refusal) (old new : Option (List ℕ)) : Type 0 where
   pub bytes : List ℕ
   pub head : Head
   pub count : ℕ
-  pub front : IsFront bytes old
   pub is : IsHead bytes head
+  pub consumes : Consumes old new bytes
   pub told : body_bytes head ≡ Ok count
   pub looks : LooksAt tells house idle sites is_local head count (Err why)
 
@@ -239,7 +239,7 @@ abbrev pub Steps : (ℕ → Type 0) → (List ℕ → Type 0) → ℕ → House 
 Steps tells gives idle house sites is_local old new before after (Ok (served.Answered answer secure goes_on)) =
     (head : Head) × (body : List ℕ) × (secure ≡ is_secure head sites) × Exchanges tells gives idle house sites is_local (record { head = head; body = body; answer = Ok answer }) old new before after
 Steps tells gives idle house sites is_local old new before after (Ok (served.Refused why)) =
-    (after ≡ before) × (HasNoHead why old ⊎ (HasNoBody why old ⊎ KeepsOut tells house idle sites is_local why old))
+    (after ≡ before) × (HasNoHead why old ⊎ (HasNoBody why old ⊎ KeepsOut tells house idle sites is_local why old new))
 Steps tells gives idle house sites is_local old new before after (Ok served.Ended) = after ≡ before
 Steps tells gives idle house sites is_local old new before after (Err e) =
     (after ≡ before)

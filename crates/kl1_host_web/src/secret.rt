@@ -34,8 +34,9 @@ fn encoded(bytes: &[u8]) -> Option<[u8; SECRET_BYTES]>
     }
 }
 
-/// A session of an account that begins now, opened by the key that stands there. Its name and its token are two parts of one text that nobody can guess, so who knows the one
-/// doesn't know the other. `None` if the machine gives no randomness, or if no key stands there.
+/// A session of an account that begins now, opened by the key that stands there. Its name and its token are two parts of one text that nobody
+/// can guess, so who knows the one doesn't know the other. It counts as asked for last at a second that the machine tells now. `None` if the machine
+/// gives no randomness, or if no key stands there.
 pub(crate) fn new_session<M: Machine>(
     machine: &M,
     account: usize,
@@ -43,7 +44,7 @@ pub(crate) fn new_session<M: Machine>(
 ) -> Option<WebSession>
     ensures account { IfSome result (λ session. session.account ≡ account) }
     ensures mark { IfSome result (λ session. session.mark ≡ mark_at (entries_view keys.now) account) }
-    ensures drawn { IfSome result (IsDrawn (M.gives machine.now)) }
+    ensures drawn { IfSome result (IsDrawn (M.tells machine.now) (M.gives machine.now)) }
 {
     let mark = mark_of(keys, account)?;
     let mut random = [0u8; 2 * RANDOM_BYTES];

@@ -211,7 +211,7 @@ impl<'p, R: Wait, M: Machine, K: LoginKeys> Service<'p, R, M, K> {
         requires within { account < (A.house accounts.old).accounts }
         requires opened { IsOfKey K.marks (mark_at (A.house accounts.old).entries account) }
         ensures house { A.house accounts.new ≡ A.house accounts.old }
-        ensures asked { Begun (M.gives self.now.machine.now) (A.house accounts.old).names account (A.asked accounts.old) (A.asked accounts.new) result }
+        ensures asked { Begun (M.tells self.now.machine.now) (M.gives self.now.machine.now) (A.house accounts.old).names account (A.asked accounts.old) (A.asked accounts.new) result }
     {
         let Some(session) = new_session(self.machine, account, accounts.keys()) else {
             let _ = accounts.act(account, &Command::Does(Event::Logout));
@@ -241,7 +241,7 @@ impl<'p, R: Wait, M: Machine, K: LoginKeys> Service<'p, R, M, K> {
         requires keys { AreMarked K.marks (A.house accounts.old) }
         requires opened { IsOpenedIn (A.house accounts.old) outcome }
         ensures house { A.house accounts.new ≡ A.house accounts.old }
-        ensures ends { Ends (M.gives self.now.machine.now) (A.house accounts.old).names allowed.now (Ok outcome) (A.asked accounts.old) (A.asked accounts.new) result }
+        ensures ends { Ends (M.tells self.now.machine.now) (M.gives self.now.machine.now) (A.house accounts.old).names allowed.now (Ok outcome) (A.asked accounts.old) (A.asked accounts.new) result }
     {
         match outcome {
             Outcome::Told(answer) => Ok(answer),
@@ -265,7 +265,7 @@ impl<'p, R: Wait, M: Machine, K: LoginKeys> Service<'p, R, M, K> {
     ) -> Result<Answer, AllocError>
         requires { AreMarked K.marks (A.house accounts.old) }
         ensures house { A.house accounts.new ≡ A.house accounts.old }
-        ensures answers { AnswersWithin (M.gives self.now.machine.now) (is_within (A.house accounts.old).accounts allowed.now) (A.house accounts.old) allowed.now head.now.target.items body.now (A.asked accounts.old) (A.asked accounts.new) result }
+        ensures answers { AnswersWithin (M.tells self.now.machine.now) (M.gives self.now.machine.now) (is_within (A.house accounts.old).accounts allowed.now) (A.house accounts.old) allowed.now head.now.target.items body.now (A.asked accounts.old) (A.asked accounts.new) result }
     {
         if !is_within(accounts.count(), allowed) {
             return refused(self.alloc, Refusal::Nobody);

@@ -24,7 +24,6 @@ pub fn gather<'t, R: Wait, K: PoolIds, W: Wait>(
         places,
         named: _,
         most_bytes: _,
-        grants: _,
     } = pool;
     kl1_pool_tickets::gather(rt, common, places, shares)
 }

@@ -9,7 +9,6 @@ mod answer;
 mod counting;
 mod gate;
 mod gathering;
-mod grants;
 mod locked_slot;
 mod locked_slots;
 mod looking;

@@ -10,11 +10,13 @@ ghost use Rattle.kl1_pool_tickets.specs.Parts.{IsNewBook};
 ghost use Rattle.kl1_pool.specs.Names.{called_at};
 ghost use Rattle.kl1_pool.specs.Parts.{IsFreshSeat};
 
+use crate::memory::was_sent;
 use crate::pool_account::PoolAccount;
 use crate::pool_ids::PoolIds;
 use crate::shared_tables::SharedTables;
 use crossbeam_utils::CachePadded;
 use kl1_atoms::AtomSeat;
+use kl1_command::Performed;
 use kl1_journal::{AccountName, JournaledAccount, Rules};
 use kl1_journal_stamps::ShownHistory;
 use kl1_pool_tickets::Booked;
@@ -128,6 +130,8 @@ pub(crate) trait Vacant: Drop {
 pub struct LockedSlot<'t, R: Wait, K: PoolIds> {
     /// `None` only while an account comes or leaves, under the lock.
     pub(crate) tenant: CachePadded<Option<Tenant<'t, R, K>>>,
+    /// How many messages to its shoens, and answers, may be unread.
+    pub(crate) unread: u64,
 }
 
 impl<'t, R: Wait, K: PoolIds> Model for LockedSlot<'t, R, K> {
@@ -146,6 +150,7 @@ impl<'t, R: Wait, K: PoolIds> LockedSlot<'t, R, K> {
     fn new(tenant: Tenant<'t, R, K>) -> Self {
         LockedSlot {
             tenant: CachePadded::new(Some(tenant)),
+            unread: 0,
         }
     }
 
@@ -155,6 +160,21 @@ impl<'t, R: Wait, K: PoolIds> LockedSlot<'t, R, K> {
             Some(Tenant::Account(account)) => Some(account),
             _ => None,
         }
+    }
+
+    /// Notes what became of a command: what was sent is read over the bound too, by short turns.
+    pub(crate) fn note_answer(&mut self, performed: &Performed) {
+        if was_sent(performed) {
+            self.unread = self.unread.saturating_add(1);
+        }
+    }
+
+    /// Notes that so many steps were done: each reads one, since monitors step before all else; and nothing is unread where no goal can step.
+    pub(crate) fn note_steps(&mut self, steps: u64) {
+        self.unread = match self.account() {
+            Some(account) if !account.quiet() => self.unread.saturating_sub(steps),
+            _ => 0,
+        };
     }
 }
 

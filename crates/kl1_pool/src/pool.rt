@@ -12,15 +12,14 @@ ghost use Rattle.kl1_pool.specs.Stepping.{IsTurn};
 
 use crate::answer::Answer;
 use crate::gate::Gate;
-use crate::grants::Grants;
 use crate::locked_slot::{LockedSlot, Tenant};
 use crate::locked_slots::{drop_all, places_of};
 use crate::looking::JournalReader;
-use crate::memory::{reserve_of, was_sent};
 use crate::parts::PoolParts;
 use crate::pool_account::{DueTicket, PoolAccount};
 use crate::pool_ids::{Names, PoolIds};
 use crate::shared_tables::SharedTables;
+use crate::turn::MOST_GRANTED_STEPS;
 use kl1_command::{Command, Performed};
 use kl1_pool_tickets::{Opened, PoolShared, Share, TimeSlice};
 use std::alloc::{AllocError, Global};
@@ -39,7 +38,6 @@ pub struct Pool<'t, R: Wait, K: PoolIds> {
     pub(crate) named: usize,
     /// The most bytes that an account may take if it is to go on.
     pub(crate) most_bytes: u64,
-    pub(crate) grants: Grants,
     pub ghost counted: { vec_len places ≡ K.accounts },
     pub ghost bounded: { most_bytes ≡ K.most_bytes },
     pub ghost listed: { named ≡ length K.names },
@@ -55,7 +53,7 @@ impl<'t, R: Wait, K: PoolIds> Pool<'t, R, K> {
     /// The pool of these parts, in whose accounts nothing has happened, and its shares, which are at zero. By `rt` codes are put in. To the other places
     /// accounts may come, by `admit`.
     /// An account that takes more bytes than it may gets no turns, and commands to it that take memory are answered as if memory was refused,
-    /// until it is reset; but messages to its shoens and answers go through as long as what is kept for them lasts, with a short turn after each.
+    /// until it is reset; but messages to its shoens and answers go through as long as what is kept for them lasts, and short turns read them.
     pub fn new(
         rt: &'t R,
         alloc: Global,
@@ -97,7 +95,6 @@ impl<'t, R: Wait, K: PoolIds> Pool<'t, R, K> {
             places,
             named: accounts.len(),
             most_bytes,
-            grants: Grants::new(),
         };
         match pool.settle(alloc, accounts.as_slice()) {
             Ok(()) => Ok((pool, shares)),
@@ -142,15 +139,7 @@ impl<'t, R: Wait, K: PoolIds> Pool<'t, R, K> {
         }
         // Called for the fact that it proves: the name is the one that K names, if it names one.
         found.shows_counts();
-        let (answer, due) = found.act::<N>(self.rt, &self.common, &self.tables, share, command);
-        // What was sent over the bound is read, by one short turn.
-        if reserve_of(command) > 0
-            && was_sent(answer.performed())
-            && found.is_over(self.most_bytes)
-        {
-            self.grants.grant(account);
-        }
-        (answer, due)
+        found.act::<N>(self.rt, &self.common, &self.tables, share, command)
     }
 
     /// Does a command to an account under its lock; and its ticket that is to be put, if there is one.
@@ -170,11 +159,13 @@ impl<'t, R: Wait, K: PoolIds> Pool<'t, R, K> {
     {
         let mut guard = self.places[account].lock(rt);
         let slot = &mut *guard;
-        match &mut *slot.tenant {
+        let (answer, due) = match &mut *slot.tenant {
             Some(Tenant::Account(found)) => self.act_on(found, account, name, command, share),
             Some(Tenant::Nobody(place)) => (Answer::absent(place, account, command), None),
             None => unreachable!(),
-        }
+        };
+        slot.note_answer(answer.performed());
+        (answer, due)
     }
 
     /// Does a command to an account under its lock, as `PoolAccount::perform`: to the one of this number, which is to be called so, if it is asked for by
@@ -255,6 +246,7 @@ impl<'t, R: Wait, K: PoolIds> Pool<'t, R, K> {
             Some(Tenant::Nobody(place)) => (Answer::absent(place, account, command), None, false),
             None => unreachable!(),
         };
+        slot.note_answer(answer.performed());
         drop(guard);
         if let Some(due) = due {
             self.offer(rt, account, due, share);
@@ -295,7 +287,7 @@ impl<'t, R: Wait, K: PoolIds> Pool<'t, R, K> {
         }
     }
 
-    /// A turn of an account that is found at a place, as `turn`.
+    /// A turn of an account that is found at a place, as `turn`, while so many messages to its shoens may be unread.
     fn turn_on<G: Gate>(
         &self,
         found: &mut PoolAccount<'t, R, K>,
@@ -303,6 +295,7 @@ impl<'t, R: Wait, K: PoolIds> Pool<'t, R, K> {
         number: u64,
         account: usize,
         share: &mut Share<K>,
+        unread: u64,
     ) -> TimeSlice
         ensures few { result.steps ≤ MOST_STEPS }
         ensures turn { IsTurn K.rules (called_at K.names account) K.most_bytes result }
@@ -312,19 +305,21 @@ impl<'t, R: Wait, K: PoolIds> Pool<'t, R, K> {
         if found.account() != account {
             return NO_TURN;
         }
-        let is_short = self.grants.take(account) && found.is_over(self.most_bytes);
+        let is_short = unread > 0 && found.is_over(self.most_bytes);
+        let more = unread > MOST_GRANTED_STEPS;
         if !found.may_turn(self.most_bytes, is_short) {
             found.clear_ticket();
             return NO_TURN;
         }
         gate.enter(number);
-        let slice = found.time_slice(self.rt, &self.common, &self.tables, share, is_short);
+        let slice = found.time_slice(self.rt, &self.common, &self.tables, share, is_short, more);
         gate.leave(number);
         slice
     }
 
     /// A turn of an account under its lock, as `PoolAccount::turn`, between `enter` and `leave` of a gate. An account that takes more bytes
-    /// than it may gets none, but a short one after a message to one of its shoens. Unless the ticket is to be put back, none is out afterwards.
+    /// than it may gets none, but short ones while messages to its shoens may be unread. Unless the ticket is to be put back, none is out
+    /// afterwards.
     pub(crate) fn turn<G: Gate, W: Wait>(
         &self,
         rt: &W,
@@ -342,10 +337,15 @@ impl<'t, R: Wait, K: PoolIds> Pool<'t, R, K> {
         };
         let mut guard = place.lock(rt);
         let slot = &mut *guard;
-        match &mut *slot.tenant {
-            Some(Tenant::Account(found)) => self.turn_on(found, gate, number, account, share),
+        let unread = slot.unread;
+        let slice = match &mut *slot.tenant {
+            Some(Tenant::Account(found)) => {
+                self.turn_on(found, gate, number, account, share, unread)
+            }
             _ => NO_TURN,
-        }
+        };
+        slot.note_steps(slice.steps);
+        slice
     }
 
     /// Drops a pool whose shares can't be gathered. A drop without this call is proved only where the tables that are lent to the pool
@@ -358,7 +358,6 @@ impl<'t, R: Wait, K: PoolIds> Pool<'t, R, K> {
             places,
             named: _,
             most_bytes: _,
-            grants: _,
         } = self;
         drop_all(places);
     }
