@@ -13,7 +13,6 @@ use Rattle.kl1_host_door.specs.declared.head.Head.{Head}
 use Rattle.kl1_host_door.specs.Bodies.{body_bytes}
 use Rattle.kl1_host_door.specs.declared.book.BookStep.TheVariants.{Adds}
 use Rattle.kl1_host_door.specs.Books.{has_room}
-use Rattle.kl1_session.specs.Doors.{Opens}
 use Rattle.kl1_model.specs.Event as event
 use Rattle.kl1_model_server.specs.Command.{does}
 use Rattle.kl1_command.specs.declared.performed.Performed.{Performed}
@@ -85,17 +84,17 @@ pub denied : (tells : ℕ → Type 0) (gives : List ℕ → Type 0) (house : Hou
 denied tells gives house a path body before after result v e same why = subst (λ x. AnswersWithin tells gives x house a path body before after result) (sym e) (record { asked = same; refusal = why })
 
 -- a request was attended to by sessions that were open
-pub attended : (tells : ℕ → Type 0) (gives : List ℕ → Type 0) (idle : ℕ) (house : House) (opens : Opens) (sites : List Site) (is_local : Bool) (head : Head) (body : List ℕ) (before admitted after : List Asked) (result : Result Answer AllocError) (r : Result Allowed Refusal) → house.opens ≡ opens → Admits tells opens idle sites is_local head before admitted r → Answers tells gives house r head.target.items body admitted after result → Attends tells gives idle house sites is_local head body before after result
-attended tells gives idle house opens sites is_local head body before admitted after result r keys admits answers = record {
+pub attended : (tells : ℕ → Type 0) (gives : List ℕ → Type 0) (idle : ℕ) (house : House) (sites : List Site) (is_local : Bool) (head : Head) (body : List ℕ) (before admitted after : List Asked) (result : Result Answer AllocError) (r : Result Allowed Refusal) → Admits tells house idle sites is_local head before admitted r → Answers tells gives house r head.target.items body admitted after result → Attends tells gives idle house sites is_local head body before after result
+attended tells gives idle house sites is_local head body before admitted after result r admits answers = record {
   admitted = admitted;
   may_have = r;
-  admits = subst (λ (o : Opens). Admits tells o idle sites is_local head before admitted r) (sym keys) admits;
+  admits = admits;
   answers = answers;
 }
 
 -- a head and a body that came in one after the other are a request, which was attended to
-pub exchanges : (tells : ℕ → Type 0) (gives : List ℕ → Type 0) (idle : ℕ) (house : House) (opens : Opens) (sites : List Site) (is_local : Bool) (head : Head) (body : List ℕ) (n : ℕ) (o : Result Bool Refusal) (is_in : Bool) (answer : Result Answer AllocError) (old middle new : Option (List ℕ)) (before after : List Asked) → house.opens ≡ opens → HasHead head old middle → body_bytes head ≡ Ok n → o ≡ Ok is_in → LooksAt tells opens idle sites is_local head n o → HasBody n body middle new → Attends tells gives idle house sites is_local head body before after answer → Exchanges tells gives idle house sites is_local (record { head = head; body = body; answer = answer }) old new before after
-exchanges tells gives idle house opens sites is_local head body n o is_in answer old middle new before after keys comes told sent looks follows attends = record {
+pub exchanges : (tells : ℕ → Type 0) (gives : List ℕ → Type 0) (idle : ℕ) (house : House) (sites : List Site) (is_local : Bool) (head : Head) (body : List ℕ) (n : ℕ) (o : Result Bool Refusal) (is_in : Bool) (answer : Result Answer AllocError) (old middle new : Option (List ℕ)) (before after : List Asked) → HasHead head old middle → body_bytes head ≡ Ok n → o ≡ Ok is_in → LooksAt tells house idle sites is_local head n o → HasBody n body middle new → Attends tells gives idle house sites is_local head body before after answer → Exchanges tells gives idle house sites is_local (record { head = head; body = body; answer = answer }) old new before after
+exchanges tells gives idle house sites is_local head body n o is_in answer old middle new before after comes told sent looks follows attends = record {
   next = record {
     bytes = comes.bytes;
     head = comes.is;
@@ -104,8 +103,7 @@ exchanges tells gives idle house opens sites is_local head body n o is_in answer
     consumes = consumes_both old middle new comes.bytes body comes.consumes follows.consumes;
   };
   is_in = is_in;
-  looks = subst (λ m. LooksAt tells house.opens idle sites is_local head m (Ok is_in)) (sym follows.long)
-      (subst (λ (p : Opens). LooksAt tells p idle sites is_local head n (Ok is_in)) (sym keys) (subst (λ w. LooksAt tells opens idle sites is_local head n w) sent looks));
+  looks = subst (λ m. LooksAt tells house idle sites is_local head m (Ok is_in)) (sym follows.long) (subst (λ w. LooksAt tells house idle sites is_local head n w) sent looks);
   attends = attends;
 }
 
@@ -120,15 +118,15 @@ no_body head why old middle comes e = record {
 }
 
 -- a head whose body isn't read
-pub kept_out : (tells : ℕ → Type 0) (idle : ℕ) (house : House) (opens : Opens) (sites : List Site) (is_local : Bool) (head : Head) (n : ℕ) (why : Refusal) (o : Result Bool Refusal) (old middle : Option (List ℕ)) → house.opens ≡ opens → HasHead head old middle → body_bytes head ≡ Ok n → o ≡ Err why → LooksAt tells opens idle sites is_local head n o → KeepsOut tells house.opens idle sites is_local why old middle
-kept_out tells idle house opens sites is_local head n why o old middle keys comes told refused looks = record {
+pub kept_out : (tells : ℕ → Type 0) (idle : ℕ) (house : House) (sites : List Site) (is_local : Bool) (head : Head) (n : ℕ) (why : Refusal) (o : Result Bool Refusal) (old middle : Option (List ℕ)) → HasHead head old middle → body_bytes head ≡ Ok n → o ≡ Err why → LooksAt tells house idle sites is_local head n o → KeepsOut tells house idle sites is_local why old middle
+kept_out tells idle house sites is_local head n why o old middle comes told refused looks = record {
   bytes = comes.bytes;
   head = head;
   count = n;
   is = comes.is;
   consumes = comes.consumes;
   told = told;
-  looks = subst (λ (p : Opens). LooksAt tells p idle sites is_local head n (Err why)) (sym keys) (subst (λ w. LooksAt tells opens idle sites is_local head n w) refused looks);
+  looks = subst (λ w. LooksAt tells house idle sites is_local head n w) refused looks;
 }
 
 -- one more request was served

@@ -1,5 +1,5 @@
 use Rattle.std.proofs.Common.{Ok, Err, refl, sym, ap, subst, ◌∙◌}
-use Rattle.kl1_host_web.specs.Asking.{House}
+use Rattle.kl1_host_web.specs.Asking.{AreMarked, House}
 use Rattle.kl1_host_web.specs.Telling.{IsOpenedIn}
 use Rattle.kl1_host_web.specs.Serving.{is_within, Ends}
 use Rattle.kl1_host_web.proofs.Serving.{performs, within, fails, denied}
@@ -36,7 +36,7 @@ returns-in_err-outcome-clause-answers g c =
 
 pub settle-requires : goal.settle-requires
 settle-requires g c = record {
-  keys = ap (λ (h : House). h.opens) c.grant.ensures.house ∙ c.requires;
+  keys = subst (AreMarked g.K.LoginKeys.marks) (sym c.grant.ensures.house) c.requires;
   opened = subst (λ (h : House). IsOpenedIn h c.in_ok-outcome.outcome) (sym c.grant.ensures.house) c.in_ok-outcome.ensures.within;
 }
 

@@ -1,5 +1,7 @@
-use Rattle.std.proofs.Common.{sym, subst}
-use Rattle.kl1_host_door.specs.Sessions.{LetsIn}
+use Rattle.std.proofs.Common.{List, sym, ap, subst, ◌∙◌}
+use Rattle.kl1_session.specs.Files.{Entry}
+use Rattle.kl1_host_door.specs.Doors.{mark_at}
+use Rattle.kl1_host_door.specs.Sessions.{IsOfKey}
 use Rattle.kl1_host_door.specs.declared.refusal.Refusal.TheVariants as refusal
 use Rattle.kl1_host_web.proofs.Serving.{begun_refused, begun_failed, begun_full, begun_told}
 use Rattle.kl1_host_web.proofs.serve.Service.begin.Goals as goal
@@ -25,4 +27,4 @@ returns-clause-asked g c =
     begun_told (g.M.Machine.tells c.args.self.now.machine.now) (g.M.Machine.gives c.args.self.now.machine.now) (g.A.Accounts.house c.args.accounts.now).names c.args.account (asked c.args.accounts.now) (asked c.add.new.accounts) c.in-Some.session c.add.ensures.asked.0 c.add.result c.in-Ok.answer c.in-Some.ensures.account c.in-Some.ensures.drawn c.if-not-add.false c.add.ensures.asked.1 c.add.ensures.asked.2 c.in-Ok.ensures
 
 pub add-requires : goal.add-requires
-add-requires g c = subst (LetsIn g.K.LoginKeys.opens) (sym c.in-Some.ensures.account) c.requires.opened
+add-requires g c = subst (IsOfKey g.K.LoginKeys.marks) (sym (c.in-Some.ensures.mark ∙ ap (λ (es : List Entry). mark_at es c.args.account) c.keys.ensures)) c.requires.opened

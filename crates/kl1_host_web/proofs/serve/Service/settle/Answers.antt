@@ -1,6 +1,5 @@
 use Rattle.std.proofs.Common.{subst}
-use Rattle.kl1_session.specs.Doors.{Opens}
-use Rattle.kl1_host_door.specs.Sessions.{LetsIn}
+use Rattle.std.proofs.Math.Logic.{∥∥₁_map}
 use Rattle.kl1_host_web.specs.Telling.{IsOpenedIn}
 use Rattle.kl1_host_web.specs.declared.outcome.Outcome.{Outcome}
 use Rattle.kl1_host_web.specs.declared.outcome.Outcome.TheVariants as outcome
@@ -10,4 +9,4 @@ pub begin-requires-clause-opened : goal.begin-requires-clause-opened
 begin-requires-clause-opened g c =
     let house = g.A.Accounts.house c.args.accounts.now in
     let opened : IsOpenedIn house (outcome.Opens c.in-Opens.account) = subst (λ (o : Outcome). IsOpenedIn house o) c.in-Opens.is c.requires.opened in
-    subst (λ (o : Opens). LetsIn o c.in-Opens.account) c.requires.keys opened.1
+    ∥∥₁_map (λ h. (h.1.0, c.requires.keys.1 h.0 h.1.0 c.in-Opens.account h.1.1)) opened.1
