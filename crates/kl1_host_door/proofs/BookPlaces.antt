@@ -1,7 +1,6 @@
 -- Sessions that pass a test, and where they stand.
 use Rattle.std.proofs.Common.{◌≡◌, ◌<◌, ◌≤◌, ◌+◌, ℕ, zero, suc, Bool, true, false, if◌then◌else◌, List, [], ◌∷◌, length, set, get_or, bytes_eq, Option, Some, None, All, refl, ap, sym, subst, ◌∙◌, arith, le_of_eq}
 use Rattle.std.proofs.lemmas.List.Elements.{All-get_or, All-set}
-use Rattle.kl1_session.specs.Doors.{Opens}
 use Rattle.kl1_host_door.specs.Sessions.{IsOpened}
 use Rattle.kl1_host_door.specs.declared.session.WebSession.{WebSession}
 use Rattle.kl1_host_door.specs.declared.book.SessionTest.TheVariants as test
