@@ -6,7 +6,6 @@ use Rattle.kl1_model_server.specs.Journal.{Journal, Kept}
 use Rattle.kl1_atoms.specs.Names.{AreNames}
 use Rattle.kl1_model_server.specs.Command.{Command}
 use Rattle.kl1_command.specs.declared.performed.Performed.{Performed}
-use Rattle.kl1_command.specs.declared.performed.Performed.TheVariants as performed
 use Rattle.kl1_command.specs.Room.{PerformsWithin}
 use Rattle.kl1_journal.specs.Keeping.{Held, Reading, Fits, kept_of, IsKept}
 use Rattle.kl1_pool.specs.Answers.{IsAccount}
@@ -49,9 +48,3 @@ pub record IsDone (rules : Rules) (named : List ℕ → Type 0) (c : Command) (p
   pub room : ℕ
   pub does : (f : Reading) → Fits new.0.names f → PerformsWithin (Some room) (kept_of f old) c p (kept_of f new)
   pub before : (f : Reading) → Fits new.0.names f → Fits old.0.names f
-
--- so, unless memory was refused
-abbrev pub IsDoneIf : Rules → (List ℕ → Type 0) → Command → Performed → Held → Held → Type 0
-IsDoneIf rules named c (performed.Whole reply) old new = IsDone rules named c (performed.Whole reply) old new
-IsDoneIf rules named c (performed.Short n) old new = IsDone rules named c (performed.Short n) old new
-IsDoneIf rules named c performed.Memory old new = Unit {0}

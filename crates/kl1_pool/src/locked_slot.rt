@@ -202,7 +202,7 @@ impl<'t, R: Wait, K: PoolIds> Booked for LockedSlot<'t, R, K> {
     ghost tally = { K.tally };
 
     fn into_book(self) -> BookSeat {
-        let LockedSlot { tenant } = self;
+        let LockedSlot { tenant, .. } = self;
         match tenant.into_inner() {
             Some(Tenant::Account(account)) => account.into_book(),
             Some(Tenant::Nobody(place)) => {

@@ -58,6 +58,11 @@ impl<'t, R: Wait, K: PoolIds> PoolAccount<'t, R, K> {
         ensures none { result ≡ false → reader.new ≡ reader.old }
     {
         // The lock tells nothing of which account lies under it. It is always this one.
-        self.is_at(account) && self.look(reader)
+        if self.account() != account {
+            return false;
+        }
+        // Called for the facts that it proves: the account is the replay of its journal, with the rules of the pool.
+        self.shows_counts();
+        self.look(reader)
     }
 }

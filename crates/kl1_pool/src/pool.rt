@@ -7,7 +7,7 @@ ghost use Rattle.kl1_command.specs.Commands.{command_view};
 ghost use Rattle.kl1_command.specs.Told.{events_told, steps_told};
 ghost use Rattle.kl1_journal_stamps.specs.Stamps.{StampValue};
 ghost use Rattle.kl1_pool.specs.Names.{called_at};
-ghost use Rattle.kl1_pool.specs.Showing.{IsDoneIf, IsShownAfter};
+ghost use Rattle.kl1_pool.specs.Showing.{IsDone, IsShownAfter};
 ghost use Rattle.kl1_pool.specs.Stepping.{IsTurn};
 
 use crate::answer::Answer;
@@ -20,7 +20,7 @@ use crate::pool_account::{DueTicket, PoolAccount};
 use crate::pool_ids::{Names, PoolIds};
 use crate::shared_tables::SharedTables;
 use crate::turn::MOST_GRANTED_STEPS;
-use kl1_command::{Command, Performed};
+use kl1_command::Command;
 use kl1_pool_tickets::{Opened, PoolShared, Share, TimeSlice};
 use std::alloc::{AllocError, Global};
 use std::marker::PhantomData;
@@ -112,7 +112,8 @@ impl<'t, R: Wait, K: PoolIds> Pool<'t, R, K> {
         self.places.len()
     }
 
-    /// Does a command to an account that is found at a place, if it is the one that was asked for; and its ticket that is to be put, if there is one.
+    /// Does a command to an account that is found at a place, if it is the one that was asked for; and its ticket that is to be put, if there is one. Tells
+    /// whether it did.
     fn act_on<N: Names>(
         &self,
         found: &mut PoolAccount<'t, R, K>,
@@ -120,26 +121,27 @@ impl<'t, R: Wait, K: PoolIds> Pool<'t, R, K> {
         name: Option<&[u8]>,
         command: &Command,
         share: &mut Share<K>,
-    ) -> (Answer<K, N>, Option<DueTicket<K>>)
+    ) -> (Answer<K, N>, Option<DueTicket<K>>, bool)
         requires named { MatchOption name ((own : List ℕ) → called_at K.names account own → called_at N.names account own) (λ n. slice_get N.names account ≡ Some n.now) }
         ensures counted { Moved account (events_told result.0.performed) (steps_told result.0.performed) 0 0 share.old share.new }
         ensures account { result.0.account ≡ account }
         ensures command { result.0.command ≡ command_view command.now }
-        ensures done { IsDoneIf K.rules (called_at N.names account) (command_view command.now) result.0.performed found.old.held found.new.held }
+        ensures done { result.2 ≡ true → IsDone K.rules (called_at N.names account) (command_view command.now) result.0.performed found.old.held found.new.held }
     {
         // The lock tells nothing of which account lies under it. It is always this one.
         if found.account() != account {
-            return (Answer::misplaced(found, account, command), None);
+            return (Answer::misplaced(found, account, command), None, false);
         }
         if !found.is_asked_as(name) {
-            return (Answer::misnamed(found, account, name, command), None);
+            return (Answer::misnamed(found, account, name, command), None, false);
         }
         if found.is_beyond(self.most_bytes, command) {
-            return (Answer::over(found, account, command), None);
+            return (Answer::over(found, account, command), None, false);
         }
         // Called for the fact that it proves: the name is the one that K names, if it names one.
         found.shows_counts();
-        found.act::<N>(self.rt, &self.common, &self.tables, share, command)
+        let (answer, due) = found.act::<N>(self.rt, &self.common, &self.tables, share, command);
+        (answer, due, true)
     }
 
     /// Does a command to an account under its lock; and its ticket that is to be put, if there is one.
@@ -159,9 +161,9 @@ impl<'t, R: Wait, K: PoolIds> Pool<'t, R, K> {
     {
         let mut guard = self.places[account].lock(rt);
         let slot = &mut *guard;
-        let (answer, due) = match &mut *slot.tenant {
+        let (answer, due, _) = match &mut *slot.tenant {
             Some(Tenant::Account(found)) => self.act_on(found, account, name, command, share),
-            Some(Tenant::Nobody(place)) => (Answer::absent(place, account, command), None),
+            Some(Tenant::Nobody(place)) => (Answer::absent(place, account, command), None, false),
             None => unreachable!(),
         };
         slot.note_answer(answer.performed());
@@ -191,7 +193,7 @@ impl<'t, R: Wait, K: PoolIds> Pool<'t, R, K> {
         answer
     }
 
-    /// `act_on`, after which a reader reads the account's journal, unless memory was refused; and whether it did.
+    /// `act_on`, after which a reader reads the account's journal, if the command was done; and whether it did.
     fn show_on<N: Names, L: JournalReader>(
         &self,
         found: &mut PoolAccount<'t, R, K>,
@@ -209,8 +211,9 @@ impl<'t, R: Wait, K: PoolIds> Pool<'t, R, K> {
         ensures shown { result.2 ≡ true → IsShownAfter K.rules (called_at N.names account) (command_view command.now) result.0.performed (λ j ended. L.reads reader.old reader.new j ended) }
         ensures same { result.2 ≡ false → reader.new ≡ reader.old }
     {
-        let (answer, due) = self.act_on::<N>(found, account, Some(name), command, share);
-        if matches!(answer.performed(), Performed::Memory) || !found.is_called(name) {
+        let (answer, due, is_done) = self.act_on::<N>(found, account, Some(name), command, share);
+        // It is called as before, but no clause of `act` says so.
+        if !is_done || !found.is_called(name) {
             return (answer, due, false);
         }
         let is_shown = found.look_at(account, reader);
@@ -218,7 +221,7 @@ impl<'t, R: Wait, K: PoolIds> Pool<'t, R, K> {
     }
 
     /// Does a command to the account of this number, which is to be called so, under its lock, as `act`; and lets a reader read the account's
-    /// journal then, under the same lock, unless memory was refused. Answers whether it did.
+    /// journal then, under the same lock. Answers whether it did: it didn't if the account isn't here, is called otherwise or is over its bound.
     pub fn act_shown<N: Names, W: Wait, L: JournalReader>(
         &self,
         rt: &W,

@@ -80,12 +80,16 @@ impl<'t, R: Wait, K: PoolIds> PoolAccount<'t, R, K> {
         ensures history { IfSome result.1 (λ shown. slice_get K.histories account ≡ Some shown.history) }
         ensures seen { IfSome result.1 (λ shown. IsSeenOfSome K.rules (called_at K.names account) (λ j ended. L.reads reader.old reader.new j ended × IsLastOf shown j ended)) }
     {
-        let mut found = self;
-        if !found.look_at(account, reader) || !reader.is_done() {
-            return (Tenant::Account(found), None);
+        // As in `visit`.
+        if self.account() != account {
+            return (Tenant::Account(self), None);
         }
-        let PoolAccount { book, shown, .. } = found;
-        (Tenant::Nobody(EmptyPlace::left(book)), Some(shown))
+        // As in `welcome`.
+        self.shows_counts();
+        match self.last_look(reader) {
+            Ok((book, shown)) => (Tenant::Nobody(EmptyPlace::left(book)), Some(shown)),
+            Err(found) => (Tenant::Account(found), None),
+        }
     }
 }
 

@@ -8,15 +8,18 @@ ghost use Rattle.kl1_user_events.specs.Viewing.{shoen_page, goal_page, goal_text
 ghost use Rattle.kl1_pool.specs.Counted.{reduces_in};
 ghost use Rattle.kl1_pool.specs.Memory.{bytes_taken, IsBeyond, IsWithin, IsWithinTurn};
 ghost use Rattle.kl1_pool.specs.Names.{called_at};
-ghost use Rattle.kl1_pool.specs.Showing.{IsFound};
+ghost use Rattle.kl1_pool.specs.Showing.{IsFound, IsLastOf};
 
 use crate::looking::JournalReader;
 use crate::memory::{bound_of, bytes_of, takes_memory, turn_bound};
 use crate::named_atoms::NamedAtoms;
 use crate::pool_account::PoolAccount;
 use crate::pool_ids::PoolIds;
+use crate::tenancy::LastReader;
 use kl1_codes::SharedCodes;
 use kl1_command::Command;
+use kl1_journal_stamps::ShownHistory;
+use kl1_tally::BookSeat;
 use kl1_user_events::{Extent, GoalNo, GoalView, Presence, ShoenNo, ShoenView, Usage};
 use std::alloc::AllocError;
 use std::sync::Wait;
@@ -161,5 +164,30 @@ impl<'t, R: Wait, K: PoolIds> PoolAccount<'t, R, K> {
         };
         reader.read(journal, ended, &stamp);
         true
+    }
+
+    /// Lets a reader read the journal for the last time, as `look`, and takes the account apart: its book is left, and the history of its journals that
+    /// were shown, which is at this one. It is given back if the reader wasn't shown the journal, or asks to come again.
+    pub(crate) fn last_look<L: LastReader>(
+        self,
+        reader: &mut L,
+    ) -> Result<(BookSeat, ShownHistory), Self>
+        requires { (s : StampValue) → slice_get K.histories self.book.account ≡ Some s.history → L.takes reader.old s }
+        ensures book { IfOk result (λ r. (r.0 ≡ self.book) × (r.0.tally ≡ K.tally)) }
+        ensures history { IfOk result (λ r. slice_get K.histories self.book.account ≡ Some r.1.history) }
+        ensures seen { IfOk result (λ r. L.reads reader.old reader.new self.held.1 self.past.events × IsLastOf r.1 self.held.1 self.past.events) }
+    {
+        let mut found = self;
+        let ended = found.past.events;
+        let journal = found.kept.lent_journal();
+        let Some(last) = found.shown.show(journal, ended) else {
+            return Err(found);
+        };
+        reader.read(journal, ended, &last);
+        if !reader.is_done() {
+            return Err(found);
+        }
+        let PoolAccount { book, shown, .. } = found;
+        Ok((book, shown))
     }
 }
