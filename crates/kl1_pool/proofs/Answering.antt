@@ -1,7 +1,7 @@
 -- Answers, and what commands leave.
 use Rattle.std.proofs.Common.{◌≡◌, ℕ, ◌≤◌, ◌⊎◌, inl, inr, Bool, true, false, List, [], Some, ap, sym, ◌∙◌, refl}
 use Rattle.std.proofs.lemmas.Bool.{and_parts}
-use Rattle.std.specs.Prelude.{Option}
+use Rattle.std.specs.Prelude.{Option, MatchOption, None, slice_get, ⊤}
 use Rattle.kl1_model.specs.declared.rules.Rules.{Rules}
 use Rattle.kl1_model.specs.State.{State}
 use Rattle.kl1_model_server.specs.Command.{Command}
@@ -16,7 +16,8 @@ use Rattle.kl1_command.specs.Room.{PerformsWithin}
 use Rattle.kl1_pool_tickets.specs.declared.serving.TheConstants.{MOST_STEPS}
 use Rattle.kl1_pool_tickets.specs.declared.serving.TimeSlice.{TimeSlice}
 use Rattle.kl1_pool.specs.Answers.{IsAccount, IsGivenBySome, IsGiven}
-use Rattle.kl1_pool.specs.Showing.{IsFound, IsOfSome, IsSeenOfSome, IsCountedBySome}
+use Rattle.kl1_pool.specs.Names.{called_at, is_called}
+use Rattle.kl1_pool.specs.Showing.{IsFound, IsOfSome, IsSeenOfSome, IsCountedBySome, IsDone, IsShownAfter}
 use Rattle.kl1_tally.specs.Seats.{Book}
 use Rattle.kl1_pool.specs.declared.totals_before_reset.TotalsBeforeReset.{TotalsBeforeReset}
 use Rattle.kl1_pool.specs.Counted.{IsCounted}
@@ -66,6 +67,22 @@ pub seen_of_some : (rules : Rules) (name : List ℕ → Type 0) (h : Held) (ende
 seen_of_some rules name h ended P found seen =
     let f = reading_of h.0.names in
     (kept_of f h, ended, record { replay = (found.kept.replay f (reading_fits h.0.names found.names)).is; keeps_to = found.keeps_to; called = found.called }, seen)
+
+-- the journal of an account that was found after it answered a command
+pub shown_after : (rules : Rules) (named own : List ℕ → Type 0) (c : Command) (p : Performed) (old new : Held) (ended : ℕ) (P : Journal → ℕ → Type 0) → IsDone rules named c p old new → IsFound rules own new → named new.0.own_name → P new.1 ended → IsShownAfter rules named c p P
+shown_after rules named own c p old new ended P done found called shown =
+    let f = reading_of new.0.names in
+    let fits = reading_fits new.0.names found.names in
+    let before : IsAccount rules named (kept_of f old) = record { replay = (done.found.kept.replay f (done.before f fits)).is; keeps_to = done.found.keeps_to; called = done.found.called } in
+    let after : IsAccount rules named (kept_of f new) = record { replay = (found.kept.replay f fits).is; keeps_to = found.keeps_to; called = called } in
+    (done.room, kept_of f old, kept_of f new, ended, before, after, done.does f fits, shown)
+
+-- an account that is called as it is asked for, if it is asked for by a name
+pub asked_as : {V : Type 0} (now : V → List ℕ) (own asked : List (List ℕ)) (account : ℕ) (name : Option V) (called : List ℕ) → MatchOption name ((x : List ℕ) → called_at own account x → called_at asked account x) (λ n. slice_get asked account ≡ Some (now n)) → MatchOption name ⊤ (λ n. is_called (now n) called) → called_at own account called → called_at asked account called
+asked_as now own asked account None called named is listed = named called listed
+asked_as now own asked account (Some n) called named is listed = λ name at.
+    let same : now n ≡ name = let e : Some (now n) ≡ Some name = sym named ∙ at in cc in
+    is ∙ same
 
 -- what an account that was found has counted
 pub counted_by_some : {p : TotalsBeforeReset} {h : Held} {b : Book} (rules : Rules) (name : List ℕ → Type 0) (events steps : ℕ) → IsFound rules name h → IsCounted p h.1 b → (events ≡ b.events) × (steps ≡ b.steps) → IsCountedBySome rules name events steps
