@@ -1,3 +1,4 @@
 pub mod Cutting
 pub mod Doors
 pub mod Browsing
+pub mod NextKeys
