@@ -157,6 +157,7 @@ where
     let view = View {
         rt,
         desk,
+        host,
         outgoing: Some(&outgoing),
         visit: Some(visit),
     };

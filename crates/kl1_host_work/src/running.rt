@@ -122,6 +122,7 @@ where
     let view = View::<F, N, R, K, C> {
         rt,
         desk,
+        host,
         outgoing: None,
         visit: None,
     };
