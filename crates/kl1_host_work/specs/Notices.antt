@@ -35,10 +35,10 @@ pub record Adds (account : ℕ) (c : Command) (p : Performed) (old new : Exchang
 module _ {K C : Type 0} {g : naming.Ghosts K} {shown : shown_ids.Ghosts K} {h : connecting.Ghosts C} where
   -- The answer to the last of what was done waits for its account's note, which has it: the leave to write was held for that, or is lost. Or it
   -- waits for nothing, if memory was refused, or if it tells nothing that is to be on disk before
-  abbrev pub IsCared : Rules → List (List ℕ) → Bool → List Done → Done → Waiting K C g shown h → Type 0
+  abbrev pub IsCared : Rules → List (List ℕ) → Bool → List Done → Done → Waiting K C shown g h → Type 0
   IsCared rules names replies_wait ds d Nothing = (d.answer ≡ Memory) ⊎ (tells_nothing d.command replies_wait ≡ true)
   IsCared rules names replies_wait ds d (Noted leave after) = (after.value.done ≡ ds) × IsNotedAfter rules (called_at names d.account) d leave.value
 
   -- so, if something was done
-  abbrev pub IsTold : Rules → List (List ℕ) → Bool → List Done → Notice K C g shown h → Type 0
+  abbrev pub IsTold : Rules → List (List ℕ) → Bool → List Done → Notice K C shown g h → Type 0
   IsTold rules names replies_wait ds n = (ds ≡ []) ⊎ ((before : List Done) × (d : Done) × (ds ≡ before ++ d ∷ []) × IsCared rules names replies_wait ds d n.waiting)
