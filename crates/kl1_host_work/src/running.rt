@@ -90,10 +90,25 @@ pub struct Listeners<'l> {
     pub browsers: Option<&'l TcpListener>,
 }
 
+/// How often it is tried to wake an accept that waits: while too many files are open there is none for a connection, and the connections that
+/// end give theirs back.
+const WAKING_TRIES: u32 = 100;
+/// How long is waited before it is tried again, in milliseconds.
+const WAKING_PAUSE_MILLISECONDS: u64 = 100;
+
 /// Wakes an accept that waits, by a connection.
-fn wake<N: Net<Listener = TcpListener, Stream = TcpStream>>(rt: &N, listener: &TcpListener) {
-    if let Ok(address) = listener.local_addr() {
-        let _ = TcpStream::connect_timeout(rt, &address, Duration::from_secs(1));
+fn wake<N: Net<Listener = TcpListener, Stream = TcpStream> + Clock>(
+    rt: &N,
+    listener: &TcpListener,
+) {
+    let Ok(address) = listener.local_addr() else {
+        return;
+    };
+    for _ in 0..WAKING_TRIES {
+        if TcpStream::connect_timeout(rt, &address, Duration::from_secs(1)).is_ok() {
+            return;
+        }
+        thread::sleep(rt, Duration::from_millis(WAKING_PAUSE_MILLISECONDS));
     }
 }
 
@@ -170,7 +185,7 @@ fn attend<'p, 't, F: Front, N: Wait + Clock, R: Wait, K: PoolIds + Naming>(
 }
 
 /// Ends what is waited for or restored at places.
-fn end_places<W: Wait>(rt: &W, host: Host<'_, K>) {
+fn end_places<W: Wait, J: Naming>(rt: &W, host: Host<'_, J>) {
     for place in host.places {
         place.end(rt);
     }
@@ -183,7 +198,7 @@ fn close_doors<'t, F: Front, N, R: Wait, K: PoolIds + Naming>(
     listeners: Listeners<'_>,
 )
 where
-    N: Net<Listener = TcpListener, Stream = TcpStream> + Wait,
+    N: Net<Listener = TcpListener, Stream = TcpStream> + Wait + Clock,
 {
     desk.lobby.close(rt);
     end_places(rt, desk.host);
@@ -203,7 +218,7 @@ fn wind_down<'t, F: Front, N, R: Wait, K: PoolIds + Naming>(
     workers: Vec<JoinHandle<()>>,
 )
 where
-    N: Net<Listener = TcpListener, Stream = TcpStream> + Threads + Wait,
+    N: Net<Listener = TcpListener, Stream = TcpStream> + Threads + Wait + Clock,
 {
     close_doors(rt, desk, listeners);
     desk.lobby.wait_until_empty(rt);

@@ -216,6 +216,7 @@ where
     requires tables { (parts.table ≡ K.table) × (parts.seats ≡ K.seats) × (parts.codes ≡ K.codes) }
     requires names { (parts.rules ≡ K.rules) × (parts.names ≡ K.names) }
     requires bound { parts.most_bytes ≡ K.most_bytes }
+    requires most { parts.most_bytes ≡ setup.memory_each }
     requires tickets { (parts.tally ≡ K.tally) × (parts.queue ≡ K.queue) × (parts.accounts ≡ K.accounts) × (parts.shares ≡ K.shares) }
     requires shown { parts.histories ≡ K.histories }
     requires histories { AreFresh K.books histories.items }
@@ -242,6 +243,7 @@ fn run_brand<'t, F: Front + Sync, D: Disk + Drop + Send, O: Opener<D> + Sync, R>
 where
     R: Net<Listener = TcpListener, Stream = TcpStream> + Threads + Wait + Clock + Sync,
     F::Entrance: Send,
+    requires most { parts.most_bytes ≡ setup.memory_each }
 {
     run_parts::<F, D, O, R, Brand>(rt, alloc, listeners, front, parts, opener, histories, setup)
 }

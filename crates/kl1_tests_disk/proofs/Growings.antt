@@ -1,11 +1,11 @@
 -- Journals of tests, which grow.
 use Rattle.std.proofs.Common.{◌≡◌, ℕ, zero, suc, ◌<◌, ◌≤◌, List, [], ◌∷◌, ◌++◌, refl, sym, ap, ◌∙◌, subst, arith, inl, inr}
 use Rattle.kl1_model_server.specs.Journal.{Entry, runs, steps, Journal, without_last, entered, stepped}
-use Rattle.std.specs.Prelude.{Option, Some, None}
+use Rattle.std.specs.Prelude.{Option, Some, None, IfSome, IsNone, slice_get}
 use Rattle.kl1_model_server.specs.laws.HistoryLaws.{EndsInRun}
 use Rattle.kl1_journal_entries.specs.Lined.{with_prepared, with_reduction}
 use Rattle.kl1_journal_stamps.specs.Later.{IsLater}
-use Rattle.kl1_journal_stamps.specs.Stamps.{MayFollow}
+use Rattle.kl1_journal_stamps.specs.Stamps.{HistoryId, StampValue, ShownValue, MayFollow}
 use Rattle.kl1_journal_stamps.proofs.Growing.{entered_later, growth_begins, run_later_by_one}
 use Rattle.kl1_journal_stamps.proofs.Chains.{may_follow_on}
 
@@ -46,3 +46,29 @@ grown_follows last g j k was later = may_follow_on last g g j k was (inr (refl, 
 -- and so may what is of the next generation
 pub next_follows : (last : Option (ℕ × Journal)) (g h : ℕ) (j k : Journal) → MayFollow last g j → g < h → MayFollow last h k
 next_follows last g h j k was less = may_follow_on last g h j k was (inl less)
+
+-- so after a reduction of a run, for which there was room made first
+pub run_goes_on : (last : Option (ℕ × Journal)) (g n r : ℕ) (j k m : Journal) → k ≡ j → m ≡ with_reduction k 0 0 r → r ≡ suc n → MayFollow last g j → EndsInRun j.entries n → MayFollow last g m × EndsInRun m.entries r
+run_goes_on last g n r j k m same is one may ends =
+    let grown = run_grown_by k n r one (subst (λ (x : Journal). EndsInRun x.entries n) (sym same) ends) in
+    let before = subst (λ (x : Journal). MayFollow last g x) (sym same) may in (
+      subst (λ (x : Journal). MayFollow last g x) (sym is) (grown_follows last g k (with_reduction k 0 0 r) before grown.0),
+      subst (λ (x : Journal). EndsInRun x.entries r) (sym is) grown.1,
+    )
+
+-- and so after one that is in no run
+pub reduced_goes_on : (last : Option (ℕ × Journal)) (g goal clause : ℕ) (j k m : Journal) → k ≡ j → m ≡ with_reduction k goal clause 0 → MayFollow last g j → MayFollow last g m
+reduced_goes_on last g goal clause j k m same is may =
+    let before = subst (λ (x : Journal). MayFollow last g x) (sym same) may in
+    subst (λ (x : Journal). MayFollow last g x) (sym is) (grown_follows last g k (with_reduction k goal clause 0) before (reduced_later k goal clause))
+
+-- a journal that is shown may follow itself, and its account's history is the same
+pub shown_goes_on : (o : Option StampValue) (v w : ShownValue) (ids : List HistoryId) (account g : ℕ) (j : Journal) → IfSome o (λ s. w ≡ record { history = v.history; last = Some (g, j) }) → (IsNone o → w ≡ v) → slice_get ids account ≡ Some v.history → MayFollow v.last g j → (slice_get ids account ≡ Some w.history) × MayFollow w.last g j
+shown_goes_on None v w ids account g j shown none at may = let same : w ≡ v = none refl in (
+  at ∙ ap (λ (x : ShownValue). let o : Option HistoryId = Some x.history in o) (sym same),
+  subst (λ (x : ShownValue). MayFollow x.last g j) (sym same) may,
+)
+shown_goes_on (Some s) v w ids account g j shown none at may = (
+  at ∙ ap (λ (x : ShownValue). let o : Option HistoryId = Some x.history in o) (sym shown),
+  subst (λ (x : ShownValue). MayFollow x.last g j) (sym shown) (inr (refl, growth_begins j)),
+)

@@ -1,6 +1,8 @@
 // Journals that grow, as those of accounts do, and are shown.
 
 ghost use Rattle.std.specs.Prelude.{◌≡◌, Some, None, slice_get, IfSome};
+ghost use Rattle.std.specs.Coded.{codes};
+ghost use Rattle.kl1_journal_entries.specs.Codes.{journal_code};
 ghost use Rattle.kl1_journal_stamps.specs.Stamps.{IsStampOf};
 
 use crate::journals::shelf::journal_of;
@@ -16,7 +18,7 @@ use std::sync::Wait;
 pub(crate) struct NewAccount {
     pub(crate) fresh: FreshHistory,
     pub(crate) shown: ShownHistory,
-    pub(crate) ghost new: { shown.last ≡ None },
+    pub(crate) ghost new: { shown.last ≡ None } by { Prim.hlevel (codes, journal_code) },
 }
 
 impl NewAccount {
