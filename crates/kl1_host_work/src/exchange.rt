@@ -9,7 +9,7 @@ ghost use Rattle.kl1_host_work.specs.Noted.{is_lost, IsNotedAfter};
 ghost use Rattle.kl1_host_work.specs.Notices.{tells_nothing, Adds, IsTold};
 
 use crate::filling::is_of_sessions;
-use crate::noting::{Noting, if_held};
+use crate::noting::{NoReader, Noting, if_held};
 use kl1_command::{Command, Performed};
 use kl1_host_journals::{Connecting, Keeper, Naming, Outgoing};
 use kl1_pool::{Names, Pool, PoolIds, Share};
@@ -103,7 +103,9 @@ impl<K: PoolIds + Naming, C: Connecting + Names> Exchange<K, C> {
         requires nothing { tells_nothing (command_view command.now) self.old.replies_wait ≡ true }
         ensures { Adds account (command_view command.now) result self.old self.new }
     {
-        let performed = self.history.act(rt, pool, account, Some(name), command);
+        let (performed, _) = self
+            .history
+            .act_shown(rt, pool, account, name, command, &mut NoReader);
         self.notice = Notice {
             waiting: Waiting::Nothing,
         };

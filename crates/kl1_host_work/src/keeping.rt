@@ -7,14 +7,13 @@ use crate::connections::Desk;
 use crate::front::{Front, HostEvent};
 use crate::histories::OwnHistory;
 use crate::last_note::note_last;
+use crate::noting::NoReader;
 use crate::restoring::{AccountFile, Standing, stand};
 use crate::running::Telling;
 use crate::start_fault::StartFault;
 use kl1_host_journals::{Keeper, KeptFile, Linked, Naming, OpenFault, Scribe};
-use kl1_journal_entries::Journal;
-use kl1_journal_stamps::Stamp;
 use kl1_log::{Disk, LogFile};
-use kl1_pool::{JournalReader, LastReader, PoolIds, Share};
+use kl1_pool::{PoolIds, Share};
 use std::sync::Wait;
 use std::time::Clock;
 
@@ -188,23 +187,6 @@ pub(crate) fn keep<
         is_first = false;
     }
     None
-}
-
-/// Reads nothing.
-struct NoReader;
-
-impl JournalReader for NoReader {
-    ghost takes = { λ reader stamp. Unit {0} };
-
-    ghost reads = { λ before after journal ended. Unit {0} };
-
-    fn read(&mut self, _journal: &Journal, _ended: u64, _stamp: &Stamp) {}
-}
-
-impl LastReader for NoReader {
-    fn is_done(&self) -> bool {
-        true
-    }
 }
 
 /// Ends what is done to the account of a place, which nobody was let in to yet: what workers did to it is done again by the next restore.

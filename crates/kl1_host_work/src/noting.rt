@@ -10,7 +10,7 @@ use crate::host::Host;
 use kl1_host_journals::{Connecting, Keeper, Naming, Outgoing};
 use kl1_journal_entries::Journal;
 use kl1_journal_stamps::Stamp;
-use kl1_pool::{JournalReader, Pool, PoolIds};
+use kl1_pool::{JournalReader, LastReader, Pool, PoolIds};
 use std::cell::Cell;
 use std::marker::Brand;
 use std::mem;
@@ -38,6 +38,23 @@ impl<'k, W: Wait, J: Naming, C: Connecting> JournalReader for Noting<'k, W, J, C
         self.outgoing = self
             .keeper
             .note_for(self.rt, self.account, journal, ended, stamp, outgoing);
+    }
+}
+
+/// Reads nothing.
+pub(crate) struct NoReader;
+
+impl JournalReader for NoReader {
+    ghost takes = { λ reader stamp. Unit {0} };
+
+    ghost reads = { λ before after journal ended. Unit {0} };
+
+    fn read(&mut self, _journal: &Journal, _ended: u64, _stamp: &Stamp) {}
+}
+
+impl LastReader for NoReader {
+    fn is_done(&self) -> bool {
+        true
     }
 }
 

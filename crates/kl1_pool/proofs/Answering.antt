@@ -1,7 +1,7 @@
 -- Answers, and what commands leave.
 use Rattle.std.proofs.Common.{◌≡◌, ℕ, ◌≤◌, ◌⊎◌, inl, inr, Bool, true, false, List, [], Some, ap, sym, ◌∙◌, refl}
 use Rattle.std.proofs.lemmas.Bool.{and_parts}
-use Rattle.std.specs.Prelude.{Option, MatchOption, None, slice_get, ⊤}
+use Rattle.std.specs.Prelude.{Option, slice_get}
 use Rattle.kl1_model.specs.declared.rules.Rules.{Rules}
 use Rattle.kl1_model.specs.State.{State}
 use Rattle.kl1_model_server.specs.Command.{Command}
@@ -77,11 +77,10 @@ shown_after rules named own c p old new ended P done found called shown =
     let after : IsAccount rules named (kept_of f new) = record { replay = (found.kept.replay f fits).is; keeps_to = found.keeps_to; called = called } in
     (done.room, kept_of f old, kept_of f new, ended, before, after, done.does f fits, shown)
 
--- an account that is called as it is asked for, if it is asked for by a name
-pub asked_as : {V : Type 0} (now : V → List ℕ) (own asked : List (List ℕ)) (account : ℕ) (name : Option V) (called : List ℕ) → MatchOption name ((x : List ℕ) → called_at own account x → called_at asked account x) (λ n. slice_get asked account ≡ Some (now n)) → MatchOption name ⊤ (λ n. is_called (now n) called) → called_at own account called → called_at asked account called
-asked_as now own asked account None called named is listed = named called listed
-asked_as now own asked account (Some n) called named is listed = λ name at.
-    let same : now n ≡ name = let e : Some (now n) ≡ Some name = sym named ∙ at in cc in
+-- an account is called as the list has it, if it is called by the name that stands there
+pub called_so : (names : List (List ℕ)) (account : ℕ) (name own : List ℕ) → slice_get names account ≡ Some name → is_called name own → called_at names account own
+called_so names account name own at is = λ other there.
+    let same : name ≡ other = let e : Some name ≡ Some other = sym at ∙ there in cc in
     is ∙ same
 
 -- what an account that was found has counted

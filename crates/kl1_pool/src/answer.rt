@@ -1,6 +1,6 @@
 // Commands to an account of a pool, and the answers to them.
 
-ghost use Rattle.std.specs.Prelude.{◌≡◌, ◌≢◌, ◌&&◌, Some, MatchOption, is_some, not};
+ghost use Rattle.std.specs.Prelude.{◌≡◌, ◌≢◌, ◌&&◌, Some, is_some, not};
 ghost use Rattle.kl1_command.specs.Commands.{command_view};
 ghost use Rattle.kl1_command.specs.Performing.{IsUntouched};
 ghost use Rattle.kl1_command.specs.Told.{told_in, told_steps, events_told, steps_told};
@@ -87,10 +87,10 @@ impl<K: PoolIds, N: Names> Answer<K, N> {
     pub(crate) fn misnamed<'t, R: Wait>(
         found: &PoolAccount<'t, R, K>,
         account: usize,
-        name: Option<&[u8]>,
+        name: &[u8],
         command: &Command,
     ) -> Self
-        requires { MatchOption name ⊥ (λ n. ¬ is_called n.now found.now.held.0.own_name) }
+        requires { ¬ is_called name.now found.now.held.0.own_name }
         ensures account { result.account ≡ account }
         ensures command { result.command ≡ command_view command.now }
         ensures told { told_in result.performed ≡ told_steps 0 }

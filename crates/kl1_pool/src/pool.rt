@@ -1,6 +1,6 @@
 // Accounts under locks, with what threads share besides.
 
-ghost use Rattle.std.specs.Prelude.{◌≡◌, ◌<◌, ◌≤◌, ℕ, List, Some, IfOk, MatchOption, All, length, slice_get, true, false, vec_len};
+ghost use Rattle.std.specs.Prelude.{◌≡◌, ◌<◌, ◌≤◌, Some, IfOk, All, length, slice_get, true, false, vec_len};
 ghost use Rattle.kl1_pool_tickets.specs.Counts.{Moved, Acts, new_counts};
 ghost use Rattle.kl1_pool_tickets.specs.declared.serving.TheConstants.{MOST_STEPS};
 ghost use Rattle.kl1_command.specs.Commands.{command_view};
@@ -118,11 +118,10 @@ impl<'t, R: Wait, K: PoolIds> Pool<'t, R, K> {
         &self,
         found: &mut PoolAccount<'t, R, K>,
         account: usize,
-        name: Option<&[u8]>,
         command: &Command,
         share: &mut Share<K>,
     ) -> (Answer<K, N>, Option<DueTicket<K>>, bool)
-        requires named { MatchOption name ((own : List ℕ) → called_at K.names account own → called_at N.names account own) (λ n. slice_get N.names account ≡ Some n.now) }
+        requires named { found.old.book.account ≡ account → called_at N.names account found.old.held.0.own_name }
         ensures counted { Moved account (events_told result.0.performed) (steps_told result.0.performed) 0 0 share.old share.new }
         ensures account { result.0.account ≡ account }
         ensures command { result.0.command ≡ command_view command.now }
@@ -132,29 +131,24 @@ impl<'t, R: Wait, K: PoolIds> Pool<'t, R, K> {
         if found.account() != account {
             return (Answer::misplaced(found, account, command), None, false);
         }
-        if !found.is_asked_as(name) {
-            return (Answer::misnamed(found, account, name, command), None, false);
-        }
         if found.is_beyond(self.most_bytes, command) {
             return (Answer::over(found, account, command), None, false);
         }
-        // Called for the fact that it proves: the name is the one that K names, if it names one.
+        // Called for the facts that it proves: the account is the replay of its journal, with the rules of the pool.
         found.shows_counts();
         let (answer, due) = found.act::<N>(self.rt, &self.common, &self.tables, share, command);
         (answer, due, true)
     }
 
     /// Does a command to an account under its lock; and its ticket that is to be put, if there is one.
-    fn visit<N: Names, W: Wait>(
+    fn visit<W: Wait>(
         &self,
         rt: &W,
         account: usize,
-        name: Option<&[u8]>,
         command: &Command,
         share: &mut Share<K>,
-    ) -> (Answer<K, N>, Option<DueTicket<K>>)
+    ) -> (Answer<K, K>, Option<DueTicket<K>>)
         requires within { account < K.accounts }
-        requires named { MatchOption name ((own : List ℕ) → called_at K.names account own → called_at N.names account own) (λ n. slice_get N.names account ≡ Some n.now) }
         ensures counted { Moved account (events_told result.0.performed) (steps_told result.0.performed) 0 0 share.old share.new }
         ensures account { result.0.account ≡ account }
         ensures command { result.0.command ≡ command_view command.now }
@@ -162,7 +156,11 @@ impl<'t, R: Wait, K: PoolIds> Pool<'t, R, K> {
         let mut guard = self.places[account].lock(rt);
         let slot = &mut *guard;
         let (answer, due, _) = match &mut *slot.tenant {
-            Some(Tenant::Account(found)) => self.act_on(found, account, name, command, share),
+            Some(Tenant::Account(found)) => {
+                // Called for the fact that it proves: the name is the one that K names, if it names one.
+                found.shows_counts();
+                self.act_on::<K>(found, account, command, share)
+            }
             Some(Tenant::Nobody(place)) => (Answer::absent(place, account, command), None, false),
             None => unreachable!(),
         };
@@ -170,30 +168,28 @@ impl<'t, R: Wait, K: PoolIds> Pool<'t, R, K> {
         (answer, due)
     }
 
-    /// Does a command to an account under its lock, as `PoolAccount::perform`: to the one of this number, which is to be called so, if it is asked for by
-    /// a name. Afterwards a ticket of the account is put unless the account is quiet or one is out.
-    pub fn act<N: Names, W: Wait>(
+    /// Does a command to an account under its lock, as `PoolAccount::perform`. Afterwards a ticket of the account is put unless the account is
+    /// quiet or one is out.
+    pub fn act<W: Wait>(
         &self,
         rt: &W,
         account: usize,
-        name: Option<&[u8]>,
         command: &Command,
         share: &mut Share<K>,
-    ) -> Answer<K, N>
+    ) -> Answer<K, K>
         requires within { account < K.accounts }
-        requires named { MatchOption name ((own : List ℕ) → called_at K.names account own → called_at N.names account own) (λ n. slice_get N.names account ≡ Some n.now) }
         ensures counted { Acts account (events_told result.performed) (steps_told result.performed) share.old share.new }
         ensures account { result.account ≡ account }
         ensures command { result.command ≡ command_view command.now }
     {
-        let (answer, due) = self.visit::<N, W>(rt, account, name, command, share);
+        let (answer, due) = self.visit(rt, account, command, share);
         if let Some(due) = due {
             self.offer(rt, account, due, share);
         }
         answer
     }
 
-    /// `act_on`, after which a reader reads the account's journal, if the command was done; and whether it did.
+    /// `act_on` of an account that is called so, after which a reader reads its journal, if the command was done; and whether it did.
     fn show_on<N: Names, L: JournalReader>(
         &self,
         found: &mut PoolAccount<'t, R, K>,
@@ -211,7 +207,10 @@ impl<'t, R: Wait, K: PoolIds> Pool<'t, R, K> {
         ensures shown { result.2 ≡ true → IsShownAfter K.rules (called_at N.names account) (command_view command.now) result.0.performed (λ j ended. L.reads reader.old reader.new j ended) }
         ensures same { result.2 ≡ false → reader.new ≡ reader.old }
     {
-        let (answer, due, is_done) = self.act_on::<N>(found, account, Some(name), command, share);
+        if !found.is_called(name) {
+            return (Answer::misnamed(found, account, name, command), None, false);
+        }
+        let (answer, due, is_done) = self.act_on::<N>(found, account, command, share);
         // It is called as before, but no clause of `act` says so.
         if !is_done || !found.is_called(name) {
             return (answer, due, false);

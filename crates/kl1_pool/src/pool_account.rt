@@ -3,7 +3,7 @@
 mod ticket;
 mod viewing;
 
-ghost use Rattle.std.specs.Prelude.{◌≡◌, ◌↔◌, ◌<◌, ◌≤◌, ◌^◌, ⊤, [], Some, None, slice_get, IfOk, IsOk, IsTrue, MatchOption, OnErr, false, option_map};
+ghost use Rattle.std.specs.Prelude.{◌≡◌, ◌↔◌, ◌<◌, ◌≤◌, ◌^◌, [], Some, None, slice_get, IfOk, IsOk, IsTrue, OnErr, false, option_map};
 ghost use Rattle.kl1_model.specs.Event.{reduce as reduce_event, refused, journal_full};
 ghost use Rattle.kl1_model.specs.State.{has_runs};
 ghost use Rattle.kl1_model.specs.Choice.{first, quiet};
@@ -236,17 +236,6 @@ impl<'t, R: Wait, K: PoolIds> PoolAccount<'t, R, K> {
     {
         let own = self.name.text().unpacked();
         own.as_slice() == name
-    }
-
-    /// Whether the account is called as it is asked for, if it is asked for by a name.
-    pub(crate) fn is_asked_as(&self, name: Option<&[u8]>) -> bool
-        ensures yes { IsTrue result → MatchOption name ⊤ (λ n. is_called n.now self.now.held.0.own_name) }
-        ensures no { result ≡ false → MatchOption name ⊥ (λ n. ¬ is_called n.now self.now.held.0.own_name) }
-    {
-        match name {
-            None => true,
-            Some(name) => self.is_called(name),
-        }
     }
 
     /// The account's number.

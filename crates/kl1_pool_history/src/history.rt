@@ -1,6 +1,6 @@
 // What was done for one connection, with the share in which it was counted.
 
-ghost use Rattle.std.specs.Prelude.{◌≡◌, ◌<◌, ℕ, List, [], ◌++◌, ◌∷◌, Some, MatchOption, map, slice_get, true, false};
+ghost use Rattle.std.specs.Prelude.{◌≡◌, ◌<◌, [], ◌++◌, ◌∷◌, Some, map, slice_get, true, false};
 ghost use Rattle.kl1_command.specs.Commands.{command_view};
 ghost use Rattle.kl1_command.specs.declared.performed.Performed.TheVariants.{Memory};
 ghost use Rattle.kl1_journal_stamps.specs.Stamps.{StampValue};
@@ -103,8 +103,8 @@ fn with_answer<K: PoolIds, N: Names>(
     (seen, performed)
 }
 
-/// What was done for one connection, to accounts called as N says, in order, with the share in which it was counted. Nothing comes to it but what `act` has a pool do,
-/// and what `refuse` refuses. Which commands were done has no bytes, so only a contract can tell it.
+/// What was done for one connection, to accounts called as N says, in order, with the share in which it was counted. Nothing comes to it but what `act` and `act_shown` have
+/// a pool do, and what `refuse` refuses. Which commands were done has no bytes, so only a contract can tell it.
 #[derive(Drop)]
 pub struct History<K: PoolIds, N: Names> {
     share: Share<K>,
@@ -133,6 +133,26 @@ impl<K: PoolIds, N: Names> Model for History<K, N> {
     ghost invariant = { λ h. AreAnswered K.rules N.names (map done_of h.seen.log) h.begun.value h.share };
 }
 
+impl<K: PoolIds> History<K, K> {
+    /// Has a pool do a command to the account of this number, from 0, once.
+    pub fn act<'t, W: Wait, R: Wait>(
+        &mut self,
+        rt: &W,
+        pool: &Pool<'t, R, K>,
+        account: usize,
+        command: &Command,
+    ) -> Performed
+        requires { account < K.accounts }
+        ensures begun { self.new.begun ≡ self.old.begun }
+        ensures done { self.new.done ≡ self.old.done ++ record { account = account; command = command_view command.now; answer = result } ∷ [] }
+    {
+        let answer = pool.act(rt, account, command, &mut self.share);
+        let (seen, performed) = with_answer(&self.seen, answer);
+        self.seen = seen;
+        performed
+    }
+}
+
 impl<K: PoolIds, N: Names> History<K, N> {
     /// Nothing was done yet.
     pub fn new(share: Share<K>) -> Self
@@ -148,27 +168,8 @@ impl<K: PoolIds, N: Names> History<K, N> {
         }
     }
 
-    /// Has a pool do a command to the account of this number, from 0, once, which is to be called so, if it is asked for by a name.
-    pub fn act<'t, W: Wait, R: Wait>(
-        &mut self,
-        rt: &W,
-        pool: &Pool<'t, R, K>,
-        account: usize,
-        name: Option<&[u8]>,
-        command: &Command,
-    ) -> Performed
-        requires within { account < K.accounts }
-        requires named { MatchOption name ((own : List ℕ) → called_at K.names account own → called_at N.names account own) (λ n. slice_get N.names account ≡ Some n.now) }
-        ensures begun { self.new.begun ≡ self.old.begun }
-        ensures done { self.new.done ≡ self.old.done ++ record { account = account; command = command_view command.now; answer = result } ∷ [] }
-    {
-        let answer = pool.act::<N, W>(rt, account, name, command, &mut self.share);
-        let (seen, performed) = with_answer(&self.seen, answer);
-        self.seen = seen;
-        performed
-    }
-
-    /// `act`, of a name, after which a reader reads the account's journal, as `Pool::act_shown`; and whether it did.
+    /// Has a pool do a command to the account of this number, from 0, once, which is to be called so, and lets a reader read its journal then, as
+    /// `Pool::act_shown`; and whether that read it.
     pub fn act_shown<'t, W: Wait, R: Wait, L: JournalReader>(
         &mut self,
         rt: &W,

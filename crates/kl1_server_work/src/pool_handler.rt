@@ -26,6 +26,6 @@ impl<'p, 't, R: Wait, K: PoolIds> CommandHandler for PoolHandler<'p, 't, R, K> {
     ghost beside = { λ handler. handler.history.begun };
 
     fn act(&mut self, account: usize, command: &Command) -> Performed {
-        self.history.act(self.rt, self.pool, account, None, command)
+        self.history.act(self.rt, self.pool, account, command)
     }
 }

@@ -23,8 +23,7 @@ pub fn answered<'t, R: Wait, K: PoolIds>(
     if account >= pool.accounts() {
         return Performed::Memory;
     }
-    pool.act::<K, R>(rt, account, None, command, share)
-        .into_performed()
+    pool.act(rt, account, command, share).into_performed()
 }
 
 /// What an account answers to a run that want of memory cut short after `steps`, if it goes on: the steps of both.

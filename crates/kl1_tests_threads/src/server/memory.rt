@@ -30,7 +30,7 @@ fn is_closed<'t, K: PoolIds, R: Wait>(rt: &R, pool: &Pool<'t, R, K>, share: &mut
 {
     matches!(
         &pool
-            .act::<K, R>(rt, 0, None, &Command::Does(Event::Logout), share)
+            .act(rt, 0, &Command::Does(Event::Logout), share)
             .into_performed(),
         Performed::Whole(Reply::Refused(Refusal::Sessions))
     )
