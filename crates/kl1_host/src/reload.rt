@@ -163,7 +163,7 @@ where
         if !is_same && !keyring.add(rt, keys) {
             return out.extend_from_slice(b"keys were changed too often before the next start\n");
         }
-        self.has_newer_keys = !is_same;
+        self.has_newer_keys = self.has_newer_keys || !is_same;
         // Those that are gone let nobody in from here on.
         self.host.renew(keyring.edition(), changed.as_slice());
         for account in &removed {

@@ -1,3 +1,4 @@
+pub mod Linkages
 pub mod Lobbies
 pub mod NamesInOrder
 pub mod Notices

@@ -42,8 +42,8 @@ module _ {D J : Type 0} {g : disk.Ghosts D} {h : naming.Ghosts J} {shown : shown
   Takes (Linked l) s = ⊤
   Takes (Failed fault) s = ⊤
 
-  -- a file that wasn't linked was shown a journal
+  -- a file that wasn't linked was shown a journal; else it stays as it is
   abbrev pub IsRead : Linkage D J g h shown → Linkage D J g h shown → Journal → ℕ → Type 0
   IsRead (Unlinked file own) after j generation = IsLinkedIf after j generation
-  IsRead (Linked l) after j generation = ⊤
-  IsRead (Failed fault) after j generation = ⊤
+  IsRead (Linked l) after j generation = after ≡ Linked l
+  IsRead (Failed fault) after j generation = after ≡ Failed fault
