@@ -36,6 +36,7 @@ mod settings;
 mod sockets;
 mod start_words;
 mod started;
+mod telling;
 mod web;
 mod words;
 
