@@ -42,6 +42,12 @@ module _ {J C : Type 0} {g : naming.Ghosts J} {shown : shown_ids.Ghosts J} {h : 
   IsNotedAfter rules named d (Waits held) = (account_of (place_of held) ≡ d.account) × IsShownAfter rules named d.command d.answer (λ j generation. IsNoteOf (edition_of (place_of held)) j generation)
   IsNotedAfter rules named d Lost = ⊤
 
-  -- a journal of this generation was noted: a leave waits for that, or is lost; and it is the last of this history
+  -- whether a leave waits for something
+  abbrev pub waits : Outgoing J C g shown h → Bool
+  waits (Free permit) = false
+  waits (Waits held) = true
+  waits Lost = false
+
+  -- a journal of this generation was noted, for which a leave waits; and it is the last of this history
   abbrev pub IsLastNote : ShownValue → Outgoing J C g shown h → Journal → ℕ → Type 0
-  IsLastNote history leave j generation = IsLastOf history j generation × IsNotedFor j generation leave
+  IsLastNote history leave j generation = IsLastOf history j generation × IsNotedFor j generation leave × (waits leave ≡ true)

@@ -13,6 +13,10 @@ use std::marker::Brand;
 use std::sync::Wait;
 
 impl<'k, W: Wait, J: Naming, C: Connecting> LastReader for Noting<'k, W, J, C> {
+    ghost use Rattle.kl1_host_work.specs.Noted.{waits};
+
+    ghost has_read = { λ n. waits n.outgoing };
+
     fn is_done(&self) -> bool {
         matches!(&self.outgoing, Outgoing::Waits(_))
     }

@@ -53,6 +53,10 @@ impl JournalReader for NoReader {
 }
 
 impl LastReader for NoReader {
+    ghost use Rattle.std.specs.Prelude.{true};
+
+    ghost has_read = { λ _. true };
+
     fn is_done(&self) -> bool {
         true
     }

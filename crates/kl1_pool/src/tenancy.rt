@@ -1,6 +1,6 @@
 // Accounts that come to places of a pool, and leave them.
 
-ghost use Rattle.std.specs.Prelude.{◌≡◌, ◌⊎◌, ◌<◌, ◌≤◌, ◌&&◌, Some, None, IfSome, slice_get, length, is_some, not, true, false};
+ghost use Rattle.std.specs.Prelude.{Bool, ◌≡◌, ◌⊎◌, ◌<◌, ◌≤◌, ◌&&◌, Some, None, IfSome, slice_get, length, is_some, not, true, false};
 ghost use Rattle.kl1_model.specs.Choice.{quiet};
 ghost use Rattle.kl1_journal.specs.Keeping.{Reading, Fits, kept_of};
 ghost use Rattle.kl1_journal_entries.specs.Lined.{Rows};
@@ -45,7 +45,11 @@ pub trait Newcomer: JournalReader + Meter {
 /// What reads the journal of an account for the last time.
 pub trait LastReader: JournalReader {
     /// Whether it has read it, and needn't come again.
-    fn is_done(&self) -> bool;
+    ghost has_read: { Self → Bool };
+
+    /// That.
+    fn is_done(&self) -> bool
+        ensures { result ≡ has_read self.now };
 }
 
 impl<'t, R: Wait, K: PoolIds> PoolAccount<'t, R, K> {
@@ -79,6 +83,7 @@ impl<'t, R: Wait, K: PoolIds> PoolAccount<'t, R, K> {
         requires takes { (s : StampValue) → slice_get K.histories account ≡ Some s.history → L.takes reader.old s }
         ensures history { IfSome result.1 (λ shown. slice_get K.histories account ≡ Some shown.history) }
         ensures seen { IfSome result.1 (λ shown. IsSeenOfSome K.rules (called_at K.names account) (λ j ended. L.reads reader.old reader.new j ended × IsLastOf shown j ended)) }
+        ensures read { IfSome result.1 (λ shown. L.has_read reader.new ≡ true) }
     {
         // As in `visit`.
         if self.account() != account {
@@ -256,6 +261,7 @@ impl<'t, R: Wait, K: PoolIds> Pool<'t, R, K> {
         requires takes { (s : StampValue) → slice_get K.histories account ≡ Some s.history → L.takes reader.old s }
         ensures history { IfSome result (λ shown. slice_get K.histories account ≡ Some shown.history) }
         ensures seen { IfSome result (λ shown. IsSeenOfSome K.rules (called_at K.names account) (λ j ended. L.reads reader.old reader.new j ended × IsLastOf shown j ended)) }
+        ensures read { IfSome result (λ shown. L.has_read reader.new ≡ true) }
     {
         let mut guard = self.places[account].lock(rt);
         let slot = &mut *guard;

@@ -1,6 +1,6 @@
 // What is shown of an account with its book.
 
-ghost use Rattle.std.specs.Prelude.{◌≡◌, [], nat_lt, Some, slice_get, IfOk, IsTrue, false, option_map};
+ghost use Rattle.std.specs.Prelude.{◌≡◌, [], nat_lt, Some, slice_get, IfOk, IsTrue, true, false, option_map};
 ghost use Rattle.kl1_command.specs.Commands.{command_view};
 ghost use Rattle.kl1_journal.specs.Keeping.{Reading, Fits, kept_of};
 ghost use Rattle.kl1_journal_stamps.specs.Stamps.{StampValue};
@@ -176,6 +176,7 @@ impl<'t, R: Wait, K: PoolIds> PoolAccount<'t, R, K> {
         ensures book { IfOk result (λ r. (r.0 ≡ self.book) × (r.0.tally ≡ K.tally)) }
         ensures history { IfOk result (λ r. slice_get K.histories self.book.account ≡ Some r.1.history) }
         ensures seen { IfOk result (λ r. L.reads reader.old reader.new self.held.1 self.past.events × IsLastOf r.1 self.held.1 self.past.events) }
+        ensures read { IfOk result (λ r. L.has_read reader.new ≡ true) }
     {
         let mut found = self;
         let ended = found.past.events;
