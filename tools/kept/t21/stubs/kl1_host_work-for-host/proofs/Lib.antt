@@ -1,0 +1,2 @@
+pub mod NamesInOrder
+pub mod OpenedByName

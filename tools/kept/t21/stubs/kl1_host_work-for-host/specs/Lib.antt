@@ -1,0 +1,2 @@
+pub mod AccountFiles
+pub mod Fronts

@@ -1,0 +1,6 @@
+//! Stub.
+#![tactic(auto)]
+
+mod replays;
+
+pub use replays::replay_file;
