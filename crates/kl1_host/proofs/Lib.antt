@@ -2,3 +2,4 @@ pub mod Cutting
 pub mod Doors
 pub mod FilesOfKeys
 pub mod Browsing
+mod SentFiles

@@ -122,9 +122,10 @@ where
     Err(Fault::Memory)
 }
 
-/// What a host needs of its folder, and where it listens.
+/// What a host needs of its folder, which lies on a path, and where it listens.
 #[derive(Drop)]
-struct HostFolder {
+struct HostFolder<'f> {
+    path: &'f str,
     settings: Settings,
     accounts: Accounts,
     clients: TcpListener,
@@ -133,7 +134,7 @@ struct HostFolder {
 }
 
 /// Looks at the settings and the accounts of a folder, and then listens.
-fn opened<R>(rt: &R, alloc: Global, folder: &str) -> Result<HostFolder, Fault>
+fn opened<'f, R>(rt: &R, alloc: Global, folder: &'f str) -> Result<HostFolder<'f>, Fault>
 where
     R: Net<Listener = TcpListener, Stream = TcpStream> + Files<File = File> + AllocGlobal,
 {
@@ -147,6 +148,7 @@ where
     };
     let socket = socket_of(rt, alloc, folder)?;
     Ok(HostFolder {
+        path: folder,
         settings,
         accounts,
         clients,
@@ -158,8 +160,7 @@ where
 /// Runs a host with what is opened until it is asked to stop. `K` stands for the keys of its accounts, by which sessions of browsers are opened.
 fn run_opened<R, K: LoginKeys + Send + Sync>(
     log: &Log<'_, R>,
-    folder: &str,
-    opened: &HostFolder,
+    opened: &HostFolder<'_>,
     repairs: bool,
     asker: &Mutex<Option<UnixStream>>,
 ) -> Result<(), Fault>
@@ -184,7 +185,7 @@ where
     let program = Program {
         rt,
         alloc,
-        folder,
+        folder: opened.path,
         keys: opened.accounts.keys.as_slice(),
         memory_each: settings.memory_each,
         disk_each: settings.disk_each,
@@ -238,7 +239,7 @@ where
     let accounts = opened.accounts.keys.len();
     let fitted = fit_connections(&log, &mut opened.settings, accounts);
     let ended = match fitted {
-        Ok(()) => run_opened::<R, Brand>(&log, folder, &opened, repairs, asker),
+        Ok(()) => run_opened::<R, Brand>(&log, &opened, repairs, asker),
         Err(fault) => Err(fault),
     };
     let _ = fs::remove_file(rt, path_in(alloc, folder, SOCKET)?.as_str());
