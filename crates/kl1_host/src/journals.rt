@@ -93,14 +93,24 @@ fn openings_of<'k, D: Disk + Drop>(
     Ok(openings)
 }
 
-/// Opens the file of the journal of an account.
-fn open_one<'r, R: Files<File = File> + Clock + Eprint>(
-    log: &Log<'r, R>,
-    folder: &str,
-    repair: Option<&str>,
-    opening: &mut Opening<'_, FolderFile<&'r R>>,
-) {
-    opening.opened = Some(file_of(log, folder, opening.key, repair));
+/// Opens the files of accounts.
+trait Opener<D: Disk> {
+    fn open(&self, opening: &mut Opening<'_, D>);
+}
+
+/// Opens files of a folder, and with a word for the names of files in which what is repaired is kept repairs faults.
+#[derive(Drop)]
+struct FolderOpener<'l, 'r, R: Clock + Eprint> {
+    log: &'l Log<'r, R>,
+    folder: &'l str,
+    repair: Option<&'l str>,
+}
+
+impl<'r, R: Files<File = File> + Clock + Eprint> Opener<FolderFile<&'r R>>
+    for FolderOpener<'_, 'r, R> {
+    fn open(&self, opening: &mut Opening<'_, FolderFile<&'r R>>) {
+        opening.opened = Some(file_of(self.log, self.folder, opening.key, self.repair));
+    }
 }
 
 /// Tells which journals were repaired, in the order of accounts.
@@ -150,6 +160,21 @@ fn gathered<D: Disk + Drop>(
     Ok(files)
 }
 
+/// Opens files side by side.
+fn open_each<D: Disk + Drop + Send, N: Threads + Sync, O: Opener<D> + Sync>(
+    rt: &N,
+    openings: &mut [Opening<'_, D>],
+    opener: &O,
+) {
+    // Each account gets a thread: they are few, and their journals of unequal length.
+    thread::for_each_mut(
+        rt,
+        openings,
+        MOST_ACCOUNTS,
+        &|_place: usize, opening: &mut Opening<'_, D>| opener.open(opening),
+    );
+}
+
 /// Opens the files of the journals of accounts side by side. If some can't be opened, the fault of the first of them is told.
 pub fn files_of<'r, R>(
     log: &Log<'r, R>,
@@ -163,15 +188,12 @@ where
     ensures { IfOk result (λ files. names_of files.items ≡ names_in (entries_view keys.now)) }
 {
     let mut openings = openings_of(log.alloc, keys)?;
-    // Each account gets a thread: they are few, and their journals of unequal length.
-    thread::for_each_mut(
-        log.rt,
-        openings.as_mut_slice(),
-        MOST_ACCOUNTS,
-        &|_place: usize, opening: &mut Opening<'_, FolderFile<&R>>| open_one(
-            log, folder, repair, opening,
-        ),
-    );
+    let opener = FolderOpener {
+        log,
+        folder,
+        repair,
+    };
+    open_each(log.rt, openings.as_mut_slice(), &opener);
     tell_repairs(log, openings.as_slice());
     gathered(log.alloc, keys, openings)
 }
