@@ -82,7 +82,7 @@ fn setup_of(settings: &Settings, accounts: usize) -> Setup
 }
 
 /// Runs a host until it is asked to stop. With `repairs` a journal with a fault goes on from what is before it.
-fn serve<R, K: LoginKeys + Send + Sync>(
+fn serve<R, K: LoginKeys + Send + Sync + 'static>(
     program: &Program<'_, R, K>,
     settings: &Settings,
     repairs: bool,
@@ -158,7 +158,7 @@ where
 }
 
 /// Runs a host with what is opened until it is asked to stop. `K` stands for the keys of its accounts, by which sessions of browsers are opened.
-fn run_opened<R, K: LoginKeys + Send + Sync>(
+fn run_opened<R, K: LoginKeys + Send + Sync + 'static>(
     log: &Log<'_, R>,
     opened: &HostFolder<'_>,
     repairs: bool,
