@@ -9,5 +9,5 @@ returns-clause-drawn g c = record {
   given = c.fill.ensures c.if-not-fill.false;
   id = c.in_ok-id.ensures ∙ ap (encode_of url_safe_no_pad) c.split_at.ensures.front;
   token = c.in_ok-token.ensures ∙ ap (encode_of url_safe_no_pad) c.split_at.ensures.back;
-  told = c.seconds.ensures;
+  told = c.seconds-last.ensures;
 }
