@@ -78,6 +78,7 @@ impl<K: PoolIds> EmptyPlace<K> {
         ensures book { IfOk result (λ a. a.book ≡ self.book) }
         ensures name { IfOk result (λ a. a.held.0.own_name ≡ name) }
         ensures fresh { IfOk result (λ a. (a.held.1.entries ≡ []) × (a.is_out ≡ false)) }
+        ensures used { IfOk result (λ a. a.held.1.names ≡ texts.now) }
         ensures left { IfErr result (λ p. p.book ≡ self.book) }
     {
         let EmptyPlace { book, vacancy, .. } = self;

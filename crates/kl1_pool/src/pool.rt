@@ -314,14 +314,22 @@ impl<'t, R: Wait, K: PoolIds> Pool<'t, R, K> {
             return NO_TURN;
         }
         gate.enter(number);
-        let slice = found.time_slice(self.rt, &self.common, &self.tables, share, is_short, more);
+        let slice = found.time_slice(
+            self.rt,
+            &self.common,
+            &self.tables,
+            share,
+            self.most_bytes,
+            is_short,
+            more,
+        );
         gate.leave(number);
         slice
     }
 
     /// A turn of an account under its lock, as `PoolAccount::turn`, between `enter` and `leave` of a gate. An account that takes more bytes
-    /// than it may gets none, but short ones while messages to its shoens may be unread. Unless the ticket is to be put back, none is out
-    /// afterwards.
+    /// than it may gets none, but short ones while messages to its shoens may be unread; if such a one leaves it within its bytes, others follow.
+    /// Unless the ticket is to be put back, none is out afterwards.
     pub(crate) fn turn<G: Gate, W: Wait>(
         &self,
         rt: &W,

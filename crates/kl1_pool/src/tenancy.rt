@@ -111,7 +111,7 @@ impl<'t, R: Wait, K: PoolIds> Pool<'t, R, K> {
     ) -> (Tenant<'t, R, K>, Restored, Option<DueTicket<K>>)
         requires name { called_at K.names account name }
         requires takes { (s : StampValue) → slice_get K.histories account ≡ Some s.history → L.takes comer.old s }
-        ensures restored { IsRestoredOf K.rules (is_called name) (L.brings comer.old).journal.entries result.1 }
+        ensures restored { IsRestoredOf K.rules (is_called name) (L.brings comer.old).journal result.1 }
         ensures counted { Moved account (events_of (L.brings comer.old).journal.entries result.1) (steps_of (L.brings comer.old).journal.entries result.1) 0 0 share.old share.new }
         ensures seen { (comer.new ≡ comer.old) ⊎ ((result.1.end ≡ All) × IsSeenOfSome K.rules (is_called name) (λ j ended. L.reads comer.old comer.new j ended)) }
     {
@@ -169,7 +169,7 @@ impl<'t, R: Wait, K: PoolIds> Pool<'t, R, K> {
     ) -> Restored
         requires within { account < K.accounts }
         requires takes { (s : StampValue) → slice_get K.histories account ≡ Some s.history → L.takes comer.old s }
-        ensures restored { IsRestoredOf K.rules (is_called name) (L.brings comer.old).journal.entries result }
+        ensures restored { IsRestoredOf K.rules (is_called name) (L.brings comer.old).journal result }
         ensures counted { Acts account (events_of (L.brings comer.old).journal.entries result) (steps_of (L.brings comer.old).journal.entries result) share.old share.new }
         ensures seen { (comer.new ≡ comer.old) ⊎ ((result.end ≡ All) × IsSeenOfSome K.rules (is_called name) (λ j ended. L.reads comer.old comer.new j ended)) }
     {
