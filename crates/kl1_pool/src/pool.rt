@@ -1,10 +1,11 @@
 // Accounts under locks, with what threads share besides.
 
-ghost use Rattle.std.specs.Prelude.{◌≡◌, ◌<◌, ◌≤◌, IsSome, IfOk, All, length, vec_len};
+ghost use Rattle.std.specs.Prelude.{◌≡◌, ◌<◌, ◌≤◌, ◌-◌, nat_lt, IsSome, IfOk, All, length, vec_len};
 ghost use Rattle.kl1_pool_tickets.specs.Counts.{Moved, Acts, new_counts};
 ghost use Rattle.kl1_pool_tickets.specs.declared.serving.TheConstants.{MOST_STEPS};
 ghost use Rattle.kl1_pool.specs.Names.{called_at};
-ghost use Rattle.kl1_pool.specs.Stepping.{IsTurn};
+ghost use Rattle.kl1_pool.specs.Stepping.{IsTurnIf, IsTurn};
+ghost use Rattle.kl1_pool.specs.declared.turn.TheConstants.{MOST_GRANTED_STEPS};
 
 use crate::gate::Gate;
 use crate::locked_slot::{LockedSlot, Tenant};
@@ -149,7 +150,7 @@ impl<'t, R: Wait, K: PoolIds> Pool<'t, R, K> {
         unread: u64,
     ) -> TimeSlice
         ensures few { result.steps ≤ MOST_STEPS }
-        ensures turn { IsTurn K.rules (called_at K.names account) K.most_bytes result }
+        ensures turn { IsTurnIf K.rules (called_at K.names account) K.most_bytes (nat_lt MOST_GRANTED_STEPS unread) result }
         ensures counted { Moved account result.steps result.steps 0 0 share.old share.new }
     {
         // As in `act_on`.
@@ -189,7 +190,7 @@ impl<'t, R: Wait, K: PoolIds> Pool<'t, R, K> {
         requires some { IsSome tenant.old }
         ensures some { IsSome tenant.new }
         ensures few { result.steps ≤ MOST_STEPS }
-        ensures turn { IsTurn K.rules (called_at K.names account) K.most_bytes result }
+        ensures turn { IsTurnIf K.rules (called_at K.names account) K.most_bytes (nat_lt MOST_GRANTED_STEPS unread) result }
         ensures counted { Moved account result.steps result.steps 0 0 share.old share.new }
     {
         match tenant {
@@ -198,6 +199,27 @@ impl<'t, R: Wait, K: PoolIds> Pool<'t, R, K> {
             }
             _ => NO_TURN,
         }
+    }
+
+    /// A turn of the account at a place under its lock, as `turn`. Over its bytes the account is gone on only if more was unread than such a turn
+    /// reads, and each step takes one from that: so such turns come to an end.
+    fn turn_in<G: Gate>(
+        &self,
+        slot: &mut LockedSlot<'t, R, K>,
+        gate: &G,
+        number: u64,
+        account: usize,
+        share: &mut Share<K>,
+    ) -> TimeSlice
+        ensures few { result.steps ≤ MOST_STEPS }
+        ensures turn { IsTurnIf K.rules (called_at K.names account) K.most_bytes (nat_lt MOST_GRANTED_STEPS slot.old) result }
+        ensures fewer { slot.new ≤ slot.old - result.steps }
+        ensures counted { Moved account result.steps result.steps 0 0 share.old share.new }
+    {
+        let unread = slot.unread;
+        let slice = self.turn_at(&mut *slot.tenant, gate, number, account, share, unread);
+        slot.note_steps(slice.steps);
+        slice
     }
 
     /// A turn of an account under its lock, as `PoolAccount::turn`, between `enter` and `leave` of a gate. An account that takes more bytes
@@ -219,11 +241,7 @@ impl<'t, R: Wait, K: PoolIds> Pool<'t, R, K> {
             return NO_TURN;
         };
         let mut guard = place.lock(rt);
-        let slot = &mut *guard;
-        let unread = slot.unread;
-        let slice = self.turn_at(&mut *slot.tenant, gate, number, account, share, unread);
-        slot.note_steps(slice.steps);
-        slice
+        self.turn_in(&mut *guard, gate, number, account, share)
     }
 
     /// Drops a pool whose shares can't be gathered. A drop without this call is proved only where the tables that are lent to the pool

@@ -123,7 +123,7 @@ impl<'t, R: Wait, K: PoolIds> PoolAccount<'t, R, K> {
         requires bound { most_bytes ≡ K.most_bytes }
         requires within { IsWithinTurn K.most_bytes is_short self.old }
         ensures few { result.steps ≤ MOST_STEPS }
-        ensures turn { IsTurnOfSome K.rules (called_at K.names self.old.book.account) K.most_bytes result }
+        ensures turn { IsTurnOfSome K.rules (called_at K.names self.old.book.account) K.most_bytes more result }
         ensures counted { Moved self.old.book.account result.steps result.steps 0 0 share.old share.new }
         ensures out { self.new.is_out ≡ (if result.again then self.old.is_out else false) }
     {
@@ -148,7 +148,7 @@ impl<'t, R: Wait, K: PoolIds> PoolAccount<'t, R, K> {
         requires bound { most_bytes ≡ K.most_bytes }
         requires within { IsWithinTurn K.most_bytes is_short self.old }
         ensures few { result.steps ≤ MOST_STEPS }
-        ensures turn { IsTurnOfSome K.rules (called_at K.names self.old.book.account) K.most_bytes result }
+        ensures turn { IsTurnOfSome K.rules (called_at K.names self.old.book.account) K.most_bytes more result }
         ensures counted { Moved self.old.book.account result.steps result.steps 0 0 share.old share.new }
         ensures out { self.new.is_out ≡ self.old.is_out }
     {
