@@ -113,7 +113,8 @@ impl NextKeys {
         if is_removed(key, wanted) {
             self.removed.push(place)?;
         }
-        self.keys.push(next_at(alloc, key, wanted)?)
+        self.keys.push(next_at(alloc, key, wanted)?)?;
+        Ok(())
     }
 
     /// Takes in one that comes, if there is a place for it.
@@ -124,7 +125,8 @@ impl NextKeys {
             return Ok(());
         }
         self.added.push(place)?;
-        self.keys.push(copy_of(alloc, key)?)
+        self.keys.push(copy_of(alloc, key)?)?;
+        Ok(())
     }
 }
 
