@@ -1,7 +1,6 @@
 -- What becomes of one entry, by the reply to it or by how its run ended.
 use Rattle.std.proofs.Common.{◌≡◌, ℕ, zero, suc, ◌+◌, ◌-◌, ◌<◌, ◌≤◌, Bool, true, false, if◌then◌else◌, [], ◌∷◌, refl, sym, ap, ◌∙◌, subst, arith}
-use Rattle.std.specs.Prelude.{Option, Some, None, nat_lt, ◌&&◌}
-use lemmas.Bool.Decides.{nat_tests}
+use Rattle.std.specs.Prelude.{Option, Some, None}
 use Rattle.std.proofs.lemmas.Option.{same_Some, none-some}
 use Rattle.kl1_model.specs.State.{State, has_runs}
 use Rattle.kl1_model.specs.Event as model
@@ -20,7 +19,7 @@ use Rattle.kl1_command.proofs.Runs.{all_done}
 use Rattle.kl1_pool.specs.declared.restoring.RestoreEnd.TheVariants as ending
 use Rattle.kl1_pool.specs.declared.restoring.EntryResult.{EntryResult}
 use Rattle.kl1_pool.specs.declared.restoring.EntryResult.TheVariants as result
-use Rattle.kl1_pool.specs.Restoring.{is_done, Leads, IsNext, IsEntryDone, run_length, result_by, result_of_run, told_of, told_entry}
+use Rattle.kl1_pool.specs.Restoring.{Leads, IsNext, IsEntryDone, run_length, result_by, result_of_run, told_of, told_entry}
 use Rattle.kl1_pool.proofs.FirstSteps.{steps_on, runs_first, run_refused, quiet_refused, step_refused, run_does, run_is_refused}
 use Rattle.kl1_pool.proofs.ToldEntries.{told_event}
 use Rattle.kl1_pool.proofs.RestoredEntries.{told_is}
@@ -101,12 +100,12 @@ runs_lead s mid after n m begun on =
     let sum : m ≡ m + 0 = omega arith in
     steps_on n m s.state mid.state after.state begun (runs_first m 0 m mid after sum (all_done mid after m on))
 
--- how a piece of a run ended is how the run ended, but if there is more of it
-pub end_of_all : (all begun piece n : ℕ) (o : FirstStep) (after : Kept) → begun + piece ≤ all → n ≤ piece → IsEnd piece n o after → (is_done o && nat_lt (begun + n) all) ≡ false → IsEnd all (begun + n) o after
-end_of_all all begun piece n first_step.Done after within few end no = let h : nat_lt (begun + n) all ≡ false = no in grind (arith, nat_tests, within, end, h)
-end_of_all all begun piece n first_step.Quiet after within few end no = (omega (arith, within, end.0), end.1)
-end_of_all all begun piece n (first_step.Refused r) after within few end no = (omega (arith, within, end.0), end.1)
-end_of_all all begun piece n first_step.Memory after within few end no = omega (arith, within, end)
+-- how a piece of a run ended that was cut short is how the run ended
+pub end_of_all : (all begun piece n : ℕ) (o : FirstStep) (after : Kept) → begun + piece ≤ all → n < piece → IsEnd piece n o after → IsEnd all (begun + n) o after
+end_of_all all begun piece n first_step.Done after within less end = let whole : n ≡ piece = end in absurd (omega (arith, less, whole))
+end_of_all all begun piece n first_step.Quiet after within less end = (omega (arith, within, less), end.1)
+end_of_all all begun piece n (first_step.Refused r) after within less end = (omega (arith, within, less), end.1)
+end_of_all all begun piece n first_step.Memory after within less end = let few : begun + n < all = omega (arith, within, less) in few
 
 -- what becomes of a run of which `n` steps are done
 pub run_done : (s after : Kept) (all n : ℕ) (last : FirstStep) (x : EntryResult) → has_runs s.state.rules ≡ true → n ≤ all → Leads s.state n after.state → IsEnd all n last after → x ≡ result_of_run n last → IsEntryDone s.state (runs all) x after.state
@@ -141,3 +140,8 @@ run_told s after all n last x end is = subst (λ q. told_steps n ≡ told_entry 
 pub room_less : (all begun n : ℕ) (room left : Option ℕ) → left ≡ less room n → HasRoomFor (all - begun) room → HasRoomFor (all - (begun + n)) left
 room_less all begun n None left is has = subst (HasRoomFor (all - (begun + n))) (sym is) tt
 room_less all begun n (Some k) left is has = subst (HasRoomFor (all - (begun + n))) (sym is) (let enough : all - begun ≤ k = has in omega (arith, enough))
+
+-- there is room for a part of what there is room for
+pub room_enough : (all n : ℕ) (room : Option ℕ) → n ≤ all → HasRoomFor all room → HasRoomFor n room
+room_enough all n None few has = tt
+room_enough all n (Some k) few has = let enough : all ≤ k = has in let some : n ≤ k = omega (arith, few, enough) in some

@@ -3,7 +3,7 @@ use Rattle.std.specs.Prelude.{◌≡◌, ℕ, ◌+◌, ◌≤◌, ◌⊎◌, Boo
 use Rattle.kl1_model.specs.declared.rules.Rules.{Rules}
 use Rattle.kl1_model.specs.State.{State}
 use Rattle.kl1_model.specs.Event.{Reply, ran, is_refused}
-use Rattle.kl1_model_server.specs.Journal.{Entry, loads, starts, sends, steps, answers, runs, entry_step, first_steps, Kept}
+use Rattle.kl1_model_server.specs.Journal.{Entry, loads, starts, sends, steps, answers, runs, entry_step, first_steps, Journal, Kept}
 use Rattle.kl1_model_server.specs.laws.ReplayLaws.{are_accepted}
 use Rattle.kl1_command.specs.Told.{Told}
 use Rattle.kl1_command.specs.declared.first_step.FirstStep.{FirstStep}
@@ -40,13 +40,6 @@ run_length (runs n) = n
 -- so many first steps, all of them done, lead from one account to another
 abbrev pub Leads : State → ℕ → State → Type 0
 Leads s n after = first_steps n s ≡ record { state = after; reply = ran n }
-
--- whether all steps are done that were asked for
-abbrev pub is_done : FirstStep → Bool
-is_done first_step.Done = true
-is_done first_step.Quiet = false
-is_done (first_step.Refused r) = false
-is_done first_step.Memory = false
 
 -- an entry is what is next, and `k` first steps were done that it has
 abbrev pub IsNext : List Entry → ℕ → Type 0
@@ -93,13 +86,14 @@ abbrev pub told_entry : Entry → EntryResult → Told
 told_entry e result.Whole = told_of (e ∷ []) 0
 told_entry e (result.Stopped k end) = told_of [] k
 
--- some account of these rules and of this name, whose journal had no entries, was restored so
-abbrev pub IsRestoredBySome : Rules → (List ℕ → Type 0) → List Entry → Restored → Type 0
-IsRestoredBySome rules name es r = (before : Kept) × (after : State) × IsAccount rules name before × (before.journal.entries ≡ []) × IsRestored before.state es r after
+-- some account of these rules and of this name, which had used the names of this journal and whose own journal had no entries, was restored so
+-- from it
+abbrev pub IsRestoredBySome : Rules → (List ℕ → Type 0) → Journal → Restored → Type 0
+IsRestoredBySome rules name j r = (before : Kept) × (after : State) × IsAccount rules name before × (before.journal.entries ≡ []) × (before.journal.names ≡ j.names) × IsRestored before.state j.entries r after
 
 -- so, or memory was refused before anything was done
-abbrev pub IsRestoredOf : Rules → (List ℕ → Type 0) → List Entry → Restored → Type 0
-IsRestoredOf rules name es r = IsRestoredBySome rules name es r ⊎ (r ≡ record { entries = 0; steps = 0; end = ending.Memory })
+abbrev pub IsRestoredOf : Rules → (List ℕ → Type 0) → Journal → Restored → Type 0
+IsRestoredOf rules name j r = IsRestoredBySome rules name j r ⊎ (r ≡ record { entries = 0; steps = 0; end = ending.Memory })
 
 -- how many events and steps are counted of a restore from these entries
 abbrev pub events_of : List Entry → Restored → ℕ

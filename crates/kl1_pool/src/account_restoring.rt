@@ -67,7 +67,8 @@ impl<'t, R: Wait, K: PoolIds> PoolAccount<'t, R, K> {
         restore_all(alloc, &mut host, meter, journal)
     }
 
-    /// `restore` of an account whose journal has no entries, and what is told of it by those who don't see the account.
+    /// `restore` of an account whose journal has no entries and the names of that which is to be done, and what is told of it by those who don't
+    /// see the account.
     pub(crate) fn restore_counted<M: Meter>(
         &mut self,
         rt: &'t R,
@@ -79,7 +80,8 @@ impl<'t, R: Wait, K: PoolIds> PoolAccount<'t, R, K> {
         journal: &Journal,
     ) -> Restored
         requires fresh { self.old.held.1.entries ≡ [] }
-        ensures restored { IsRestoredBySome K.rules (is_called self.old.held.0.own_name) journal.now.journal.entries result }
+        requires names { self.old.held.1.names ≡ journal.now.journal.names }
+        ensures restored { IsRestoredBySome K.rules (is_called self.old.held.0.own_name) journal.now.journal result }
         ensures counted { Moved self.old.book.account (events_of journal.now.journal.entries result) (steps_of journal.now.journal.entries result) 0 0 share.old share.new }
         ensures account { self.new.book.account ≡ self.old.book.account }
     {

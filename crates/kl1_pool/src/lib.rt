@@ -6,6 +6,7 @@ ghost use Rattle.kl1_pool.specs.laws.EndedLaws.{SameEndedGrows};
 mod account_host;
 mod account_restoring;
 mod answer;
+mod commands;
 mod counting;
 mod gate;
 mod gathering;

@@ -1,6 +1,6 @@
 // What lies under the lock of a place for an account.
 
-ghost use Rattle.std.specs.Prelude.{◌≡◌, ℕ, List, Some, None, IfSome, IfOk, IfErr, slice_get, [], false};
+ghost use Rattle.std.specs.Prelude.{◌≡◌, ◌≤◌, ◌-◌, ℕ, List, Some, None, IfSome, IfOk, IfErr, slice_get, [], false};
 ghost use Rattle.atomic_table.specs.Seated.{TableId};
 ghost use Rattle.kl1_atoms.specs.declared.atom_seat.AtomSeat.{AtomSeat};
 ghost use Rattle.kl1_model.specs.declared.rules.Rules.{Rules};
@@ -78,6 +78,7 @@ impl<K: PoolIds> EmptyPlace<K> {
         ensures book { IfOk result (λ a. a.book ≡ self.book) }
         ensures name { IfOk result (λ a. a.held.0.own_name ≡ name) }
         ensures fresh { IfOk result (λ a. (a.held.1.entries ≡ []) × (a.is_out ≡ false)) }
+        ensures used { IfOk result (λ a. a.held.1.names ≡ texts.now) }
         ensures left { IfErr result (λ p. p.book ≡ self.book) }
     {
         let EmptyPlace { book, vacancy, .. } = self;
@@ -124,7 +125,7 @@ pub(crate) trait Vacant: Drop {
         requires shown { (slice_get histories book.account ≡ Some vacancy.shown.history) × (vacancy.shown.last ≡ None) };
 }
 
-/// A place under its lock. It is padded: a lock's word is written by each thread that wants the account, and no word of an account lies on its
+/// A place under its lock; contracts see how much may be unread there. It is padded: a lock's word is written by each thread that wants the account, and no word of an account lies on its
 /// line.
 #[derive(Drop)]
 pub struct LockedSlot<'t, R: Wait, K: PoolIds> {
@@ -140,7 +141,7 @@ impl<'t, R: Wait, K: PoolIds> Model for LockedSlot<'t, R, K> {
 
     ghost Value = { ℕ };
 
-    ghost view = { λ s. 0 };
+    ghost view = { λ s. s.unread };
 
     ghost invariant = { λ s. IsSome (padded_value s.tenant) };
 }
@@ -170,7 +171,9 @@ impl<'t, R: Wait, K: PoolIds> LockedSlot<'t, R, K> {
     }
 
     /// Notes that so many steps were done: each reads one, since monitors step before all else; and nothing is unread where no goal can step.
-    pub(crate) fn note_steps(&mut self, steps: u64) {
+    pub(crate) fn note_steps(&mut self, steps: u64)
+        ensures { self.new ≤ self.old - steps }
+    {
         self.unread = match self.account() {
             Some(account) if !account.quiet() => self.unread.saturating_sub(steps),
             _ => 0,

@@ -1,26 +1,20 @@
 // Accounts under locks, with what threads share besides.
 
-ghost use Rattle.std.specs.Prelude.{◌≡◌, ◌<◌, ◌≤◌, Some, IfOk, All, length, slice_get, true, false, vec_len};
+ghost use Rattle.std.specs.Prelude.{◌≡◌, ◌<◌, ◌≤◌, ◌-◌, nat_lt, IsSome, IfOk, All, length, vec_len};
 ghost use Rattle.kl1_pool_tickets.specs.Counts.{Moved, Acts, new_counts};
 ghost use Rattle.kl1_pool_tickets.specs.declared.serving.TheConstants.{MOST_STEPS};
-ghost use Rattle.kl1_command.specs.Commands.{command_view};
-ghost use Rattle.kl1_command.specs.Told.{events_told, steps_told};
-ghost use Rattle.kl1_journal_stamps.specs.Stamps.{StampValue};
 ghost use Rattle.kl1_pool.specs.Names.{called_at};
-ghost use Rattle.kl1_pool.specs.Showing.{IsDone, IsShownAfter};
-ghost use Rattle.kl1_pool.specs.Stepping.{IsTurn};
+ghost use Rattle.kl1_pool.specs.Stepping.{IsTurnIf, IsTurn};
+ghost use Rattle.kl1_pool.specs.declared.turn.TheConstants.{MOST_GRANTED_STEPS};
 
-use crate::answer::Answer;
 use crate::gate::Gate;
 use crate::locked_slot::{LockedSlot, Tenant};
 use crate::locked_slots::{drop_all, places_of};
-use crate::looking::JournalReader;
 use crate::parts::PoolParts;
 use crate::pool_account::{DueTicket, PoolAccount};
-use crate::pool_ids::{Names, PoolIds};
+use crate::pool_ids::PoolIds;
 use crate::shared_tables::SharedTables;
 use crate::turn::MOST_GRANTED_STEPS;
-use kl1_command::Command;
 use kl1_pool_tickets::{Opened, PoolShared, Share, TimeSlice};
 use std::alloc::{AllocError, Global};
 use std::marker::PhantomData;
@@ -112,150 +106,6 @@ impl<'t, R: Wait, K: PoolIds> Pool<'t, R, K> {
         self.places.len()
     }
 
-    /// Does a command to an account that is found at a place, if it is the one that was asked for; and its ticket that is to be put, if there is one. Tells
-    /// whether it did.
-    fn act_on<N: Names>(
-        &self,
-        found: &mut PoolAccount<'t, R, K>,
-        account: usize,
-        command: &Command,
-        share: &mut Share<K>,
-    ) -> (Answer<K, N>, Option<DueTicket<K>>, bool)
-        requires named { found.old.book.account ≡ account → called_at N.names account found.old.held.0.own_name }
-        ensures counted { Moved account (events_told result.0.performed) (steps_told result.0.performed) 0 0 share.old share.new }
-        ensures account { result.0.account ≡ account }
-        ensures command { result.0.command ≡ command_view command.now }
-        ensures done { result.2 ≡ true → IsDone K.rules (called_at N.names account) (command_view command.now) result.0.performed found.old.held found.new.held }
-    {
-        // The lock tells nothing of which account lies under it. It is always this one.
-        if found.account() != account {
-            return (Answer::misplaced(found, account, command), None, false);
-        }
-        if found.is_beyond(self.most_bytes, command) {
-            return (Answer::over(found, account, command), None, false);
-        }
-        // Called for the facts that it proves: the account is the replay of its journal, with the rules of the pool.
-        found.shows_counts();
-        let (answer, due) = found.act::<N>(self.rt, &self.common, &self.tables, share, command);
-        (answer, due, true)
-    }
-
-    /// Does a command to an account under its lock; and its ticket that is to be put, if there is one.
-    fn visit<W: Wait>(
-        &self,
-        rt: &W,
-        account: usize,
-        command: &Command,
-        share: &mut Share<K>,
-    ) -> (Answer<K, K>, Option<DueTicket<K>>)
-        requires within { account < K.accounts }
-        ensures counted { Moved account (events_told result.0.performed) (steps_told result.0.performed) 0 0 share.old share.new }
-        ensures account { result.0.account ≡ account }
-        ensures command { result.0.command ≡ command_view command.now }
-    {
-        let mut guard = self.places[account].lock(rt);
-        let slot = &mut *guard;
-        let (answer, due, _) = match &mut *slot.tenant {
-            Some(Tenant::Account(found)) => {
-                // Called for the fact that it proves: the name is the one that K names, if it names one.
-                found.shows_counts();
-                self.act_on::<K>(found, account, command, share)
-            }
-            Some(Tenant::Nobody(place)) => (Answer::absent(place, account, command), None, false),
-            None => unreachable!(),
-        };
-        slot.note_answer(answer.performed());
-        (answer, due)
-    }
-
-    /// Does a command to an account under its lock, as `PoolAccount::perform`. Afterwards a ticket of the account is put unless the account is
-    /// quiet or one is out.
-    pub fn act<W: Wait>(
-        &self,
-        rt: &W,
-        account: usize,
-        command: &Command,
-        share: &mut Share<K>,
-    ) -> Answer<K, K>
-        requires within { account < K.accounts }
-        ensures counted { Acts account (events_told result.performed) (steps_told result.performed) share.old share.new }
-        ensures account { result.account ≡ account }
-        ensures command { result.command ≡ command_view command.now }
-    {
-        let (answer, due) = self.visit(rt, account, command, share);
-        if let Some(due) = due {
-            self.offer(rt, account, due, share);
-        }
-        answer
-    }
-
-    /// `act_on` of an account that is called so, after which a reader reads its journal, if the command was done; and whether it did.
-    fn show_on<N: Names, L: JournalReader>(
-        &self,
-        found: &mut PoolAccount<'t, R, K>,
-        account: usize,
-        name: &[u8],
-        command: &Command,
-        share: &mut Share<K>,
-        reader: &mut L,
-    ) -> (Answer<K, N>, Option<DueTicket<K>>, bool)
-        requires named { slice_get N.names account ≡ Some name.now }
-        requires takes { (s : StampValue) → slice_get K.histories account ≡ Some s.history → L.takes reader.old s }
-        ensures counted { Moved account (events_told result.0.performed) (steps_told result.0.performed) 0 0 share.old share.new }
-        ensures account { result.0.account ≡ account }
-        ensures command { result.0.command ≡ command_view command.now }
-        ensures shown { result.2 ≡ true → IsShownAfter K.rules (called_at N.names account) (command_view command.now) result.0.performed (λ j ended. L.reads reader.old reader.new j ended) }
-        ensures same { result.2 ≡ false → reader.new ≡ reader.old }
-    {
-        if !found.is_called(name) {
-            return (Answer::misnamed(found, account, name, command), None, false);
-        }
-        let (answer, due, is_done) = self.act_on::<N>(found, account, command, share);
-        // It is called as before, but no clause of `act` says so.
-        if !is_done || !found.is_called(name) {
-            return (answer, due, false);
-        }
-        let is_shown = found.look_at(account, reader);
-        (answer, due, is_shown)
-    }
-
-    /// Does a command to the account of this number, which is to be called so, under its lock, as `act`; and lets a reader read the account's
-    /// journal then, under the same lock. Answers whether it did: it didn't if the account isn't here, is called otherwise or is over its bound.
-    pub fn act_shown<N: Names, W: Wait, L: JournalReader>(
-        &self,
-        rt: &W,
-        account: usize,
-        name: &[u8],
-        command: &Command,
-        share: &mut Share<K>,
-        reader: &mut L,
-    ) -> (Answer<K, N>, bool)
-        requires within { account < K.accounts }
-        requires named { slice_get N.names account ≡ Some name.now }
-        requires takes { (s : StampValue) → slice_get K.histories account ≡ Some s.history → L.takes reader.old s }
-        ensures counted { Acts account (events_told result.0.performed) (steps_told result.0.performed) share.old share.new }
-        ensures account { result.0.account ≡ account }
-        ensures command { result.0.command ≡ command_view command.now }
-        ensures shown { result.1 ≡ true → IsShownAfter K.rules (called_at N.names account) (command_view command.now) result.0.performed (λ j ended. L.reads reader.old reader.new j ended) }
-        ensures same { result.1 ≡ false → reader.new ≡ reader.old }
-    {
-        let mut guard = self.places[account].lock(rt);
-        let slot = &mut *guard;
-        let (answer, due, is_shown) = match &mut *slot.tenant {
-            Some(Tenant::Account(found)) => {
-                self.show_on::<N, L>(found, account, name, command, share, reader)
-            }
-            Some(Tenant::Nobody(place)) => (Answer::absent(place, account, command), None, false),
-            None => unreachable!(),
-        };
-        slot.note_answer(answer.performed());
-        drop(guard);
-        if let Some(due) = due {
-            self.offer(rt, account, due, share);
-        }
-        (answer, is_shown)
-    }
-
     /// Puts an account's ticket; if it can't be put, none is out.
     pub(crate) fn offer<W: Wait>(
         &self,
@@ -300,7 +150,7 @@ impl<'t, R: Wait, K: PoolIds> Pool<'t, R, K> {
         unread: u64,
     ) -> TimeSlice
         ensures few { result.steps ≤ MOST_STEPS }
-        ensures turn { IsTurn K.rules (called_at K.names account) K.most_bytes result }
+        ensures turn { IsTurnIf K.rules (called_at K.names account) K.most_bytes (nat_lt MOST_GRANTED_STEPS unread) result }
         ensures counted { Moved account result.steps result.steps 0 0 share.old share.new }
     {
         // As in `act_on`.
@@ -314,14 +164,67 @@ impl<'t, R: Wait, K: PoolIds> Pool<'t, R, K> {
             return NO_TURN;
         }
         gate.enter(number);
-        let slice = found.time_slice(self.rt, &self.common, &self.tables, share, is_short, more);
+        let slice = found.time_slice(
+            self.rt,
+            &self.common,
+            &self.tables,
+            share,
+            self.most_bytes,
+            is_short,
+            more,
+        );
         gate.leave(number);
         slice
     }
 
+    /// `turn_on` of the account at a place, if there is one.
+    fn turn_at<G: Gate>(
+        &self,
+        tenant: &mut Option<Tenant<'t, R, K>>,
+        gate: &G,
+        number: u64,
+        account: usize,
+        share: &mut Share<K>,
+        unread: u64,
+    ) -> TimeSlice
+        requires some { IsSome tenant.old }
+        ensures some { IsSome tenant.new }
+        ensures few { result.steps ≤ MOST_STEPS }
+        ensures turn { IsTurnIf K.rules (called_at K.names account) K.most_bytes (nat_lt MOST_GRANTED_STEPS unread) result }
+        ensures counted { Moved account result.steps result.steps 0 0 share.old share.new }
+    {
+        match tenant {
+            Some(Tenant::Account(found)) => {
+                self.turn_on(found, gate, number, account, share, unread)
+            }
+            _ => NO_TURN,
+        }
+    }
+
+    /// A turn of the account at a place under its lock, as `turn`. Over its bytes the account is gone on only if more was unread than such a turn
+    /// reads, and each step takes one from that: so such turns come to an end.
+    fn turn_in<G: Gate>(
+        &self,
+        slot: &mut LockedSlot<'t, R, K>,
+        gate: &G,
+        number: u64,
+        account: usize,
+        share: &mut Share<K>,
+    ) -> TimeSlice
+        ensures few { result.steps ≤ MOST_STEPS }
+        ensures turn { IsTurnIf K.rules (called_at K.names account) K.most_bytes (nat_lt MOST_GRANTED_STEPS slot.old) result }
+        ensures fewer { slot.new ≤ slot.old - result.steps }
+        ensures counted { Moved account result.steps result.steps 0 0 share.old share.new }
+    {
+        let unread = slot.unread;
+        let slice = self.turn_at(&mut *slot.tenant, gate, number, account, share, unread);
+        slot.note_steps(slice.steps);
+        slice
+    }
+
     /// A turn of an account under its lock, as `PoolAccount::turn`, between `enter` and `leave` of a gate. An account that takes more bytes
-    /// than it may gets none, but short ones while messages to its shoens may be unread. Unless the ticket is to be put back, none is out
-    /// afterwards.
+    /// than it may gets none, but short ones while messages to its shoens may be unread; if such a one leaves it within its bytes, others follow.
+    /// Unless the ticket is to be put back, none is out afterwards.
     pub(crate) fn turn<G: Gate, W: Wait>(
         &self,
         rt: &W,
@@ -338,16 +241,7 @@ impl<'t, R: Wait, K: PoolIds> Pool<'t, R, K> {
             return NO_TURN;
         };
         let mut guard = place.lock(rt);
-        let slot = &mut *guard;
-        let unread = slot.unread;
-        let slice = match &mut *slot.tenant {
-            Some(Tenant::Account(found)) => {
-                self.turn_on(found, gate, number, account, share, unread)
-            }
-            _ => NO_TURN,
-        };
-        slot.note_steps(slice.steps);
-        slice
+        self.turn_in(&mut *guard, gate, number, account, share)
     }
 
     /// Drops a pool whose shares can't be gathered. A drop without this call is proved only where the tables that are lent to the pool

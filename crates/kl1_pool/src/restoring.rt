@@ -11,7 +11,7 @@ ghost use Rattle.kl1_journal_entries.specs.Slots.{goal_in};
 ghost use Rattle.kl1_command.specs.Told.{Told, told_steps};
 ghost use Rattle.kl1_command.specs.Stepping.{IsEnd};
 ghost use Rattle.kl1_command.specs.Room.{HasRoomFor};
-ghost use Rattle.kl1_pool.specs.Restoring.{is_done, Leads, IsEntryDone, IsRestored, result_by, result_of_run, told_entry, told_of, told_sum};
+ghost use Rattle.kl1_pool.specs.Restoring.{Leads, IsEntryDone, IsRestored, result_by, result_of_run, told_entry, told_of, told_sum};
 
 use kl1_command::{FirstStep, Host, Steps, run_steps};
 use kl1_journal_entries::{Deed, Entry, Journal};
@@ -188,16 +188,6 @@ fn restore_event<H: RestoringHost>(host: &mut H, event: &Event) -> EntryResult
     }
 }
 
-/// Whether all steps are done that were asked for.
-fn is_done(last: FirstStep) -> bool
-    ensures { result ≡ is_done last }
-{
-    match last {
-        FirstStep::Done => true,
-        _ => false,
-    }
-}
-
 /// Like `run_steps`, in pieces, between which the meter is asked: if it ends them, that is told as want of memory.
 fn metered_steps<H: RestoringHost, M: Meter>(host: &mut H, meter: &M, most: u64) -> Steps
     requires { HasRoomFor most (H.room host.old) }
@@ -213,14 +203,14 @@ fn metered_steps<H: RestoringHost, M: Meter>(host: &mut H, meter: &M, most: u64)
         let piece = STEPS_A_PIECE.min(most - done);
         let run = run_steps(host, piece);
         done += run.done;
-        if !(is_done(run.last) && done < most) {
+        if run.done < piece {
             return Steps {
                 done,
                 last: run.last,
             };
         }
         // What is the last piece is told with its entry.
-        if !meter.goes_on(piece) {
+        if done < most && !meter.goes_on(piece) {
             return Steps {
                 done,
                 last: FirstStep::Memory,

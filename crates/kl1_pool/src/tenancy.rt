@@ -1,6 +1,6 @@
 // Accounts that come to places of a pool, and leave them.
 
-ghost use Rattle.std.specs.Prelude.{Bool, ◌≡◌, ◌⊎◌, ◌<◌, ◌≤◌, ◌&&◌, Some, None, IfSome, slice_get, length, is_some, not, true, false};
+ghost use Rattle.std.specs.Prelude.{Bool, ◌≡◌, ◌⊎◌, ◌<◌, ◌≤◌, ◌&&◌, Some, None, IfSome, IfOk, IfErr, slice_get, length, is_some, not, true, false};
 ghost use Rattle.kl1_model.specs.Choice.{quiet};
 ghost use Rattle.kl1_journal.specs.Keeping.{Reading, Fits, kept_of};
 ghost use Rattle.kl1_journal_entries.specs.Lined.{Rows};
@@ -99,7 +99,7 @@ impl<'t, R: Wait, K: PoolIds> PoolAccount<'t, R, K> {
 }
 
 impl<'t, R: Wait, K: PoolIds> Pool<'t, R, K> {
-    /// Who is at a place after an account was to come to it, as `admit`.
+    /// The account that comes to a place, as `admit`; else the place, to which none comes any more.
     fn admitted<L: Newcomer>(
         &self,
         alloc: Global,
@@ -108,23 +108,28 @@ impl<'t, R: Wait, K: PoolIds> Pool<'t, R, K> {
         name: AccountName,
         comer: &mut L,
         share: &mut Share<K>,
-    ) -> (Tenant<'t, R, K>, Restored, Option<DueTicket<K>>)
+    ) -> (
+        Result<PoolAccount<'t, R, K>, EmptyPlace<K>>,
+        Restored,
+        Option<DueTicket<K>>,
+    )
         requires name { called_at K.names account name }
         requires takes { (s : StampValue) → slice_get K.histories account ≡ Some s.history → L.takes comer.old s }
-        ensures restored { IsRestoredOf K.rules (is_called name) (L.brings comer.old).journal.entries result.1 }
+        ensures restored { IsRestoredOf K.rules (is_called name) (L.brings comer.old).journal result.1 }
         ensures counted { Moved account (events_of (L.brings comer.old).journal.entries result.1) (steps_of (L.brings comer.old).journal.entries result.1) 0 0 share.old share.new }
-        ensures seen { (comer.new ≡ comer.old) ⊎ ((result.1.end ≡ All) × IsSeenOfSome K.rules (is_called name) (λ j ended. L.reads comer.old comer.new j ended)) }
+        ensures stays { IfOk result.0 (λ found. (result.1.end ≡ All) × IsSeenOfSome K.rules (is_called name) (λ j ended. L.reads comer.old comer.new j ended)) }
+        ensures left { IfErr result.0 (λ left. comer.new ≡ comer.old) }
     {
         // As in `visit`.
         if place.account() != account {
-            return (Tenant::Nobody(place), NOT_RESTORED, None);
+            return (Err(place), NOT_RESTORED, None);
         }
         let journal = comer.journal();
         // That its names are names that an account may have used.
         journal.shows_written();
         let mut found = match place.settle(alloc, &self.tables, name, journal.names()) {
             Ok(found) => found,
-            Err(left) => return (Tenant::Nobody(left), NOT_RESTORED, None),
+            Err(left) => return (Err(left), NOT_RESTORED, None),
         };
         let restored = found.restore_counted(
             self.rt,
@@ -135,22 +140,14 @@ impl<'t, R: Wait, K: PoolIds> Pool<'t, R, K> {
             &*comer,
             comer.journal(),
         );
-        if matches!(restored.end, RestoreEnd::All) {
-            let (stays, due) = found.welcome(&name, comer);
-            if stays {
-                return (Tenant::Account(found), restored, due);
-            }
-            return (
-                Tenant::Nobody(EmptyPlace::left(found.into_book())),
-                restored,
-                due,
-            );
+        if !matches!(restored.end, RestoreEnd::All) {
+            return (Err(EmptyPlace::left(found.into_book())), restored, None);
         }
-        (
-            Tenant::Nobody(EmptyPlace::left(found.into_book())),
-            restored,
-            None,
-        )
+        let (stays, due) = found.welcome(&name, comer);
+        if !stays {
+            return (Err(EmptyPlace::left(found.into_book())), restored, due);
+        }
+        (Ok(found), restored, due)
     }
 
     /// Lets an account come to a place at which none was yet: it is begun as one of this name which had used the names of `comer`'s journal at its last
@@ -169,7 +166,7 @@ impl<'t, R: Wait, K: PoolIds> Pool<'t, R, K> {
     ) -> Restored
         requires within { account < K.accounts }
         requires takes { (s : StampValue) → slice_get K.histories account ≡ Some s.history → L.takes comer.old s }
-        ensures restored { IsRestoredOf K.rules (is_called name) (L.brings comer.old).journal.entries result }
+        ensures restored { IsRestoredOf K.rules (is_called name) (L.brings comer.old).journal result }
         ensures counted { Acts account (events_of (L.brings comer.old).journal.entries result) (steps_of (L.brings comer.old).journal.entries result) share.old share.new }
         ensures seen { (comer.new ≡ comer.old) ⊎ ((result.end ≡ All) × IsSeenOfSome K.rules (is_called name) (λ j ended. L.reads comer.old comer.new j ended)) }
     {
@@ -180,10 +177,13 @@ impl<'t, R: Wait, K: PoolIds> Pool<'t, R, K> {
         let slot = &mut *guard;
         match mem::replace(&mut *slot.tenant, None) {
             Some(Tenant::Nobody(place)) => {
-                let (tenant, restored, due) = self.admitted(
+                let (came, restored, due) = self.admitted(
                     alloc, place, account, name, comer, share,
                 );
-                *slot.tenant = Some(tenant);
+                *slot.tenant = Some(match came {
+                    Ok(found) => Tenant::Account(found),
+                    Err(left) => Tenant::Nobody(left),
+                });
                 drop(guard);
                 if let Some(due) = due {
                     self.offer(rt, account, due, share);

@@ -1,6 +1,6 @@
 // Turns of an account of a pool.
 
-ghost use Rattle.std.specs.Prelude.{◌≡◌, ◌≤◌, ◌&&◌, min, if◌then◌else◌, true, false};
+ghost use Rattle.std.specs.Prelude.{◌≡◌, ◌≤◌, min, if◌then◌else◌, true, false};
 ghost use Rattle.kl1_command.specs.Told.{told_steps};
 ghost use Rattle.kl1_command.specs.Stepping.{IsEnd, RunsOn};
 ghost use Rattle.kl1_pool_tickets.specs.Counts.{Moved};
@@ -10,7 +10,7 @@ ghost use Rattle.kl1_pool.specs.Counted.{room_in};
 ghost use Rattle.kl1_pool.specs.PoolAccounts.{HasCounted};
 ghost use Rattle.kl1_pool.specs.Memory.{IsWithinTurn};
 ghost use Rattle.kl1_pool.specs.Names.{called_at};
-ghost use Rattle.kl1_pool.specs.Stepping.{AreFirstSteps, goes_on, turn_goes_on, IsTurnOfSome};
+ghost use Rattle.kl1_pool.specs.Stepping.{AreFirstSteps, goes_on, short_goes_on, turn_goes_on, IsTurnOfSome};
 ghost use Rattle.kl1_pool.specs.declared.turn.TheConstants.{MOST_GRANTED_STEPS};
 
 use crate::account_host::AccountHost;
@@ -30,7 +30,7 @@ pub struct Turn {
 }
 
 /// The most steps of a turn that is granted to an account which takes more bytes than it may: its monitors step first, and one step reads
-/// one message. If there are more, another such turn reads them.
+/// one message. If there are more, another such turn reads them; and once the account takes no more bytes than it may, whole turns follow.
 pub const MOST_GRANTED_STEPS: u64 = 2;
 
 impl<'t, R: Wait, K: PoolIds> PoolAccount<'t, R, K> {
@@ -57,25 +57,28 @@ impl<'t, R: Wait, K: PoolIds> PoolAccount<'t, R, K> {
         Turn { steps, again }
     }
 
-    /// Like `turn`, of at most `MOST_GRANTED_STEPS`; unless `more` is to be read it isn't gone on.
+    /// Like `turn`, of at most `MOST_GRANTED_STEPS`; unless `more` is to be read, or the account takes no more than `most_bytes` bytes afterwards,
+    /// it isn't gone on.
     fn short_turn(
         &mut self,
         rt: &'t R,
         common: &PoolShared<K>,
         tables: &SharedTables<'t, K>,
         share: &mut Share<K>,
+        most_bytes: u64,
         more: bool,
     ) -> Turn
         ensures few { result.steps.done ≤ MOST_GRANTED_STEPS }
         ensures steps { (f : Reading) → Fits self.new.held.0.names f → AreFirstSteps (kept_of f self.old.held) result.steps.done (kept_of f self.new.held) }
-        ensures again { (f : Reading) → Fits self.new.held.0.names f → result.again ≡ (more && goes_on MOST_GRANTED_STEPS result.steps.done (kept_of f self.new.held)) }
+        ensures again { (f : Reading) → Fits self.new.held.0.names f → result.again ≡ short_goes_on most_bytes more result.steps.done (kept_of f self.new.held) }
         ensures counted { HasCounted self.old share.old (told_steps result.steps.done) self.new share.new }
         ensures out { self.new.is_out ≡ self.old.is_out }
         ensures before { (f : Reading) → Fits self.new.held.0.names f → Fits self.old.held.0.names f }
     {
         let most = MOST_GRANTED_STEPS.min(self.room());
         let steps = self.first_steps(rt, common, tables, share, most);
-        let again = more && steps.done == MOST_GRANTED_STEPS && !self.quiet();
+        let may_go_on = more || !self.is_over(most_bytes);
+        let again = may_go_on && steps.done == MOST_GRANTED_STEPS && !self.quiet();
         Turn { steps, again }
     }
 
@@ -86,42 +89,45 @@ impl<'t, R: Wait, K: PoolIds> PoolAccount<'t, R, K> {
         common: &PoolShared<K>,
         tables: &SharedTables<'t, K>,
         share: &mut Share<K>,
+        most_bytes: u64,
         is_short: bool,
         more: bool,
     ) -> Turn
         ensures few { result.steps.done ≤ MOST_STEPS }
         ensures short { is_short ≡ true → result.steps.done ≤ MOST_GRANTED_STEPS }
         ensures steps { (f : Reading) → Fits self.new.held.0.names f → AreFirstSteps (kept_of f self.old.held) result.steps.done (kept_of f self.new.held) }
-        ensures again { (f : Reading) → Fits self.new.held.0.names f → result.again ≡ turn_goes_on is_short more result.steps.done (kept_of f self.new.held) }
+        ensures again { (f : Reading) → Fits self.new.held.0.names f → result.again ≡ turn_goes_on most_bytes is_short more result.steps.done (kept_of f self.new.held) }
         ensures counted { HasCounted self.old share.old (told_steps result.steps.done) self.new share.new }
         ensures out { self.new.is_out ≡ self.old.is_out }
         ensures before { (f : Reading) → Fits self.new.held.0.names f → Fits self.old.held.0.names f }
     {
         if is_short {
-            self.short_turn(rt, common, tables, share, more)
+            self.short_turn(rt, common, tables, share, most_bytes, more)
         } else {
             self.turn(rt, common, tables, share)
         }
     }
 
     /// A turn, and what a worker is told of it. One that is granted to an account which would have none is short, and is gone on if `more` is
-    /// to be read. Unless the ticket is to be put back, none is out afterwards.
+    /// to be read, or if it leaves the account within its bytes. Unless the ticket is to be put back, none is out afterwards.
     pub(crate) fn time_slice(
         &mut self,
         rt: &'t R,
         common: &PoolShared<K>,
         tables: &SharedTables<'t, K>,
         share: &mut Share<K>,
+        most_bytes: u64,
         is_short: bool,
         more: bool,
     ) -> TimeSlice
+        requires bound { most_bytes ≡ K.most_bytes }
         requires within { IsWithinTurn K.most_bytes is_short self.old }
         ensures few { result.steps ≤ MOST_STEPS }
-        ensures turn { IsTurnOfSome K.rules (called_at K.names self.old.book.account) K.most_bytes result }
+        ensures turn { IsTurnOfSome K.rules (called_at K.names self.old.book.account) K.most_bytes more result }
         ensures counted { Moved self.old.book.account result.steps result.steps 0 0 share.old share.new }
         ensures out { self.new.is_out ≡ (if result.again then self.old.is_out else false) }
     {
-        let slice = self.told_turn(rt, common, tables, share, is_short, more);
+        let slice = self.told_turn(rt, common, tables, share, most_bytes, is_short, more);
         if !slice.again {
             self.clear_ticket();
         }
@@ -135,19 +141,21 @@ impl<'t, R: Wait, K: PoolIds> PoolAccount<'t, R, K> {
         common: &PoolShared<K>,
         tables: &SharedTables<'t, K>,
         share: &mut Share<K>,
+        most_bytes: u64,
         is_short: bool,
         more: bool,
     ) -> TimeSlice
+        requires bound { most_bytes ≡ K.most_bytes }
         requires within { IsWithinTurn K.most_bytes is_short self.old }
         ensures few { result.steps ≤ MOST_STEPS }
-        ensures turn { IsTurnOfSome K.rules (called_at K.names self.old.book.account) K.most_bytes result }
+        ensures turn { IsTurnOfSome K.rules (called_at K.names self.old.book.account) K.most_bytes more result }
         ensures counted { Moved self.old.book.account result.steps result.steps 0 0 share.old share.new }
         ensures out { self.new.is_out ≡ self.old.is_out }
     {
         // This and the next one are called for the facts that they prove: the account is the replay of its journal, and some reading fits
         // the names.
         self.shows_counts();
-        let turn = self.turn_if(rt, common, tables, share, is_short, more);
+        let turn = self.turn_if(rt, common, tables, share, most_bytes, is_short, more);
         self.shows_counts();
         TimeSlice {
             steps: turn.steps.done,

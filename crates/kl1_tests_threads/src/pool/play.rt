@@ -63,7 +63,7 @@ fn answered_again<'t, R: Wait, K: PoolIds>(
     }
 }
 
-/// Puts what an account answers to a request.
+/// Puts what an account answers to a request, as a session does.
 pub fn put_answer<'t, R: Wait, K: PoolIds>(
     rt: &R,
     pool: &Pool<'t, R, K>,
@@ -79,7 +79,8 @@ pub fn put_answer<'t, R: Wait, K: PoolIds>(
                     let put = put_reply(&mut out.bytes, &reply);
                     out.note(put);
                 }
-                Performed::Short { .. } | Performed::Memory => out.fail(),
+                Performed::Memory => out.put(b"- 10 memory\n"),
+                Performed::Short { .. } => out.fail(),
             }
         }
         _ => out.fail(),

@@ -1,7 +1,21 @@
--- Not run yet: names of goals are to be taken from the check.
-use Rattle.std.proofs.Common.{◌≡◌, ℕ, ◌+◌, ◌-◌, refl, ◌∙◌, arith}
-use Rattle.kl1_pool.proofs.RestoredEvents.{runs_lead, end_of_all, room_less}
+use Rattle.std.proofs.Common.{◌≡◌, ℕ, ◌+◌, ◌-◌, ◌<◌, ◌≤◌, min, refl, ◌∙◌, arith}
+use Rattle.kl1_pool.proofs.RestoredEvents.{runs_lead, end_of_all, room_enough, room_less}
 use Rattle.kl1_pool.proofs.restoring.metered_steps.Goals as goal
+
+pub loop-done-init : goal.loop-done-init
+loop-done-init g c = record {
+  few = omega arith;
+  room = c.requires;
+  goes = λ f fits. refl;
+  counted = g.met.H.Host.none_counted c.args.host.now;
+  before = λ f fits. fits;
+  beside = refl;
+}
+
+pub run_steps-run-requires-in-loop-done : goal.run_steps-run-requires-in-loop-done
+run_steps-run-requires-in-loop-done g c =
+    let few : c.min-piece.result ≤ c.args.most - c.loop-done.done = omega (arith, c.min-piece.ensures) in
+    room_enough (c.args.most - c.loop-done.done) c.min-piece.result (g.H.Host.room c.loop-done.host) few c.loop-done.invariant.room
 
 -- what holds after a piece
 pub loop-done-preserved : goal.loop-done-preserved
@@ -20,6 +34,3 @@ loop-done-preserved g c =
       before = λ f fits. inv.before f (h.before f fits);
       beside = h.beside ∙ inv.beside;
     }
-
--- returns-then (not all of it, or the run is over): `last` by end_of_all c.args.most c.loop-done.done c.min-piece.result n c.run_steps-run.result.last .. and the
--- condition of the branch; `goes`, `counted`, `before`, `beside`, `few` as above. returns-then-2 (the meter ends it): `last` is done < most, by the branch before.

@@ -7,5 +7,5 @@ pub returns-clause-turn : goal.returns-clause-turn
 returns-clause-turn g c =
     let old = c.args.self.now in
     let slice : TimeSlice = record { steps = c.turn_if-turn.result.steps.done; again = c.turn_if-turn.result.again } in
-    turn_of g.K.PoolIds.rules (called_at g.K.Names.names old.book.account) g.K.PoolIds.most_bytes c.args.is_short c.args.more old.held c.turn_if-turn.new.self.held slice c.requires.within c.turn_if-turn.ensures.short
-    c.shows_counts.ensures.kept c.shows_counts.ensures.rules c.shows_counts.ensures.name c.shows_counts-2.ensures.names c.turn_if-turn.ensures.before c.turn_if-turn.ensures.steps c.turn_if-turn.ensures.again
+    turn_of g.K.PoolIds.rules (called_at g.K.Names.names old.book.account) g.K.PoolIds.most_bytes c.args.most_bytes c.args.is_short c.args.more old.held c.turn_if-turn.new.self.held slice c.requires.within c.turn_if-turn.ensures.short
+    c.shows_counts.ensures.kept c.shows_counts.ensures.rules c.shows_counts.ensures.name c.shows_counts-2.ensures.names c.turn_if-turn.ensures.before c.turn_if-turn.ensures.steps c.turn_if-turn.ensures.again c.requires.bound
