@@ -96,7 +96,8 @@ impl<K: PoolIds, N: Names> Answer<K, N> {
         ensures told { told_in result.performed ≡ told_steps 0 }
     {
         // They are asked for only because of what is known of them.
-        let _asked = (found.account(), name);
+        let _found = found.account();
+        let _name = name.len();
         Answer::refused(account, command)
     }
 

@@ -179,9 +179,10 @@ impl<'t, R: Wait, K: PoolIds> PoolAccount<'t, R, K> {
         ensures read { IfOk result (λ r. L.has_read reader.new ≡ true) }
     {
         let mut found = self;
-        let ended = found.past.events;
-        let journal = found.kept.lent_journal();
-        let Some(last) = found.shown.show(journal, ended) else {
+        let own = &mut found;
+        let ended = own.past.events;
+        let journal = own.kept.lent_journal();
+        let Some(last) = own.shown.show(journal, ended) else {
             return Err(found);
         };
         reader.read(journal, ended, &last);
