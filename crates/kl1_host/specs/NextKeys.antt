@@ -59,10 +59,13 @@ pub record IsAdded (places : ℕ) (e : Entry) (old new : NextKeys) : Type 0 wher
   pub removed : new.removed.items ≡ old.removed.items
   pub added : new.added.items ≡ put_if (nat_lt (length old.keys.items) places) (length old.keys.items) old.added.items
 
--- the next edition, if these accounts are wanted and there are so many places: each account that stays has its place, those that come have the
--- places after it as far as there are some, and nobody has the place of another
-pub record IsNext (now wanted : List Entry) (places : ℕ) (next : NextKeys) : Type 0 where
-  pub keys : entries_view next.keys.items ≡ map (next_at wanted) now ++ take (places - length now) (newcomers now wanted)
+-- each account that stays has its place, those that come have the places after them, and nobody has the place of another
+pub record AreBrought (now wanted come : List Entry) (next : NextKeys) : Type 0 where
+  pub keys : entries_view next.keys.items ≡ map (next_at wanted) now ++ come
   pub rekeyed : next.rekeyed.items ≡ places_where (is_rekeyed wanted) 0 now
   pub removed : next.removed.items ≡ places_where (is_removed wanted) 0 now
-  pub added : next.added.items ≡ places_where (λ e. true) (length now) (take (places - length now) (newcomers now wanted))
+  pub added : next.added.items ≡ places_where (λ e. true) (length now) come
+
+-- the next edition, if these accounts are wanted and there are so many places: of those that come, as many as there are places for
+abbrev pub IsNext : List Entry → List Entry → ℕ → NextKeys → Type 0
+IsNext now wanted places next = AreBrought now wanted (take (places - length now) (newcomers now wanted)) next
