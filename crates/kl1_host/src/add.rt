@@ -82,7 +82,7 @@ fn refuse_journal(rt: &HostRuntime, folder: &str, name: &str) -> Result<(), Faul
     }
     let path = journal_in(rt.alloc(), folder, name.as_bytes())?;
     let words = format!(in rt.alloc();
-        "{path}: it is there already, of an account that was removed: move it away"
+        "{path}: it is there already, of an account that left, or that is to: go on with that, or move it away"
     )?;
     Err(Fault::Words(REFUSED, words))
 }
