@@ -70,6 +70,6 @@ held_stays old new e reply names is =
 -- an account is still called by its name
 pub named_still : (names : List (List ℕ)) (b c : Book) (e n : ℕ) (name old new : List ℕ) → c ≡ with_more b e n → new ≡ old → IsNamed names b.account name old → IsNamed names c.account name new
 named_still names b c e n name old new is same named = record {
-  own = same ∙ named.own;
+  is = same ∙ named.is;
   listed = λ other at. named.listed other (sym (ap (λ (x : Book). slice_get names x.account) is) ∙ at);
 }

@@ -11,5 +11,5 @@ called_at names account own = (name : List ℕ) → slice_get names account ≡ 
 
 -- an account is called by this name, which is the one that the list has at its number, if it has one there
 pub record IsNamed (names : List (List ℕ)) (account : ℕ) (name own : List ℕ) : Type 0 where
-  pub own : is_called name own
+  pub is : is_called name own
   pub listed : called_at names account name

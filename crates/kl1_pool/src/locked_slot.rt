@@ -34,21 +34,31 @@ pub(crate) struct Vacancy {
     pub(crate) shown: ShownHistory,
 }
 
-/// A place without an account: its book, and what an account is made of, unless one came before.
+/// A place without an account: its book, and what an account is made of, unless one came before. Contracts see the account's number.
 #[derive(Drop)]
 pub(crate) struct EmptyPlace<K: PoolIds> {
     book: BookSeat,
     vacancy: Option<Vacancy>,
     of: PhantomData<K>,
-    ghost of_tally: { book.tally ≡ K.tally },
-    ghost fresh: { IfSome vacancy (λ v. (v.rules ≡ K.rules) × IsFreshSeat K.table K.seats v.seat × IsNewBook K.tally book × (slice_get K.histories book.account ≡ Some v.shown.history) × (v.shown.last ≡ None)) },
+}
+
+impl<K: PoolIds> Model for EmptyPlace<K> {
+    ghost use Rattle.std.specs.Prelude.{◌≡◌, ℕ, Some, None, IfSome, slice_get};
+    ghost use Rattle.kl1_pool_tickets.specs.Parts.{IsNewBook};
+    ghost use Rattle.kl1_pool.specs.Parts.{IsFreshSeat};
+
+    ghost Value = { ℕ };
+
+    ghost view = { λ p. p.book.account };
+
+    ghost invariant = { λ p. (p.book.tally ≡ K.tally) × IfSome p.vacancy (λ v. (v.rules ≡ K.rules) × IsFreshSeat K.table K.seats v.seat × IsNewBook K.tally p.book × (slice_get K.histories p.book.account ≡ Some v.shown.history) × (v.shown.last ≡ None)) };
 }
 
 impl<K: PoolIds> EmptyPlace<K> {
     /// One to which no account comes any more.
     pub(crate) fn left(book: BookSeat) -> Self
         requires { book.tally ≡ K.tally }
-        ensures { result.book ≡ book }
+        ensures { result ≡ book.account }
     {
         EmptyPlace {
             book,
@@ -59,7 +69,7 @@ impl<K: PoolIds> EmptyPlace<K> {
 
     /// The number of its account.
     pub(crate) fn account(&self) -> usize
-        ensures { result ≡ self.now.book.account }
+        ensures { result ≡ self.now }
     {
         self.book.account()
     }
@@ -73,13 +83,13 @@ impl<K: PoolIds> EmptyPlace<K> {
         name: AccountName,
         texts: &[AtomText],
     ) -> Result<PoolAccount<'t, R, K>, EmptyPlace<K>>
-        requires name { called_at K.names self.book.account name }
+        requires name { called_at K.names self name }
         requires texts { AreNames texts.now }
-        ensures book { IfOk result (λ a. a.book ≡ self.book) }
+        ensures account { IfOk result (λ a. a.book.account ≡ self) }
         ensures name { IfOk result (λ a. a.held.0.own_name ≡ name) }
         ensures fresh { IfOk result (λ a. (a.held.1.entries ≡ []) × (a.is_out ≡ false)) }
         ensures used { IfOk result (λ a. a.held.1.names ≡ texts.now) }
-        ensures left { IfErr result (λ p. p.book ≡ self.book) }
+        ensures left { IfErr result (λ p. p ≡ self) }
     {
         let EmptyPlace { book, vacancy, .. } = self;
         let Some(Vacancy { rules, seat, shown }) = vacancy else {

@@ -173,9 +173,9 @@ impl<'t, R: Wait, K: PoolIds> PoolAccount<'t, R, K> {
         reader: &mut L,
     ) -> Result<(BookSeat, ShownHistory), Self>
         requires { (s : StampValue) → slice_get K.histories self.book.account ≡ Some s.history → L.takes reader.old s }
-        ensures book { IfOk result (λ r. (r.0 ≡ self.book) × (r.0.tally ≡ K.tally)) }
-        ensures history { IfOk result (λ r. slice_get K.histories self.book.account ≡ Some r.1.history) }
-        ensures seen { IfOk result (λ r. L.reads reader.old reader.new self.held.1 self.past.events × IsLastOf r.1 self.held.1 self.past.events) }
+        ensures book { IfOk result (λ r. (r.0 ≡ self.entry.book) × (r.0.tally ≡ K.tally)) }
+        ensures history { IfOk result (λ r. slice_get K.histories self.entry.book.account ≡ Some r.1.history) }
+        ensures seen { IfOk result (λ r. L.reads reader.old reader.new self.entry.held.1 self.entry.past.events × IsLastOf r.1 self.entry.held.1 self.entry.past.events) }
         ensures read { IfOk result (λ r. L.has_read reader.new ≡ true) }
     {
         let mut found = self;

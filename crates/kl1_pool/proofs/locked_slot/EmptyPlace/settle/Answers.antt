@@ -10,6 +10,6 @@ new-requires-clause-rules g c = ap (λ k. k.state.rules) (c.in-Ok.ensures.fresh 
 
 pub new-requires-clause-name : goal.new-requires-clause-name
 new-requires-clause-name g c = record {
-  own = ap (λ k. k.state.own_name) (c.in-Ok.ensures.fresh (λ n. []));
+  is = ap (λ k. k.state.own_name) (c.in-Ok.ensures.fresh (λ n. []));
   listed = c.requires.name;
 }
