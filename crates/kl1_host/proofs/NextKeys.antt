@@ -101,17 +101,17 @@ module _ (now wanted : List Entry) where
       ∙ ap (λ (c : Bool). newcomers now ws ++ (if c then w ∷ [] else [])) is
 
   -- one that is wanted and has no place
-  pub one_comes : (places : ℕ) (ws after : List Entry) (w : Entry) (old new : NextKeys) → after ≡ ws ++ w ∷ [] → is_some (named now w.name) ≡ false → AreBrought now wanted (take (places - length now) (newcomers now ws)) old → IsAdded places w old new → AreBrought now wanted (take (places - length now) (newcomers now after)) new
+  pub one_comes : (places : ℕ) (ws after : List Entry) (w : Entry) (old new : NextKeys) → after ≡ ws ++ w ∷ [] → not (is_some (named now w.name)) ≡ true → AreBrought now wanted (take (places - length now) (newcomers now ws)) old → IsAdded places w old new → AreBrought now wanted (take (places - length now) (newcomers now after)) new
   one_comes places ws after w old new is none so added =
       let m = places - length now in
-      let more : newcomers now after ≡ newcomers now ws ++ w ∷ [] = ap (newcomers now) is ∙ comers_more ws w true (ap not none) in
+      let more : newcomers now after ≡ newcomers now ws ++ w ∷ [] = ap (newcomers now) is ∙ comers_more ws w true none in
       let Q : List Entry → Type 0 = λ (x : List Entry). AreBrought now wanted (take m x) new in
       subst Q (sym more) (come_by places (newcomers now ws) w old new (nat_lt (length (newcomers now ws)) m) refl so added)
 
   -- one that is wanted and has one
-  pub one_stays : (places : ℕ) (ws after : List Entry) (w : Entry) (n : NextKeys) → after ≡ ws ++ w ∷ [] → is_some (named now w.name) ≡ true → AreBrought now wanted (take (places - length now) (newcomers now ws)) n → AreBrought now wanted (take (places - length now) (newcomers now after)) n
+  pub one_stays : (places : ℕ) (ws after : List Entry) (w : Entry) (n : NextKeys) → after ≡ ws ++ w ∷ [] → not (is_some (named now w.name)) ≡ false → AreBrought now wanted (take (places - length now) (newcomers now ws)) n → AreBrought now wanted (take (places - length now) (newcomers now after)) n
   one_stays places ws after w n is some so =
       let m = places - length now in
-      let same : newcomers now after ≡ newcomers now ws = ap (newcomers now) is ∙ comers_more ws w false (ap not some) ∙ append-nil (newcomers now ws) in
+      let same : newcomers now after ≡ newcomers now ws = ap (newcomers now) is ∙ comers_more ws w false some ∙ append-nil (newcomers now ws) in
       let Q : List Entry → Type 0 = λ (x : List Entry). AreBrought now wanted (take m x) n in
       subst Q (sym same) so

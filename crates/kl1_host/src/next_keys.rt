@@ -1,6 +1,6 @@
 // The next edition of keys, by what the file of accounts says now.
 
-ghost use Rattle.std.specs.Prelude.{◌≡◌, [], IfOk, option_map};
+ghost use Rattle.std.specs.Prelude.{◌≡◌, [], not, is_some, IfOk, option_map};
 ghost use Rattle.kl1_session.specs.Views.{entry_view, entries_view};
 ghost use Rattle.kl1_host.specs.NextKeys.{nobody, named, is_there, next_at, is_rekeyed, is_removed, IsTakenOver, IsAdded, IsNext};
 
@@ -92,6 +92,13 @@ fn is_removed(key: &Key, wanted: &[Key]) -> bool
     is_there(key) && named(wanted, key.name.as_slice()).is_none()
 }
 
+/// Whether who is wanted stands at no place yet.
+fn is_newcomer(now: &[Key], key: &Key) -> bool
+    ensures { result ≡ not (is_some (named (entries_view now.now) key.now.name.items)) }
+{
+    named(now, key.name.as_slice()).is_none()
+}
+
 impl NextKeys {
     /// None yet.
     fn new(alloc: Global) -> Self
@@ -150,7 +157,7 @@ pub fn next_keys(
         next.take_over(alloc, key, wanted)?;
     }
     for key in wanted {
-        if named(now, key.name.as_slice()).is_none() {
+        if is_newcomer(now, key) {
             next.add(alloc, key, places)?;
         }
     }
