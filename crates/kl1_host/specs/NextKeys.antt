@@ -1,5 +1,5 @@
 -- The next edition of the keys of a host's accounts.
-use Rattle.std.specs.Prelude.{◌≡◌, ℕ, ◌+◌, ◌-◌, Bool, true, false, ◌&&◌, not, if◌then◌else◌, List, [], ◌∷◌, ◌++◌, length, take, map, filter, bytes_eq, Option, Some, None, is_some}
+use Rattle.std.specs.Prelude.{◌≡◌, ℕ, ◌+◌, ◌-◌, nat_lt, Bool, true, false, ◌&&◌, not, if◌then◌else◌, List, [], ◌∷◌, ◌++◌, length, take, map, filter, bytes_eq, Option, Some, None, is_some}
 use Rattle.kl1_session.specs.Files.{Entry}
 use Rattle.kl1_session.specs.Views.{entries_view}
 use Rattle.kl1_host.specs.declared.next_keys.NextKeys.{NextKeys}
@@ -37,10 +37,35 @@ abbrev pub places_where : (Entry → Bool) → ℕ → List Entry → List ℕ
 places_where test n [] = []
 places_where test n (e ∷ es) = if test e then n ∷ places_where test (n + 1) es else places_where test (n + 1) es
 
--- the next edition, if these accounts are wanted and there are so many places: each account that stays has its place, those that come have the
--- places after it as far as there are some, and nobody has the place of another
-pub record IsNext (now wanted : List Entry) (places : ℕ) (next : NextKeys) : Type 0 where
-  pub keys : entries_view next.keys.items ≡ map (next_at wanted) now ++ take (places - length now) (newcomers now wanted)
+-- one number more, if there is
+abbrev pub put_if : Bool → ℕ → List ℕ → List ℕ
+put_if is n ns = if is then ns ++ n ∷ [] else ns
+
+-- one entry more, if there is
+abbrev pub entry_if : Bool → Entry → List Entry → List Entry
+entry_if is e es = if is then es ++ e ∷ [] else es
+
+-- what stands at the next place is taken over
+pub record IsTakenOver (wanted : List Entry) (e : Entry) (old new : NextKeys) : Type 0 where
+  pub keys : entries_view new.keys.items ≡ entries_view old.keys.items ++ next_at wanted e ∷ []
+  pub rekeyed : new.rekeyed.items ≡ put_if (is_rekeyed wanted e) (length old.keys.items) old.rekeyed.items
+  pub removed : new.removed.items ≡ put_if (is_removed wanted e) (length old.keys.items) old.removed.items
+  pub added : new.added.items ≡ old.added.items
+
+-- one comes, if there is a place for it
+pub record IsAdded (places : ℕ) (e : Entry) (old new : NextKeys) : Type 0 where
+  pub keys : entries_view new.keys.items ≡ entry_if (nat_lt (length old.keys.items) places) e (entries_view old.keys.items)
+  pub rekeyed : new.rekeyed.items ≡ old.rekeyed.items
+  pub removed : new.removed.items ≡ old.removed.items
+  pub added : new.added.items ≡ put_if (nat_lt (length old.keys.items) places) (length old.keys.items) old.added.items
+
+-- each account that stays has its place, those that come have the places after them, and nobody has the place of another
+pub record AreBrought (now wanted come : List Entry) (next : NextKeys) : Type 0 where
+  pub keys : entries_view next.keys.items ≡ map (next_at wanted) now ++ come
   pub rekeyed : next.rekeyed.items ≡ places_where (is_rekeyed wanted) 0 now
   pub removed : next.removed.items ≡ places_where (is_removed wanted) 0 now
-  pub added : next.added.items ≡ places_where (λ e. true) (length now) (take (places - length now) (newcomers now wanted))
+  pub added : next.added.items ≡ places_where (λ e. true) (length now) come
+
+-- the next edition, if these accounts are wanted and there are so many places: of those that come, as many as there are places for
+abbrev pub IsNext : List Entry → List Entry → ℕ → NextKeys → Type 0
+IsNext now wanted places next = AreBrought now wanted (take (places - length now) (newcomers now wanted)) next

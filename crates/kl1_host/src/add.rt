@@ -1,7 +1,9 @@
 // An account is added.
 
 use crate::accounts::{Accounts, accounts_in};
-use crate::accounts_file::{has_journal, lock_accounts, prepare_accounts, rename_accounts};
+use crate::accounts_file::{
+    forget_started, has_journal, lock_accounts, prepare_accounts, rename_accounts,
+};
 use crate::fault::{BAD, Fault, REFUSED};
 use crate::folder::{NEW_ACCOUNTS, journal_in, path_in};
 use crate::letting_go::tell_host;
@@ -80,7 +82,7 @@ fn refuse_journal(rt: &HostRuntime, folder: &str, name: &str) -> Result<(), Faul
     }
     let path = journal_in(rt.alloc(), folder, name.as_bytes())?;
     let words = format!(in rt.alloc();
-        "{path}: it is there already, of an account that was removed: move it away"
+        "{path}: it is there already, of an account that left, or that is to: go on with that, or move it away"
     )?;
     Err(Fault::Words(REFUSED, words))
 }
@@ -94,6 +96,8 @@ pub fn add_account(rt: &HostRuntime, folder: &str, name: &str) -> Result<u8, Fau
     let key = new_key(rt)?;
     let text = text_with(rt, accounts, name, key.as_str())?;
     refuse_journal(rt, folder, name)?;
+    // Of one of this name that was removed.
+    forget_started(rt, folder, name)?;
     prepare_accounts(rt, folder, text.as_slice())?;
     put_key(rt, folder, key.as_str())?;
     rename_accounts(rt, folder)?;

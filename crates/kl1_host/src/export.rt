@@ -64,6 +64,7 @@ fn take_out(rt: &HostRuntime, folder: &str, exported: &str, name: &str) -> Resul
         )?;
         return Err(Fault::Words(REFUSED, words));
     }
+    make_folder(rt, folder, exported)?;
     let _held = let_go(rt, folder, name)?;
     line.push(b'\n')?;
     write_whole(rt, exported, path.as_str(), line.as_slice())?;
@@ -103,7 +104,6 @@ pub fn export_account(rt: &HostRuntime, folder: &str, name: &str) -> Result<u8, 
     refuse_bad_name(rt, name)?;
     let _lock = lock_accounts(rt, folder)?;
     let exported = path_in(rt.alloc(), folder, EXPORTED)?;
-    make_folder(rt, folder, exported.as_str())?;
     take_out(rt, folder, exported.as_str(), name)?;
     move_journal(rt, folder, exported.as_str(), name)?;
     println!(rt; "{exported}/{name}.line\n{exported}/{name}.journal")?;

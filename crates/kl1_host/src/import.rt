@@ -13,7 +13,7 @@ use kl1_host_front::read_sums;
 use kl1_lines::split_feed;
 use kl1_log::{Found, recover};
 use kl1_model::limits::MOST_ACCOUNTS;
-use std::fs;
+use std::fs::{self, File, TryLockError};
 
 /// What a folder of accounts that were exported has of one.
 #[derive(Drop)]
@@ -151,6 +151,16 @@ fn remove_parcel(rt: &HostRuntime, from: &str, name: &str) -> Result<(), Fault> 
     sync_folder(rt, rt.alloc(), from)
 }
 
+/// Takes the lock of a folder of accounts that were exported: one call at a time takes an account from there.
+fn lock_exported(rt: &HostRuntime, from: &str) -> Result<File, Fault> {
+    let folder = at_path(rt.alloc(), from, fs::open(rt, from))?;
+    match folder.try_lock() {
+        Ok(()) => Ok(folder),
+        Err(TryLockError::WouldBlock) => Err(refused(rt, from, "another call takes an account")),
+        Err(TryLockError::Error(error)) => Err(fault_at(rt.alloc(), from, &error)),
+    }
+}
+
 /// The fault of an account that can't come.
 fn refused(rt: &HostRuntime, path: &str, why: &str) -> Fault {
     match format!(in rt.alloc(); "{path}: {why}") {
@@ -183,6 +193,12 @@ fn bring(rt: &HostRuntime, folder: &str, from: &str, name: &str, who: &[u8]) -> 
         }
         Parcel::Taken(line, taker) if taker.as_slice() == who => {
             refuse_line(rt, from, name, line.as_slice())?;
+            // What is left here may be older than what another host has by now.
+            if !has_journal(rt, folder, name)? {
+                let taken = taken_in(rt, from, name)?;
+                let why = "this folder took it, and it was removed or exported since";
+                return Err(refused(rt, taken.as_str(), why));
+            }
             remove_if_there(rt, line_in(rt, from, name)?.as_str())?;
             add_line(rt, folder, line.as_slice())
         }
@@ -203,6 +219,7 @@ fn bring(rt: &HostRuntime, folder: &str, from: &str, name: &str, who: &[u8]) -> 
 pub fn import_account(rt: &HostRuntime, folder: &str, name: &str, from: &str) -> Result<u8, Fault> {
     refuse_bad_name(rt, name)?;
     let _lock = lock_accounts(rt, folder)?;
+    let _from = lock_exported(rt, from)?;
     let who = whole_path(rt, folder)?;
     if is_here(rt, folder, name)? {
         match parcel_of(rt, from, name)? {

@@ -1,8 +1,8 @@
 // The next edition of keys, by what the file of accounts says now.
 
-ghost use Rattle.std.specs.Prelude.{◌≡◌, IfOk, option_map};
+ghost use Rattle.std.specs.Prelude.{◌≡◌, [], not, is_some, IfOk, option_map};
 ghost use Rattle.kl1_session.specs.Views.{entry_view, entries_view};
-ghost use Rattle.kl1_host.specs.NextKeys.{nobody, named, is_there, next_at, is_rekeyed, is_removed, IsNext};
+ghost use Rattle.kl1_host.specs.NextKeys.{nobody, named, is_there, next_at, is_rekeyed, is_removed, IsTakenOver, IsAdded, IsNext};
 
 use kl1_session::Key;
 use std::alloc::{AllocError, Global};
@@ -92,9 +92,18 @@ fn is_removed(key: &Key, wanted: &[Key]) -> bool
     is_there(key) && named(wanted, key.name.as_slice()).is_none()
 }
 
+/// Whether who is wanted stands at no place yet.
+fn is_newcomer(now: &[Key], key: &Key) -> bool
+    ensures { result ≡ not (is_some (named (entries_view now.now) key.now.name.items)) }
+{
+    named(now, key.name.as_slice()).is_none()
+}
+
 impl NextKeys {
     /// None yet.
-    fn new(alloc: Global) -> Self {
+    fn new(alloc: Global) -> Self
+        ensures { (result.keys.items ≡ []) × (result.added.items ≡ []) × (result.rekeyed.items ≡ []) × (result.removed.items ≡ []) }
+    {
         NextKeys {
             keys: Vec::new(alloc),
             added: Vec::new(alloc),
@@ -105,7 +114,9 @@ impl NextKeys {
     }
 
     /// Takes over what stands at the next place.
-    fn take_over(&mut self, alloc: Global, key: &Key, wanted: &[Key]) -> Result<(), AllocError> {
+    fn take_over(&mut self, alloc: Global, key: &Key, wanted: &[Key]) -> Result<(), AllocError>
+        ensures { IfOk result (λ _. IsTakenOver (entries_view wanted.now) (entry_view key.now) self.old self.new) }
+    {
         let place = self.keys.len();
         if is_rekeyed(key, wanted) {
             self.rekeyed.push(place)?;
@@ -113,18 +124,22 @@ impl NextKeys {
         if is_removed(key, wanted) {
             self.removed.push(place)?;
         }
-        self.keys.push(next_at(alloc, key, wanted)?)
+        self.keys.push(next_at(alloc, key, wanted)?)?;
+        Ok(())
     }
 
     /// Takes in one that comes, if there is a place for it.
-    fn add(&mut self, alloc: Global, key: &Key, places: usize) -> Result<(), AllocError> {
+    fn add(&mut self, alloc: Global, key: &Key, places: usize) -> Result<(), AllocError>
+        ensures { IfOk result (λ _. IsAdded places (entry_view key.now) self.old self.new) }
+    {
         let place = self.keys.len();
         if place >= places {
             self.left_out = self.left_out.saturating_add(1);
             return Ok(());
         }
         self.added.push(place)?;
-        self.keys.push(copy_of(alloc, key)?)
+        self.keys.push(copy_of(alloc, key)?)?;
+        Ok(())
     }
 }
 
@@ -142,7 +157,7 @@ pub fn next_keys(
         next.take_over(alloc, key, wanted)?;
     }
     for key in wanted {
-        if named(now, key.name.as_slice()).is_none() {
+        if is_newcomer(now, key) {
             next.add(alloc, key, places)?;
         }
     }

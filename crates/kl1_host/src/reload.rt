@@ -178,12 +178,12 @@ where
         self.bring_again(out)
     }
 
-    /// Lets accounts come that couldn't be restored before.
+    /// Lets accounts come that couldn't be restored before, and tells which can't come: they wait for the next start.
     fn bring_again(&mut self, out: &mut Vec<u8>) -> Result<(), AllocError> {
         for (account, key) in self.program.keys.keys().iter().enumerate() {
             let is_missing = matches!(
                 self.host.standing(account),
-                PlaceState::Fails | PlaceState::Free
+                PlaceState::Fails | PlaceState::Free | PlaceState::Left
             );
             if is_missing && !key.name.is_empty() {
                 let word: &[u8] = if self.host.bring(account) {

@@ -162,6 +162,8 @@ where
     R: Net<Listener = TcpListener, Stream = TcpStream> + Files<File = File> + AllocGlobal,
 {
     let settings = settings_of(rt, alloc, folder)?;
+    // Who changes the accounts after they are read finds it, and has them read anew.
+    let socket = socket_of(rt, alloc, folder)?;
     let accounts = accounts_in(rt, alloc, folder)?;
     refuse_missing(rt, folder, accounts.keys.as_slice())?;
     let clients = bind(rt, alloc, settings.listen.as_str())?;
@@ -169,7 +171,6 @@ where
         Some(address) => Some(bind(rt, alloc, address.as_str())?),
         None => None,
     };
-    let socket = socket_of(rt, alloc, folder)?;
     Ok(HostFolder {
         settings,
         accounts,
@@ -237,6 +238,47 @@ where
     serve(&program, settings, repairs)
 }
 
+/// Runs the host of a folder, which is locked, until it is asked to stop.
+fn run_here<R>(
+    rt: &R,
+    folder: &str,
+    repairs: bool,
+    asker: &Mutex<Option<UnixStream>>,
+) -> Result<(), Fault>
+where
+    R: Net<Listener = TcpListener, Stream = TcpStream>
+        + Files<File = File>
+        + AllocGlobal
+        + RandomSource
+        + Threads
+        + Wait
+        + Clock
+        + Eprint
+        + Sync,
+    R::Dir: Send + Sync,
+{
+    let alloc = rt.alloc();
+    let mut opened = opened(rt, alloc, folder)?;
+    let log = Log { rt, alloc };
+    let folder_field = Field {
+        name: b"folder",
+        value: folder.as_bytes(),
+    };
+    log.tell(b"start", &[folder_field]);
+    let places = places_for(&opened.settings, opened.accounts.keys.len());
+    let fitted = fit_connections(&log, &mut opened.settings, places);
+    let first = mem::replace(&mut opened.accounts.keys, Vec::new(alloc));
+    let keys = Keyring::new(rt, alloc, first)?;
+    let ended = match fitted {
+        Ok(()) => run_opened::<R, Brand>(&log, folder, &opened, &keys, repairs, asker),
+        Err(fault) => Err(fault),
+    };
+    if ended.is_ok() {
+        log.tell(b"end", &[]);
+    }
+    ended
+}
+
 /// Runs the host of a folder, which is locked meanwhile, until it is asked to stop.
 fn run_locked<R>(
     rt: &R,
@@ -258,25 +300,8 @@ where
 {
     let alloc = rt.alloc();
     let _lock = lock_folder(rt, alloc, folder, "one host at a time")?;
-    let mut opened = opened(rt, alloc, folder)?;
-    let log = Log { rt, alloc };
-    let folder_field = Field {
-        name: b"folder",
-        value: folder.as_bytes(),
-    };
-    log.tell(b"start", &[folder_field]);
-    let places = places_for(&opened.settings, opened.accounts.keys.len());
-    let fitted = fit_connections(&log, &mut opened.settings, places);
-    let first = mem::replace(&mut opened.accounts.keys, Vec::new(alloc));
-    let keys = Keyring::new(rt, alloc, first)?;
-    let ended = match fitted {
-        Ok(()) => run_opened::<R, Brand>(&log, folder, &opened, &keys, repairs, asker),
-        Err(fault) => Err(fault),
-    };
+    let ended = run_here(rt, folder, repairs, asker);
     let _ = fs::remove_file(rt, path_in(alloc, folder, SOCKET)?.as_str());
-    if ended.is_ok() {
-        log.tell(b"end", &[]);
-    }
     ended
 }
 

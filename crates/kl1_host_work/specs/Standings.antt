@@ -11,8 +11,8 @@ use Rattle.kl1_host_work.specs.Linkages.{IsLinked}
 use Rattle.kl1_host_work.specs.Restarts.{IsAllRestored}
 
 module _ {D J : Type 0} {g : disk.Ghosts D} {h : naming.Ghosts J} {shown : shown_ids.Ghosts J} where
-  -- all entries of this journal were done to some account of these rules and of this name, and what waits for the file makes it one of the
+  -- all entries of this journal were done to some account of these rules and of this name, begun with the journal's names, and what waits for the file makes it one of the
   -- journal of such an account
   pub record IsStandingOf (rules : Rules) (named : List ℕ → Type 0) (j : Journal) (s : Standing D J g h shown) : Type 0 where
-    pub restored : IsAllRestored rules named j.entries s.entries
+    pub restored : IsAllRestored rules named j s.entries
     pub linked : IsSeenOfSome rules named (IsLinked s.linked)

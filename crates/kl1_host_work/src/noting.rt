@@ -42,6 +42,7 @@ impl<'k, W: Wait, J: Naming, C: Connecting> JournalReader for Noting<'k, W, J, C
 }
 
 /// Reads nothing.
+#[derive(Drop)]
 pub(crate) struct NoReader;
 
 impl JournalReader for NoReader {

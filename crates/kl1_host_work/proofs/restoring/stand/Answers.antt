@@ -14,7 +14,7 @@ admit-requires-clause-takes g c = λ s at. takes_own c.args.own.account c.new.re
 pub returns-in-All-Ok : goal.returns-in-All-Ok
 returns-in-All-Ok g c =
     let named = is_called c.args.found.name in
-    let P : Rows → Type 0 = λ (j : Rows). IsAllRestored g.K.PoolIds.rules named j.journal.entries c.admit-restored.result.entries in
+    let P : Rows → Type 0 = λ (j : Rows). IsAllRestored g.K.PoolIds.rules named j.journal c.admit-restored.result.entries in
     record {
       restored = subst P c.new.ensures.journal (all_restored g.K.PoolIds.rules named _ c.admit-restored.result c.admit-restored.ensures.restored c.in-All.is);
       linked = linked_by g.K.PoolIds.rules named c.args.own.account c.new.result.linkage c.admit-restored.new.linking.linkage c.in-Ok.linked c.new.ensures.account c.in-Ok.ensures (c.admit-restored.ensures.seen);
