@@ -1,5 +1,5 @@
 -- Answers, and what commands leave.
-use Rattle.std.proofs.Common.{◌≡◌, ℕ, ◌≤◌, ◌⊎◌, inl, inr, Bool, true, false, List, [], Some, ap, sym, ◌∙◌, refl}
+use Rattle.std.proofs.Common.{◌≡◌, ℕ, ◌≤◌, ◌⊎◌, inl, inr, Bool, true, false, List, [], Some, ap, sym, ◌∙◌, subst, refl}
 use Rattle.std.specs.Prelude.{Option, slice_get}
 use Rattle.kl1_model.specs.declared.rules.Rules.{Rules}
 use Rattle.kl1_model.specs.State.{State}
@@ -24,7 +24,7 @@ use Rattle.kl1_pool.specs.declared.restoring.Restored.{Restored}
 use Rattle.kl1_pool.specs.Restoring.{IsRestored, IsRestoredBySome}
 use Rattle.kl1_pool.specs.declared.turn.TheConstants.{MOST_GRANTED_STEPS}
 use Rattle.kl1_pool.specs.Memory.{bytes_taken, takes_memory, bound_of, turn_bound, IsGivenBySomeWithin, IsGivenWithin, IsTakenBySome}
-use Rattle.kl1_pool.specs.Stepping.{AreFirstSteps, turn_goes_on, IsTurnWithin, IsTurnOfSome}
+use Rattle.kl1_pool.specs.Stepping.{AreFirstSteps, IsBegunWithin, turn_goes_on, IsTurnWithin, IsTurnOfSome}
 
 -- what is untouched is so in each part
 pub untouched_part : {A B : Type 0} (f : A → B) (p : Performed) (a b : A) → IsUntouched p a b → IsUntouched p (f a) (f b)
@@ -105,14 +105,14 @@ restored_by rules name old new j r fresh used kept keeps called names before res
     (kept_of f old, (kept_of f new).state, record { replay = (kept.replay f (before f fits)).is; keeps_to = keeps; called = called }, fresh, used, restored f fits)
 
 -- a turn within its bytes
-turn_within : (most : ℕ) (short more : Bool) (k after : Kept) (t : TimeSlice) → bytes_taken k ≤ turn_bound most short → (short ≡ true → t.steps ≤ MOST_GRANTED_STEPS) → t.again ≡ turn_goes_on most short more t.steps after → IsTurnWithin most more k after t
-turn_within most true more k after t few is_short again = inr (few, is_short refl, again)
-turn_within most false more k after t few is_short again = inl (few, again)
+turn_within : (most : ℕ) (short more : Bool) (k after : Kept) (t : TimeSlice) → bytes_taken k ≤ turn_bound most short → (short ≡ true → t.steps ≤ MOST_GRANTED_STEPS) → (short ≡ false → IsBegunWithin most k t.steps after) → t.again ≡ turn_goes_on most short more t.steps after → IsTurnWithin most more k after t
+turn_within most true more k after t few is_short begun again = inr (few, is_short refl, again)
+turn_within most false more k after t few is_short begun again = inl (few, begun refl, again)
 
 -- the turn of an account
 pub turn_of : (rules : Rules) (name : List ℕ → Type 0) (most held : ℕ) (short more : Bool) (old new : Held) (t : TimeSlice) → ((f : Reading) → bytes_taken (kept_of f old) ≤ turn_bound most short) → (short ≡ true → t.steps ≤ MOST_GRANTED_STEPS) → IsKept old → old.0.rules ≡ rules → name old.0.own_name → AreNames new.0.names → ((f : Reading) → Fits new.0.names f → Fits old.0.names f) →
-    ((f : Reading) → Fits new.0.names f → AreFirstSteps (kept_of f old) t.steps (kept_of f new)) → ((f : Reading) → Fits new.0.names f → t.again ≡ turn_goes_on held short more t.steps (kept_of f new)) → held ≡ most → IsTurnOfSome rules name most more t
-turn_of rules name most held short more old new t few is_short kept keeps called names before steps again same =
+    ((f : Reading) → Fits new.0.names f → AreFirstSteps (kept_of f old) t.steps (kept_of f new)) → (short ≡ false → (f : Reading) → Fits new.0.names f → IsBegunWithin held (kept_of f old) t.steps (kept_of f new)) → ((f : Reading) → Fits new.0.names f → t.again ≡ turn_goes_on held short more t.steps (kept_of f new)) → held ≡ most → IsTurnOfSome rules name most more t
+turn_of rules name most held short more old new t few is_short kept keeps called names before steps begun again same =
     let f = reading_of new.0.names in
     let fits = reading_fits new.0.names names in
-    (kept_of f old, kept_of f new, record { replay = (kept.replay f (before f fits)).is; keeps_to = keeps; called = called }, steps f fits, turn_within most short more (kept_of f old) (kept_of f new) t (few f) is_short (again f fits ∙ ap (λ m. turn_goes_on m short more t.steps (kept_of f new)) same))
+    (kept_of f old, kept_of f new, record { replay = (kept.replay f (before f fits)).is; keeps_to = keeps; called = called }, steps f fits, turn_within most short more (kept_of f old) (kept_of f new) t (few f) is_short (λ no. subst (λ m. IsBegunWithin m (kept_of f old) t.steps (kept_of f new)) same (begun no f fits)) (again f fits ∙ ap (λ m. turn_goes_on m short more t.steps (kept_of f new)) same))

@@ -65,7 +65,7 @@ steps_on n (suc m) s mid after begun then =
     subst P (sym sum)
     (ap (λ (t : State). one_more (n + m) (first_step t)) same ∙ ap (λ (r : Reply). moved x.state r) reply ∙ ap (λ (t : State). moved t (ran (suc (n + m)))) at)
 
-abbrev run_by : ℕ → ℕ → Kept → Option Chosen → Done
+abbrev pub run_by : ℕ → ℕ → Kept → Option Chosen → Done
 run_by most n k o = elim o [
   | None ↦ said k (ran n)
   | Some c ↦
@@ -73,10 +73,10 @@ run_by most n k o = elim o [
       if is_refused x.reply then said k (if n == 0 then x.reply else ran n) else run_from most (suc n) x.kept
 ]
 
-ran_same : (n m : ℕ) → ran n ≡ ran m → n ≡ m
+pub ran_same : (n m : ℕ) → ran n ≡ ran m → n ≡ m
 ran_same n m e = cc
 
-not_stopped : (b : Bool) (r : Reply) (n m : ℕ) → is_refused r ≡ true → n < m → (if b then r else ran n) ≡ ran m → ⊥
+pub not_stopped : (b : Bool) (r : Reply) (n m : ℕ) → is_refused r ≡ true → n < m → (if b then r else ran n) ≡ ran m → ⊥
 not_stopped true r n m is less e = let z : true ≡ false = sym is ∙ ap is_refused e in cc
 not_stopped false r n m is less e = let z : n ≡ m = ran_same n m e in omega (arith, less, z)
 

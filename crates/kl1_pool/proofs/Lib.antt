@@ -4,6 +4,7 @@ pub mod PoolAccounts
 pub mod Naming
 pub mod Answering
 pub mod FirstSteps
+pub mod Pieces
 pub mod ToldEntries
 pub mod RestoredEntries
 pub mod RestoredEvents

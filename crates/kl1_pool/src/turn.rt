@@ -10,14 +10,14 @@ ghost use Rattle.kl1_pool.specs.Counted.{room_in};
 ghost use Rattle.kl1_pool.specs.PoolAccounts.{HasCounted};
 ghost use Rattle.kl1_pool.specs.Memory.{IsWithinTurn};
 ghost use Rattle.kl1_pool.specs.Names.{called_at};
-ghost use Rattle.kl1_pool.specs.Stepping.{AreFirstSteps, goes_on, short_goes_on, turn_goes_on, IsTurnOfSome};
+ghost use Rattle.kl1_pool.specs.Stepping.{AreFirstSteps, IsBegunWithin, short_goes_on, whole_goes_on, turn_goes_on, IsTurnOfSome};
 ghost use Rattle.kl1_pool.specs.declared.turn.TheConstants.{MOST_GRANTED_STEPS};
 
 use crate::account_host::AccountHost;
 use crate::pool_account::PoolAccount;
 use crate::pool_ids::PoolIds;
 use crate::shared_tables::SharedTables;
-use kl1_command::{Steps, run_steps};
+use kl1_command::{FirstStep, Steps, run_steps};
 use kl1_pool_tickets::{MOST_STEPS, PoolShared, Share, TimeSlice};
 use std::sync::Wait;
 
@@ -29,32 +29,89 @@ pub struct Turn {
     pub again: bool,
 }
 
+/// The most steps of a turn between two looks at how many bytes its account takes. What they add finds room in what is kept for messages to
+/// shoens, unless goals are very large.
+pub const STEPS_A_LOOK: u64 = 8;
+
 /// The most steps of a turn that is granted to an account which takes more bytes than it may: its monitors step first, and one step reads
 /// one message. If there are more, another such turn reads them; and once the account takes no more bytes than it may, whole turns follow.
 pub const MOST_GRANTED_STEPS: u64 = 2;
 
 impl<'t, R: Wait, K: PoolIds> PoolAccount<'t, R, K> {
-    /// First steps until `MOST_STEPS` are done, none can step, or one is refused, also for want of memory. Each is an event and a step
-    /// in the book and in `share`. No more are done than the book can tell.
+    /// First steps until `MOST_STEPS` are done, none can step, or one is refused, also for want of memory, as which it ends too once the account
+    /// takes more than `most_bytes` bytes, which is looked at after each `STEPS_A_LOOK`. Each is an event and a step in the book and in `share`. No
+    /// more are done than the book can tell.
     pub fn turn(
         &mut self,
         rt: &'t R,
         common: &PoolShared<K>,
         tables: &SharedTables<'t, K>,
         share: &mut Share<K>,
+        most_bytes: u64,
     ) -> Turn
+        requires within { IsWithinTurn most_bytes false self.old }
         ensures few { result.steps.done ≤ MOST_STEPS }
         ensures steps { (f : Reading) → Fits self.new.held.0.names f → AreFirstSteps (kept_of f self.old.held) result.steps.done (kept_of f self.new.held) }
+        ensures begun { (f : Reading) → Fits self.new.held.0.names f → IsBegunWithin most_bytes (kept_of f self.old.held) result.steps.done (kept_of f self.new.held) }
         ensures last { (f : Reading) → Fits self.new.held.0.names f → IsEnd (min MOST_STEPS (room_in self.old.book)) result.steps.done result.steps.last (kept_of f self.new.held) }
-        ensures again { (f : Reading) → Fits self.new.held.0.names f → result.again ≡ goes_on MOST_STEPS result.steps.done (kept_of f self.new.held) }
+        ensures again { (f : Reading) → Fits self.new.held.0.names f → result.again ≡ whole_goes_on most_bytes result.steps.done (kept_of f self.new.held) }
         ensures counted { HasCounted self.old share.old (told_steps result.steps.done) self.new share.new }
         ensures out { self.new.is_out ≡ self.old.is_out }
         ensures before { (f : Reading) → Fits self.new.held.0.names f → Fits self.old.held.0.names f }
     {
         let most = MOST_STEPS.min(self.room());
-        let steps = self.first_steps(rt, common, tables, share, most);
-        let again = steps.done == MOST_STEPS && !self.quiet();
+        let steps = self.steps_within(rt, common, tables, share, most_bytes, most);
+        let may_go_on = steps.done == MOST_STEPS || self.is_over(most_bytes);
+        let again = may_go_on && !self.quiet();
         Turn { steps, again }
+    }
+
+    /// First steps until `most` are done, none can step, one is refused, or the account takes more than `most_bytes` bytes, as `turn`.
+    fn steps_within(
+        &mut self,
+        rt: &'t R,
+        common: &PoolShared<K>,
+        tables: &SharedTables<'t, K>,
+        share: &mut Share<K>,
+        most_bytes: u64,
+        most: u64,
+    ) -> Steps
+        requires room { most ≤ room_in self.old.book }
+        requires within { IsWithinTurn most_bytes false self.old }
+        ensures few { result.done ≤ most }
+        ensures steps { (f : Reading) → Fits self.new.held.0.names f → AreFirstSteps (kept_of f self.old.held) result.done (kept_of f self.new.held) }
+        ensures begun { (f : Reading) → Fits self.new.held.0.names f → IsBegunWithin most_bytes (kept_of f self.old.held) result.done (kept_of f self.new.held) }
+        ensures last { (f : Reading) → Fits self.new.held.0.names f → IsEnd most result.done result.last (kept_of f self.new.held) }
+        ensures counted { HasCounted self.old share.old (told_steps result.done) self.new share.new }
+        ensures out { self.new.is_out ≡ self.old.is_out }
+        ensures before { (f : Reading) → Fits self.new.held.0.names f → Fits self.old.held.0.names f }
+    {
+        let mut done = 0;
+        while done < most {
+            let piece = STEPS_A_LOOK.min(most - done);
+            let steps = self.first_steps(rt, common, tables, share, piece);
+            done += steps.done;
+            if steps.done < piece {
+                return Steps {
+                    done,
+                    last: steps.last,
+                };
+            }
+            if self.is_over(most_bytes) {
+                return Steps {
+                    done,
+                    last: if done < most {
+                        FirstStep::Memory
+                    } else {
+                        FirstStep::Done
+                    },
+                };
+            }
+        }
+        Steps {
+            done,
+            last: FirstStep::Done,
+        }
     }
 
     /// Like `turn`, of at most `MOST_GRANTED_STEPS`; unless `more` is to be read, or the account takes no more than `most_bytes` bytes afterwards,
@@ -93,9 +150,11 @@ impl<'t, R: Wait, K: PoolIds> PoolAccount<'t, R, K> {
         is_short: bool,
         more: bool,
     ) -> Turn
+        requires within { IsWithinTurn most_bytes is_short self.old }
         ensures few { result.steps.done ≤ MOST_STEPS }
         ensures short { is_short ≡ true → result.steps.done ≤ MOST_GRANTED_STEPS }
         ensures steps { (f : Reading) → Fits self.new.held.0.names f → AreFirstSteps (kept_of f self.old.held) result.steps.done (kept_of f self.new.held) }
+        ensures begun { is_short ≡ false → (f : Reading) → Fits self.new.held.0.names f → IsBegunWithin most_bytes (kept_of f self.old.held) result.steps.done (kept_of f self.new.held) }
         ensures again { (f : Reading) → Fits self.new.held.0.names f → result.again ≡ turn_goes_on most_bytes is_short more result.steps.done (kept_of f self.new.held) }
         ensures counted { HasCounted self.old share.old (told_steps result.steps.done) self.new share.new }
         ensures out { self.new.is_out ≡ self.old.is_out }
@@ -104,7 +163,7 @@ impl<'t, R: Wait, K: PoolIds> PoolAccount<'t, R, K> {
         if is_short {
             self.short_turn(rt, common, tables, share, most_bytes, more)
         } else {
-            self.turn(rt, common, tables, share)
+            self.turn(rt, common, tables, share, most_bytes)
         }
     }
 

@@ -1,0 +1,44 @@
+use Rattle.std.proofs.Common.{◌≡◌, ℕ, ◌+◌, ◌-◌, ◌^◌, ◌<◌, ◌≤◌, sym, ap, ◌∙◌, refl, arith}
+use Rattle.std.proofs.lemmas.Bool.{ltb-false}
+use Rattle.kl1_journal.specs.Keeping.{kept_of}
+use Rattle.kl1_command.proofs.Runs.{all_done}
+use Rattle.kl1_tally.specs.Seats.{Book}
+use Rattle.kl1_pool.specs.Counted.{room_in}
+use Rattle.kl1_pool.specs.Growing.{counted_none, counted_more}
+use Rattle.kl1_pool.proofs.Pieces.{steps_more, no_steps, begun_none, begun_piece, left_room}
+use Rattle.kl1_pool.proofs.RestoredEvents.{end_of_all}
+use Rattle.kl1_pool.proofs.pool_account.PoolAccount.steps_within.Goals as goal
+
+pub loop-done-init : goal.loop-done-init
+loop-done-init g c = record {
+  few = omega arith;
+  room = c.requires.room;
+  within = c.requires.within;
+  steps = λ f fits. no_steps (kept_of f c.args.self.now.held);
+  begun = λ f fits. begun_none c.args.most_bytes (kept_of f c.args.self.now.held) (c.requires.within f);
+  counted = counted_none c.args.self.now c.args.share.now;
+  out = refl;
+  before = λ f fits. fits;
+}
+
+pub first_steps-steps-requires-in-loop-done : goal.first_steps-steps-requires-in-loop-done
+first_steps-steps-requires-in-loop-done g c = omega (arith, c.min-piece.ensures, c.loop-done.invariant.room)
+
+-- what holds after a piece
+pub loop-done-preserved : goal.loop-done-preserved
+loop-done-preserved g c =
+    let old = c.args.self.now in
+    let mid = c.loop-done.self in
+    let new = c.first_steps-steps.new.self in
+    let n = c.first_steps-steps.result.done in
+    let h = c.first_steps-steps.ensures in
+    let inv = c.loop-done.invariant in record {
+      few = omega (arith, h.few, c.min-piece.ensures, inv.few, c.loop-done-test.true);
+      room = left_room c.args.most c.loop-done.done n mid.book new.book h.counted.book inv.room;
+      within = λ f. ltb-false _ _ (sym (c.is_over.ensures f) ∙ c.if-is_over.false);
+      steps = λ f fits. steps_more (kept_of f old.held) (kept_of f mid.held) (kept_of f new.held) c.loop-done.done n (inv.steps f (h.before f fits)) (all_done (kept_of f mid.held) (kept_of f new.held) n (h.goes f fits));
+      begun = λ f fits. begun_piece c.args.most_bytes (kept_of f old.held) (kept_of f mid.held) (kept_of f new.held) c.loop-done.done n (inv.within f) (omega (arith, h.few, c.min-piece.ensures)) (inv.steps f (h.before f fits)) (all_done (kept_of f mid.held) (kept_of f new.held) n (h.goes f fits));
+      counted = counted_more old mid new c.args.share.now c.loop-done.share c.first_steps-steps.new.share c.loop-done.done n inv.counted h.counted;
+      out = h.out ∙ inv.out;
+      before = λ f fits. inv.before f (h.before f fits);
+    }
