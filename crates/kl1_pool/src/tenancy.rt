@@ -67,7 +67,11 @@ impl<'t, R: Wait, K: PoolIds> PoolAccount<'t, R, K> {
     {
         // Called for the facts that it proves: the account is the replay of its journal, with the rules of the pool.
         self.shows_counts();
-        if !self.is_called(name.text().unpacked().as_slice()) || !self.look(comer) {
+        let called = name.text().unpacked();
+        if !self.is_called(called.as_slice()) {
+            return (false, None);
+        }
+        if !self.look(comer) {
             return (false, None);
         }
         (true, self.due_ticket())
