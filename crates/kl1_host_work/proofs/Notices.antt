@@ -3,14 +3,15 @@ use Rattle.std.proofs.Common.{◌≡◌, ◌×◌, ℕ, Bool, true, List, subst}
 use Rattle.kl1_model.specs.declared.rules.Rules.{Rules}
 use Rattle.kl1_model_server.specs.Journal.{Journal}
 use Rattle.kl1_session.specs.Conversations.{Done}
-use Rattle.kl1_pool.specs.Showing.{IsSeenOfSome, IsShownAfter}
+use Rattle.kl1_pool.specs.Showing.{IsSeenOfSome, IsShownAfter, IsLastOf}
 use Rattle.kl1_journal_stamps.specs.declared.shown_ids.ShownIds as shown_ids
 use Rattle.kl1_host_journals.specs.declared.history.Naming as naming
 use Rattle.kl1_host_journals.specs.declared.leave.Connecting as connecting
 use Rattle.kl1_host_journals.specs.declared.outgoing.Outgoing.{Outgoing}
 use Rattle.kl1_host_journals.specs.declared.outgoing.Outgoing.TheVariants.{Free, Waits, Lost}
 use Rattle.kl1_host_journals.specs.Outgoings.{IsNotedFor}
-use Rattle.kl1_host_work.specs.Noted.{IsHeldFor, IsNoted, IsNotedAfter}
+use Rattle.kl1_journal_stamps.specs.Stamps.{ShownValue}
+use Rattle.kl1_host_work.specs.Noted.{waits, IsHeldFor, IsNoted, IsNotedAfter, IsLastNote}
 
 module _ {J C : Type 0} {g : naming.Ghosts J} {shown : shown_ids.Ghosts J} {h : connecting.Ghosts C} where
   -- a leave that is held waits for what was seen
@@ -18,7 +19,7 @@ module _ {J C : Type 0} {g : naming.Ghosts J} {shown : shown_ids.Ghosts J} {h : 
   noted_by rules named account is_held before (Free permit) held seen = absurd held
   noted_by rules named account is_held before (Waits leave) held seen =
       let P : Outgoing J C g shown h → Type 0 = λ (x : Outgoing J C g shown h). IsSeenOfSome rules named (λ (j : Journal) (ended : ℕ). IsNotedFor j ended x) in
-      (held.2.0, subst P held.0 (seen held.2.1))
+      (held.1, subst P held.0 (seen held.2))
   noted_by rules named account is_held before Lost held seen = tt
 
   -- a leave that is held waits for what was shown of an account just after this answer
@@ -26,5 +27,9 @@ module _ {J C : Type 0} {g : naming.Ghosts J} {shown : shown_ids.Ghosts J} {h : 
   noted_after rules named d is_held before (Free permit) held seen = absurd held
   noted_after rules named d is_held before (Waits leave) held seen =
       let P : Outgoing J C g shown h → Type 0 = λ (x : Outgoing J C g shown h). IsShownAfter rules named d.command d.answer (λ (j : Journal) (ended : ℕ). IsNotedFor j ended x) in
-      (held.2.0, subst P held.0 (seen held.2.1))
+      (held.1, subst P held.0 (seen held.2))
   noted_after rules named d is_held before Lost held seen = tt
+
+  -- what was read for the last time was noted, if a leave waits for it
+  pub last_noted : (rules : Rules) (named : List ℕ → Type 0) (history : ShownValue) (leave : Outgoing J C g shown h) → waits leave ≡ true → IsSeenOfSome rules named (λ (j : Journal) (ended : ℕ). IsNotedFor j ended leave × IsLastOf history j ended) → IsSeenOfSome rules named (λ (j : Journal) (ended : ℕ). IsLastNote history leave j ended)
+  last_noted rules named history leave waiting seen = (seen.0, seen.1, seen.2, (seen.3.1, seen.3.0, waiting))

@@ -157,7 +157,7 @@ where
     let view = View {
         rt,
         desk,
-        host,
+        edition: host.edition,
         outgoing: Some(&outgoing),
         visit: Some(visit),
     };

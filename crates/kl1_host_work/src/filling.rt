@@ -126,6 +126,13 @@ pub(crate) fn is_short<J: Naming>(host: Host<'_, J>, account: usize) -> bool {
     }
 }
 
+/// Lets what waits for room of an account that leaves be written from the room for resets, since none comes any more.
+pub(crate) fn hurry_room<J: Naming>(host: Host<'_, J>, account: usize) {
+    if let Some(room) = room_of(host.rooms, account) {
+        room.hurry();
+    }
+}
+
 /// Lets nothing wait for room any more.
 pub(crate) fn close_rooms<J: Naming>(host: Host<'_, J>) {
     for room in host.rooms {

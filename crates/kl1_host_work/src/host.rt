@@ -48,8 +48,13 @@ impl<'h, J: Naming> Host<'h, J> {
 
     /// Whether who is served may do something to an account.
     pub(crate) fn lets_in(self, account: usize) -> bool {
+        self.lets_in_by(account, self.edition)
+    }
+
+    /// The same, of who was let in by keys of this edition, or of a newer one.
+    pub(crate) fn lets_in_by(self, account: usize, edition: u64) -> bool {
         match self.places.get(account) {
-            Some(place) => place.lets_in(self.edition),
+            Some(place) => place.lets_in(edition),
             None => false,
         }
     }

@@ -115,6 +115,7 @@ fn serve_file<'t, F: Front, W: Wait + Clock, R: Wait, K: PoolIds + Naming, D: Di
     }
     if place.is_leaving(rt) {
         close_at_once(rt, desk, account);
+        count_in(desk, is_first);
     }
     end_file(rt, desk, account, keeper, file)
 }

@@ -94,11 +94,13 @@ pub(crate) fn if_held<J: Naming, C: Connecting>(
 ) -> Outgoing<J, C>
     ensures { IsHeldFor account is_held outgoing result }
 {
-    match outgoing {
-        Outgoing::Waits(held) if is_held && held.account() as usize == account => {
-            Outgoing::Waits(held)
-        }
-        _ => Outgoing::Lost,
+    let Outgoing::Waits(held) = outgoing else {
+        return Outgoing::Lost;
+    };
+    if is_held && held.account() as usize == account {
+        Outgoing::Waits(held)
+    } else {
+        Outgoing::Lost
     }
 }
 

@@ -137,7 +137,7 @@ where
     let view = View::<F, N, R, K, C> {
         rt,
         desk,
-        host,
+        edition: host.edition,
         outgoing: None,
         visit: None,
     };
@@ -301,6 +301,7 @@ fn keep_while<
 ) -> Result<Vec<LogFile<D>>, StartFault>
 where
     R: Threads + Wait + Clock + Sync,
+    F::Entrance: Send,
     K: PoolIds + Naming + Send + Sync,
     requires { (there : _) → G.pre run there }
 {

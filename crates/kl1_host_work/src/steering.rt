@@ -1,6 +1,7 @@
 // What a host is told to do while it runs.
 
 use crate::account_place::PlaceState;
+use crate::filling::hurry_room;
 use crate::front::Front;
 use crate::live::Amounts;
 use crate::view::View;
@@ -60,6 +61,7 @@ impl<F: Front, N: Wait + Clock, R: Wait, K: PoolIds + Naming, C: Connecting> Ste
         let desk = self.desk;
         if let Some(place) = desk.host.places.get(account) {
             place.leave(self.rt);
+            hurry_room(desk.host, account);
             desk.lobby.end_those(self.rt, &[account], false);
         }
         // Who looks at the account ends what is done to it.

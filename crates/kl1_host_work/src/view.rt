@@ -5,7 +5,6 @@ ghost use Rattle.std.specs.Prelude.{◌≡◌, ◌<◌, true};
 use crate::account_place::PlaceState;
 use crate::connections::Desk;
 use crate::front::{Front, HostView, Sight};
-use crate::host::Host;
 use crate::noting::note_told;
 use crate::visit::{Visit, now_of};
 use kl1_host_journals::{Connecting, Naming, Outgoing};
@@ -32,8 +31,8 @@ pub(crate) struct View<
 > {
     pub(crate) rt: &'v N,
     pub(crate) desk: &'v Desk<'d, 't, F, R, K>,
-    /// The host, with the keys of who is served.
-    pub(crate) host: Host<'v, K>,
+    /// The edition of the keys of who is served, or an older one.
+    pub(crate) edition: u64,
     /// The leave to write of the connection that is told what is seen; `None` if no connection is.
     pub(crate) outgoing: Option<&'v Cell<Outgoing<K, C>>>,
     /// That connection.
@@ -86,7 +85,7 @@ impl<F: Front, N: Wait + Clock, R: Wait, K: PoolIds + Naming, C: Connecting> Vie
     fn may_look(&self, account: usize) -> bool
         ensures { result ≡ true → account < K.accounts }
     {
-        account < self.desk.pool.accounts() && self.host.lets_in(account)
+        account < self.desk.pool.accounts() && self.desk.host.lets_in_by(account, self.edition)
     }
 
     /// Lets the connection wait until what was seen of an account is on disk.
