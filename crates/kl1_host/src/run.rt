@@ -179,7 +179,7 @@ where
     })
 }
 
-/// Runs a host with what is opened until it is asked to stop. `K` stands for the book of its browsers' sessions, which are opened by keys that are known by their sums.
+/// Runs a host with what is opened until it is asked to stop. `K` stands for the book of its browsers' sessions.
 fn run_opened<R, K: LoginKeys + Send + Sync>(
     log: &Log<'_, R>,
     folder: &str,
@@ -198,8 +198,7 @@ where
         + Eprint
         + Sync,
     R::Dir: Send + Sync,
-    requires marks { K.marks ≡ sum_of }
-    requires begins { K.begins ≡ true }
+    requires { K.begins ≡ true }
 {
     let (rt, alloc, settings) = (log.rt, log.alloc, &opened.settings);
     let pauses = Mutex::new(Pauses::new(alloc)?);

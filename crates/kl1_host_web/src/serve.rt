@@ -333,9 +333,10 @@ impl<'p, R: Wait, M: Machine, K: LoginKeys> Service<'p, R, M, K> {
             Err(refusal) => return Ok(Served::Refused(refusal)),
         };
         // Who isn't let in has no long body read. A short one is read also if the request is refused, so that the next one is found.
-        if let Err(refusal) = self.may_send(accounts, &head, count) {
-            return Ok(Served::Refused(refusal));
-        }
+        let _is_in = match self.may_send(accounts, &head, count) {
+            Ok(is_in) => is_in,
+            Err(refusal) => return Ok(Served::Refused(refusal)),
+        };
         let Some(body) = inbox.body(self.alloc, source, count as usize)? else {
             return Ok(Served::Ended);
         };
