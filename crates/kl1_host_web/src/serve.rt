@@ -211,7 +211,7 @@ impl<'p, R: Wait, M: Machine, K: LoginKeys> Service<'p, R, M, K> {
         let mut count = 0u64;
         for _ in self.rt.forever() {
             match self.take_of(accounts, account) {
-                Some(_) => count = count.saturating_add(1),
+                Some(_session) => count = count.saturating_add(1),
                 None => return count,
             }
         }
