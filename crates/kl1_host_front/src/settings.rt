@@ -211,22 +211,21 @@ impl Settings {
         ensures same { OnErr result (self.new ≡ self.old) }
     {
         match name {
-            "listen" => self.listen = text_of(alloc, value)?,
-            "web" => self.web = Some(text_of(alloc, value)?),
-            "page" => self.page = Some(origin_of(alloc, value)?),
-            "workers" => self.workers = Some(number_of(value, MOST_WORKERS)?),
-            "sync" => self.sync = sync_of(value)?,
-            "idle" => self.idle = time_of(value)?,
-            "idle_login" => self.idle_login = time_of(value)?,
-            "connections" => self.connections = number_of(value, MOST_CONNECTIONS)?,
-            "connections_each" => self.connections_each = number_of(value, MOST_CONNECTIONS)?,
-            "waiting_each" => self.waiting_each = number_of(value, MOST_CONNECTIONS)?,
-            "memory_each" => self.memory_each = size_of(value)?,
-            "codes_each" => self.codes_each = size_of(value)?,
-            "disk_each" => self.disk_each = size_of(value)?,
-            "spare_accounts" => self.spare_accounts = spare_of(value)?,
-            _ => return Err(BadSetting::Unknown),
+            "listen" => Ok(self.listen = text_of(alloc, value)?),
+            "web" => Ok(self.web = Some(text_of(alloc, value)?)),
+            "page" => Ok(self.page = Some(origin_of(alloc, value)?)),
+            "workers" => Ok(self.workers = Some(number_of(value, MOST_WORKERS)?)),
+            "sync" => Ok(self.sync = sync_of(value)?),
+            "idle" => Ok(self.idle = time_of(value)?),
+            "idle_login" => Ok(self.idle_login = time_of(value)?),
+            "connections" => Ok(self.connections = number_of(value, MOST_CONNECTIONS)?),
+            "connections_each" => Ok(self.connections_each = number_of(value, MOST_CONNECTIONS)?),
+            "waiting_each" => Ok(self.waiting_each = number_of(value, MOST_CONNECTIONS)?),
+            "memory_each" => Ok(self.memory_each = size_of(value)?),
+            "codes_each" => Ok(self.codes_each = size_of(value)?),
+            "disk_each" => Ok(self.disk_each = size_of(value)?),
+            "spare_accounts" => Ok(self.spare_accounts = spare_of(value)?),
+            _ => Err(BadSetting::Unknown),
         }
-        Ok(())
     }
 }

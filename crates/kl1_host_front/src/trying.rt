@@ -2,7 +2,7 @@
 
 ghost use Rattle.std.specs.Prelude.{◌≡◌, ◌*◌, true, false};
 ghost use Rattle.std.specs.Time.{as_nanos};
-ghost use Rattle.kl1_host_front.specs.Pauses.{wrongs_in, pause_for, NotesWrong, Forgives};
+ghost use Rattle.kl1_host_front.specs.Pauses.{wrongs_in, pause_for, IsNotedFor, IsForgottenFor, NotesWrong, Forgives};
 
 use crate::wrong_keys::{Pauses, Trier};
 use std::snapshot::Snapshot;
@@ -70,6 +70,26 @@ impl Pauses {
         }
     }
 
+    /// A wrong key was tried for an account at `now`, if there is this account.
+    fn note_wrong_for(&mut self, account: Option<u128>, now: u64)
+        ensures { IsNotedFor account now (wrongs_in self.old) (wrongs_in self.new) }
+    {
+        match account {
+            None => {}
+            Some(account) => self.note_wrong(account, now),
+        }
+    }
+
+    /// The wrong keys of an account are forgotten, if there is this account.
+    fn forget_for(&mut self, account: Option<u128>)
+        ensures { IsForgottenFor account (wrongs_in self.old) (wrongs_in self.new) }
+    {
+        match account {
+            None => {}
+            Some(account) => self.forget(account),
+        }
+    }
+
     /// A trier came with a wrong key at `now`.
     pub(crate) fn note_wrong_by(&mut self, trier: Trier, now: u64) -> Tried
         ensures notes { NotesWrong trier now (wrongs_in self.old) (wrongs_in self.new) }
@@ -77,9 +97,7 @@ impl Pauses {
         ensures is_good { result.is_good.value ≡ false }
     {
         self.note_wrong(trier.address, now);
-        if let Some(account) = trier.account {
-            self.note_wrong(account, now);
-        }
+        self.note_wrong_for(trier.account, now);
         Tried {
             trier: Snapshot::of(&trier),
             is_good: Snapshot::of(&false),
@@ -93,9 +111,7 @@ impl Pauses {
         ensures is_good { result.is_good.value ≡ true }
     {
         self.forget(trier.address);
-        if let Some(account) = trier.account {
-            self.forget(account);
-        }
+        self.forget_for(trier.account);
         Tried {
             trier: Snapshot::of(&trier),
             is_good: Snapshot::of(&true),

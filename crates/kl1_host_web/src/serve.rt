@@ -368,10 +368,11 @@ impl<'p, R: Wait, M: Machine, K: LoginKeys> Service<'p, R, M, K> {
     fn send_refusal<T: Sink>(&self, sink: &mut T, refusal: Refusal)
         ensures { (T.contents sink.new ≡ T.contents sink.old) ⊎ WritesRefusal refusal (T.contents sink.old) (T.contents sink.new) (T.failures sink.old) (T.failures sink.new) }
     {
-        if let Ok(answer) = refused(self.alloc, refusal) {
-            // It tells of no cookie.
-            let _ = self.send(sink, &answer, false, false);
-        }
+        let Ok(answer) = refused(self.alloc, refusal) else {
+            return;
+        };
+        // It tells of no cookie.
+        let _is_sent = self.send(sink, &answer, false, false);
     }
 
     /// Serves one connection: its requests one after another, until it ends, an answer says so, or one of them can't be read. Their answers are written in
