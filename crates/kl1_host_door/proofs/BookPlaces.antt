@@ -1,5 +1,5 @@
 -- Sessions that pass a test, and where they stand.
-use Rattle.std.proofs.Common.{◌≡◌, ◌<◌, ◌≤◌, ◌+◌, ℕ, zero, suc, Bool, true, false, if◌then◌else◌, List, [], ◌∷◌, length, set, get_or, bytes_eq, Option, Some, None, refl, ap, ◌∙◌, arith, le_of_eq}
+use Rattle.std.proofs.Common.{◌≡◌, ◌≤◌, ◌+◌, ℕ, zero, suc, Bool, true, false, if◌then◌else◌, List, [], ◌∷◌, set, get_or, bytes_eq, Option, Some, None, refl, ap, ◌∙◌, arith, le_of_eq}
 use Rattle.kl1_host_door.specs.declared.session.WebSession.{WebSession}
 use Rattle.kl1_host_door.specs.declared.book.SessionTest.TheVariants as test
 use Rattle.kl1_host_door.specs.Books.{passes, seen_at, touched, place_from, place_of, first_of}

@@ -53,14 +53,17 @@ module _ (tells : ℕ → Type 0) (gives : List ℕ → Type 0) (idle : ℕ) (ho
         left = left;
         asked = after;
         serves = (middle, asked, h.serves, k.4);
-        finishes = inr (inl (record {
-          last = x;
-          earlier = h.served;
-          is = refl;
-          middle = here;
-          written = h.written;
-          breaks = subst (λ n. BreaksOff (response sites x) here new n fails) none (subst (λ t. BreaksOff t here new so_far fails) same w);
-        }, refl));
+        finishes = inr (inl (
+          record {
+            last = x;
+            earlier = h.served;
+            is = refl;
+            middle = here;
+            written = h.written;
+            breaks = subst (λ n. BreaksOff (response sites x) here new n fails) none (subst (λ t. BreaksOff t here new so_far fails) same w);
+          },
+          refl,
+        ));
       }
 
   -- no more is attended to for a reason, and that was written or not

@@ -61,7 +61,7 @@ abbrev pub Finishes : (ℕ → Type 0) → House → ℕ → List Site → Bool 
 Finishes tells house idle sites is_local served left old new failed fails before after =
     (Appends old new (responses sites served) × AsksNoMore tells house idle sites is_local before after)
     ⊎ ((BreaksOffLast sites served old new failed fails × (after ≡ before))
-      ⊎ TurnsAway tells house idle sites is_local served left old new failed fails before after)
+    ⊎ TurnsAway tells house idle sites is_local served left old new failed fails before after)
 
 -- what became of a connection: the requests that came were attended to one after another, and their answers were written in this order, each once and
 -- nothing else, up to where it ended
