@@ -1,5 +1,5 @@
 -- Answers that are written one after another.
-use Rattle.std.proofs.Common.{◌≡◌, ◌⊎◌, ℕ, Bool, List, [], ◌∷◌, ◌++◌, Result, Ok, Err, refl, sym, ap, subst, ◌∙◌, inl, inr, append-nil}
+use Rattle.std.proofs.Common.{◌≡◌, ◌⊎◌, ℕ, Bool, true, false, List, [], ◌∷◌, ◌++◌, Result, Ok, Err, refl, sym, ap, subst, ◌∙◌, inl, inr, append-nil}
 use Rattle.std.specs.declared.option.Option.{Option}
 use Rattle.std.specs.declared.alloc.AllocError.{AllocError}
 use Rattle.std.specs.Io.KnownBytes.{Appends}
@@ -11,9 +11,15 @@ use Rattle.kl1_host_door.specs.declared.door.Site.{Site}
 use Rattle.kl1_host_door.specs.Answers.{answer_text}
 use Rattle.kl1_host_door.specs.Doors.{is_secure}
 use Rattle.kl1_host_web.specs.Asking.{Asked, House}
+use Rattle.kl1_host_web.specs.Telling.{IsRefusal}
 use Rattle.kl1_host_web.specs.Serving.{Exchange, Serves, Steps, AsksNoMore}
 use Rattle.kl1_host_web.specs.Writing.{response, responses, BreaksOff, WritesRefusal, IsTurnedAway, Connects}
 use Rattle.kl1_host_web.specs.declared.serve.Served.TheVariants as served_as
+
+-- a refusal was sent, whole or not
+pub refusal_written : (why : Refusal) (answer : Answer) (old new : Option (List ℕ)) (failed fails : ℕ) (v : Bool) → IsRefusal why answer → (v ≡ true → Appends old new (answer_text answer false false)) → (v ≡ false → BreaksOff (answer_text answer false false) old new failed fails) → WritesRefusal why old new failed fails
+refusal_written why answer old new failed fails true is sent breaks = record { answer = answer; refuses = is; written = inl (sent refl) }
+refusal_written why answer old new failed fails false is sent breaks = record { answer = answer; refuses = is; written = inr (breaks refl) }
 
 -- requests were attended to one after another, and their answers written
 pub record IsUnderway (tells : ℕ → Type 0) (gives : List ℕ → Type 0) (idle : ℕ) (house : House) (sites : List Site) (is_local : Bool) (unread left old new : Option (List ℕ)) (before after : List Asked) : Type 0 where

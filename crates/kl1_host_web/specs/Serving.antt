@@ -201,19 +201,25 @@ pub record HasBody (n : ℕ) (body : List ℕ) (old new : Option (List ℕ)) : T
 
 -- ---- the requests of a connection
 
--- that a request was let in was told, if it was
-abbrev pub telling : Result Bool Refusal → List Asked
-telling (Ok is_in) = if is_in then let_in ∷ [] else []
-telling (Err why) = []
-
--- whether a body of n bytes is read after a head was looked up in the book of sessions, which had these: who isn't let in has no long one read. That a
--- request was let in was told, and of none that wasn't.
-pub record LooksAt (tells : ℕ → Type 0) (house : House) (idle : ℕ) (sites : List Site) (is_local : Bool) (head : Head) (n : ℕ) (before after : List Asked) (result : Result Bool Refusal) : Type 0 where
+-- whether a body of n bytes is read after a head was looked up in the book of sessions, which had these: who isn't let in has no long one read
+pub record LooksUp (tells : ℕ → Type 0) (house : House) (idle : ℕ) (sites : List Site) (is_local : Bool) (head : Head) (n : ℕ) (before after : List Asked) (result : Result Bool Refusal) : Type 0 where
   pub second : ℕ
   pub told : tells second
   pub sessions : List WebSession
   pub is : result ≡ may_send n (authorized head sessions sites is_local (second - idle) house.entries)
-  pub noted : after ≡ before ++ changed Looks sessions ∷ telling result
+  pub noted : after ≡ before ++ changed Looks sessions ∷ []
+
+-- that a request was let in was told, if it was
+abbrev pub TellsIn : Result Bool Refusal → List Asked → List Asked → Type 0
+TellsIn (Ok true) before after = after ≡ before ++ let_in ∷ []
+TellsIn (Ok false) before after = after ≡ before
+TellsIn (Err why) before after = after ≡ before
+
+-- it was looked up whether a body is read, and told of those requests that were let in
+pub record LooksAt (tells : ℕ → Type 0) (house : House) (idle : ℕ) (sites : List Site) (is_local : Bool) (head : Head) (n : ℕ) (before after : List Asked) (result : Result Bool Refusal) : Type 0 where
+  pub looked : List Asked
+  pub looks : LooksUp tells house idle sites is_local head n before looked result
+  pub tells_in : TellsIn result looked after
 
 -- a request by its head and its body, and what was answered; without memory for an answer nothing
 pub record Exchange : Type 0 where

@@ -11,7 +11,7 @@ ghost use Rattle.kl1_command.specs.declared.performed.Performed.{Performed};
 ghost use Rattle.kl1_host_web.specs.Asking.{Asked, changed};
 ghost use Rattle.kl1_host_web.specs.Telling.{IsOpenedIn};
 ghost use Rattle.kl1_host_web.specs.Beginning.{Begun};
-ghost use Rattle.kl1_host_web.specs.Serving.{Seeks, logout_of, EndsIdle, SeeksOf, Forgets, Admits, LooksAt, closing, Ends, is_within, AnswersWithin, Attends, is_word, goes_on, Steps};
+ghost use Rattle.kl1_host_web.specs.Serving.{Seeks, logout_of, EndsIdle, SeeksOf, Forgets, Admits, LooksUp, LooksAt, closing, Ends, is_within, AnswersWithin, Attends, is_word, goes_on, Steps};
 ghost use Rattle.kl1_host_web.specs.Writing.{BreaksOff, WritesRefusal, Connects};
 
 use crate::accounts::Accounts;
@@ -160,8 +160,27 @@ impl<'p, R: Wait, M: Machine, K: LoginKeys> Service<'p, R, M, K> {
         allowed
     }
 
-    /// Whether a request is let in to an account, whose body of `count` bytes is read, by the sessions that are open now; or why that isn't read. If
-    /// it is let in, that is told.
+    /// Looks up whether a request is let in to an account, whose body of `count` bytes is read, by the sessions that are open now; or why that isn't
+    /// read.
+    fn look<A: Accounts>(
+        &self,
+        accounts: &mut A,
+        head: &Head,
+        count: u64,
+    ) -> Result<bool, Refusal>
+        ensures house { A.house accounts.new ≡ A.house accounts.old }
+        ensures looks { LooksUp (M.tells self.now.machine.now) (A.house accounts.old) self.now.page.idle self.now.page.sites.now self.now.is_local head.now count (A.asked accounts.old) (A.asked accounts.new) result }
+    {
+        let since = self.machine.seconds().saturating_sub(self.page.idle);
+        let guard = self.page.sessions.lock(self.rt);
+        let book = &*guard;
+        let (sites, keys) = (self.page.sites, accounts.keys());
+        let (may, change) = book.may_send(head, sites, self.is_local, since, keys, count);
+        accounts.note_change(change);
+        may
+    }
+
+    /// Whether a request is let in to an account, whose body of `count` bytes is read; or why that isn't read. If it is let in, that is told.
     fn may_send<A: Accounts>(
         &self,
         accounts: &mut A,
@@ -171,15 +190,7 @@ impl<'p, R: Wait, M: Machine, K: LoginKeys> Service<'p, R, M, K> {
         ensures house { A.house accounts.new ≡ A.house accounts.old }
         ensures looks { LooksAt (M.tells self.now.machine.now) (A.house accounts.old) self.now.page.idle self.now.page.sites.now self.now.is_local head.now count (A.asked accounts.old) (A.asked accounts.new) result }
     {
-        let since = self.machine.seconds().saturating_sub(self.page.idle);
-        let (may, change) = {
-            let guard = self.page.sessions.lock(self.rt);
-            let book = &*guard;
-            let (sites, keys) = (self.page.sites, accounts.keys());
-            book.may_send(head, sites, self.is_local, since, keys, count)
-        };
-        accounts.note_change(change);
-        match may {
+        match self.look(accounts, head, count) {
             Ok(true) => {
                 accounts.let_in();
                 Ok(true)
