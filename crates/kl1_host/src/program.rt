@@ -2,7 +2,6 @@
 
 ghost use Rattle.std.specs.Prelude.{◌≡◌, ◌≤◌, ℕ, [], length};
 ghost use Rattle.kl1_session.specs.Views.{entries_view};
-ghost use Rattle.kl1_host_front.specs.Sums.{sum_of};
 ghost use Rattle.kl1_host_web.specs.Records.{asked_in};
 ghost use Rattle.kl1_host.specs.Browsers.{IsServed};
 ghost use Rattle.kl1_host.specs.Ends.{end_word};
@@ -65,8 +64,6 @@ pub struct Program<'f, R: Wait + Clock + Eprint + Files<File = File> + RandomSou
     pub begun: Instant,
     /// Who asked it to stop, and waits for its end.
     pub asker: &'f Mutex<Option<UnixStream>>,
-    /// Keys are known by their sums.
-    pub ghost are_marks: { K.marks ≡ sum_of },
 }
 
 /// Who lets in whoever connects from this address, by these keys.
@@ -192,7 +189,8 @@ impl<'f, R: Wait + Clock + Eprint + Files<File = File> + RandomSource, K: LoginK
     }
 
     /// Serves a connection of a browser from this address, which begins with these accounts. What is asked of them is what its requests may
-    /// have, and just that is done by their performer, each command once, unless it is answered as if memory was refused.
+    /// have, and just that is done by their performer, each command once, unless it is answered as if memory was refused. The answers are
+    /// written in the order of the requests, and nothing else.
     fn serve_browser<S: Source, T: Sink, P: Performer + Drop, V: HostView>(
         &self,
         address: SocketAddr,
@@ -202,7 +200,7 @@ impl<'f, R: Wait + Clock + Eprint + Files<File = File> + RandomSource, K: LoginK
     )
         requires keys { accounts.old.keys.now ≡ accounts.old.door.keys.now }
         requires fresh { asked_in accounts.old.noted ≡ [] }
-        ensures { ∥ (idle : ℕ) × IsServed (entries_view accounts.old.keys.now) (length accounts.old.keys.now) idle self.now.sites.now (S.remaining source.old) (P.done accounts.old.begun.value) (P.done accounts.new.performer) ∥₁ }
+        ensures { ∥ (idle : ℕ) × IsServed (entries_view accounts.old.keys.now) (length accounts.old.keys.now) idle self.now.sites.now address (S.remaining source.old) (T.contents sink.old) (T.contents sink.new) (T.failures sink.old) (T.failures sink.new) (P.done accounts.old.begun.value) (P.done accounts.new.performer) ∥₁ }
     {
         self.service(is_local(address))
             .serve(source, sink, accounts);

@@ -2,7 +2,6 @@
 
 ghost use Rattle.std.specs.Prelude.{◌≡◌, ◌≤◌, true};
 ghost use Rattle.kl1_model.specs.declared.limits.TheConstants.{MOST_ACCOUNTS};
-ghost use Rattle.kl1_host_front.specs.Sums.{sum_of};
 ghost use Rattle.kl1_host.specs.Setups.{IsSynced, IsSetUp};
 
 use crate::accounts::{Accounts, accounts_in};
@@ -180,7 +179,7 @@ where
     })
 }
 
-/// Runs a host with what is opened until it is asked to stop. `K` stands for the book of its browsers' sessions, which are opened by keys that are known by their sums.
+/// Runs a host with what is opened until it is asked to stop. `K` stands for the book of its browsers' sessions.
 fn run_opened<R, K: LoginKeys + Send + Sync>(
     log: &Log<'_, R>,
     folder: &str,
@@ -199,8 +198,7 @@ where
         + Eprint
         + Sync,
     R::Dir: Send + Sync,
-    requires marks { K.marks ≡ sum_of }
-    requires begins { K.begins ≡ true }
+    requires { K.begins ≡ true }
 {
     let (rt, alloc, settings) = (log.rt, log.alloc, &opened.settings);
     let pauses = Mutex::new(Pauses::new(alloc)?);

@@ -4,6 +4,7 @@ ghost use Rattle.std.specs.Prelude.{◌≡◌, ◌<◌, ◌≤◌, ◌++◌, ◌
 ghost use Rattle.kl1_command.specs.Commands.{command_view};
 ghost use Rattle.kl1_host_web.specs.Asking.{did, HasDone};
 ghost use Rattle.kl1_host_web.specs.Records.{asked_in};
+ghost use Rattle.kl1_host.specs.Browsers.{IsLocal};
 
 use crate::folder::journal_in;
 use crate::logins::LoginLog;
@@ -83,7 +84,9 @@ pub fn sites_of(
 }
 
 /// Whether an address is of the machine of the host.
-pub fn is_local(address: SocketAddr) -> bool {
+pub fn is_local(address: SocketAddr) -> bool
+    ensures { IsLocal address result }
+{
     address.ip().to_canonical().is_loopback()
 }
 
@@ -247,11 +250,11 @@ impl<'w, R: Wait + Clock + Eprint + Files, P: Performer + Drop, V: HostView> Acc
 
     ghost use Rattle.std.specs.Prelude.{length};
     ghost use Rattle.kl1_session.specs.Views.{entries_view};
-    ghost use Rattle.kl1_host_front.specs.Sums.{opened_by_sum, sum_of};
+    ghost use Rattle.kl1_host_front.specs.Sums.{opened_by_sum};
     ghost use Rattle.kl1_host.specs.Browsers.{name_at};
     ghost use Rattle.kl1_host_web.specs.Records.{asked_in};
 
-    ghost house = { λ w. record { accounts = length w.door.keys.now; names = name_at (entries_view w.keys.now); opens = opened_by_sum (entries_view w.door.keys.now); entries = entries_view w.door.keys.now; marks = sum_of; before = P.done w.begun.value } };
+    ghost house = { λ w. record { accounts = length w.door.keys.now; names = name_at (entries_view w.keys.now); opens = opened_by_sum (entries_view w.door.keys.now); entries = entries_view w.door.keys.now; before = P.done w.begun.value } };
 
     ghost asked = { λ w. asked_in w.noted };
 
@@ -278,7 +281,9 @@ impl<'w, R: Wait + Clock + Eprint + Files, P: Performer + Drop, V: HostView> Acc
         }
     }
 
-    fn let_in(&self) {
+    #[tactic(auto, using(kl1_host_web::proofs::Doing::let_in_more))]
+    fn let_in(&mut self) {
+        self.noted.let_in();
         // So the connection isn't ended as a stranger's while its body is read.
         self.host.let_in();
     }

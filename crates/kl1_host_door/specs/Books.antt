@@ -19,7 +19,7 @@ passes (test.IsOf account) session = session.account == account
 
 -- a session whose last request is at this second
 abbrev pub seen_at : ℕ → WebSession → WebSession
-seen_at second session = record { id = session.id; token = session.token; account = session.account; last = second }
+seen_at second session = record session { last = second }
 
 -- the sessions after a request of the first with this name, at this second
 abbrev pub touched : List ℕ → ℕ → List WebSession → List WebSession

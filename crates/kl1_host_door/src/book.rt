@@ -1,10 +1,9 @@
 // The sessions of browsers that are open.
 
-ghost use Rattle.std.specs.Prelude.{◌≡◌, ◌<◌, ◌≤◌, true, [], length, vec_capacity, All, IfOk, IfSome};
+ghost use Rattle.std.specs.Prelude.{◌≡◌, ◌<◌, ◌≤◌, true, [], length, vec_capacity, IfOk, IfSome};
 ghost use Rattle.kl1_host_door.specs.declared.limits.TheConstants.{MOST_SESSIONS};
-ghost use Rattle.kl1_host_door.specs.declared.book.BookStep.TheVariants.{Adds, Takes};
+ghost use Rattle.kl1_host_door.specs.declared.book.BookStep.TheVariants.{Adds, Takes, Looks};
 ghost use Rattle.kl1_session.specs.Views.{entries_view};
-ghost use Rattle.kl1_host_door.specs.Sessions.{IsOpened};
 ghost use Rattle.kl1_host_door.specs.Doors.{authorized};
 ghost use Rattle.kl1_host_door.specs.Bodies.{may_send};
 ghost use Rattle.kl1_host_door.specs.Books.{passes, place_of, touched, has_room, IsAdded, first_of, without_first, seen_by, after};
@@ -57,13 +56,12 @@ impl<K: LoginKeys> BookChange<K> {
     }
 }
 
-/// The sessions of browsers that are open, at most `MOST_SESSIONS`, in the order in which they were opened: each by a key, of which it has the mark.
+/// The sessions of browsers that are open, at most `MOST_SESSIONS`, in the order in which they were opened.
 #[derive(Drop)]
 pub struct SessionBook<K: LoginKeys> {
     list: Vec<WebSession>,
     of: PhantomData<K>,
     ghost room: { MOST_SESSIONS ≤ vec_capacity list },
-    ghost opened: { All (IsOpened K.marks) list.items },
 }
 
 impl<K: LoginKeys> Model for SessionBook<K> {
@@ -101,7 +99,6 @@ impl<K: LoginKeys> SessionBook<K> {
 
     /// Adds a session, and tells whether it did: as many may be open as `MOST_SESSIONS`.
     pub fn add(&mut self, session: WebSession) -> (bool, BookChange<K>)
-        requires { IsOpened K.marks session }
         ensures room { result.0 ≡ has_room self.old }
         ensures added { IsAdded result.0 session self.old self.new }
         ensures step { result.1.step.value ≡ Adds session }
@@ -142,12 +139,13 @@ impl<K: LoginKeys> SessionBook<K> {
         since: u64,
         keys: &[Key],
         count: u64,
-    ) -> Result<bool, Refusal>
-        ensures opened { All (IsOpened K.marks) self.now }
-        ensures value { result ≡ may_send count (authorized head.now self.now sites.now is_local since (entries_view keys.now)) }
+    ) -> (Result<bool, Refusal>, BookChange<K>)
+        ensures value { result.0 ≡ may_send count (authorized head.now self.now sites.now is_local since (entries_view keys.now)) }
+        ensures step { result.1.step.value ≡ Looks }
+        ensures before { result.1.before.value.items ≡ self.now }
     {
         let allowed = authorize(head, self.list.as_slice(), sites, is_local, since, keys);
-        may_send(count, &allowed)
+        (may_send(count, &allowed), self.change(BookStep::Looks))
     }
 
     /// What a request may have by the sessions, of a host that is known by these names; `is_local` tells whether it comes from the machine
@@ -162,7 +160,6 @@ impl<K: LoginKeys> SessionBook<K> {
         keys: &[Key],
         now: u64,
     ) -> (Result<Allowed, Refusal>, BookChange<K>)
-        ensures opened { All (IsOpened K.marks) self.old }
         ensures allowed { result.0 ≡ authorized head.now self.old sites.now is_local since (entries_view keys.now) }
         ensures seen { self.new ≡ after (seen_by now result.0) self.old }
         ensures step { result.1.step.value ≡ seen_by now result.0 }

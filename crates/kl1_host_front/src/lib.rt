@@ -15,6 +15,7 @@ mod settings_file;
 mod status_lines;
 mod sums;
 mod sync;
+mod trying;
 mod wrong_keys;
 
 pub use address::address_number;
@@ -30,4 +31,4 @@ pub use settings_file::{BadSettings, FIRST_SETTINGS, settings_in};
 pub use status_lines::{Number, put_account_status, put_host};
 pub use sums::{SUM_BYTES, bad_line, put_account, read_sums};
 pub use sync::{MOST_SYNC_MILLISECONDS, Sync, sync_in};
-pub use wrong_keys::{FORGOTTEN_AFTER, MOST_COUNTED, MOST_REMEMBERED, Pauses};
+pub use wrong_keys::{FORGOTTEN_AFTER, MOST_COUNTED, MOST_REMEMBERED, Pauses, Trier};

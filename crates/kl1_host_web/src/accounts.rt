@@ -4,7 +4,7 @@ ghost use Rattle.std.specs.Prelude.{◌≡◌, ◌<◌, ◌++◌, ◌∷◌, [],
 ghost use Rattle.kl1_command.specs.Commands.{command_view};
 ghost use Rattle.kl1_user_events.specs.declared.shoen_view.ShoenView.{ShoenView};
 ghost use Rattle.kl1_session.specs.Views.{entries_view};
-ghost use Rattle.kl1_host_web.specs.Asking.{Asked, did, looked, changed, House};
+ghost use Rattle.kl1_host_web.specs.Asking.{Asked, did, looked, changed, let_in, House};
 
 use kl1_command::{Command, Performed};
 use kl1_host_door::{BookChange, LoginKeys};
@@ -74,7 +74,7 @@ pub trait Viewer {
 pub trait Accounts {
     type Viewer: Viewer + Drop;
 
-    /// How many accounts there are, what they are called, whom names and keys let in, and what was done before.
+    /// How many accounts there are, what they are called, whom names and keys let in, by which keys, and what was done before.
     ghost house: { Self → House };
 
     /// What was asked of accounts, in order.
@@ -101,7 +101,9 @@ pub trait Accounts {
         ensures { OnOk result (out.new.items ≡ out.old.items ++ (house self.now).names account) };
 
     /// Takes in that a request was let in to an account, by a session.
-    fn let_in(&self);
+    fn let_in(&mut self)
+        ensures house { house self.new ≡ house self.old }
+        ensures asked { asked self.new ≡ asked self.old ++ let_in ∷ [] };
 
     /// Does a command to an account.
     fn act(&mut self, account: usize, command: &Command) -> Performed

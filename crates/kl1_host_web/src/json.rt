@@ -5,6 +5,7 @@ ghost use Rattle.serde_json.specs.Data.{string, array, object, no_members, put a
 ghost use Rattle.serde_json.specs.View.{view};
 ghost use Rattle.serde_json.specs.Written.{compact_text, has_float, items_have_float};
 ghost use Rattle.kl1_session.specs.Replies.{told};
+ghost use Rattle.kl1_host_door.specs.declared.answer.Content.TheVariants.{Json};
 ghost use Rattle.kl1_host_web.specs.Telling.{IsRefusal, IsWait, shown, lines_data, IsReply, IsLoad, IsSyntax, IsNamed};
 ghost use Rattle.kl1_host_web.specs.Beginning.{IsWelcome};
 
@@ -26,6 +27,7 @@ pub(crate) fn told_value(
     value: &Value,
 ) -> Result<Answer, AllocError>
     ensures head { IfOk result (λ answer. (answer.status ≡ status) × (answer.cookie ≡ cookie)) }
+    ensures content { IfOk result (λ answer. answer.content ≡ Json) }
     ensures text { IfOk result (λ answer. has_float (view value.now) ≡ false → answer.body.items ≡ compact_text (view value.now)) }
 {
     Ok(Answer {

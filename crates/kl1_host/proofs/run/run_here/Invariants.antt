@@ -1,7 +1,6 @@
 use Rattle.std.proofs.Common.{true}
-use Rattle.kl1_host_front.specs.Sums.{sum_of}
 use Rattle.kl1_host.proofs.run.run_here.Given as goal
 
--- keys are known by their sums, and the book of the sessions of browsers begins here
+-- the book of the sessions of browsers begins here
 abbrev pub ghosts-run_opened : goal.ghosts-run_opened
-ghosts-run_opened g a = record { marks = sum_of; begins = true }
+ghosts-run_opened g a = record { begins = true }
