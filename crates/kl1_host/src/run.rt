@@ -145,9 +145,10 @@ where
     Err(Fault::Memory)
 }
 
-/// What a host needs of its folder, and where it listens.
+/// What a host needs of its folder, which lies on a path, and where it listens.
 #[derive(Drop)]
-struct HostFolder {
+struct HostFolder<'f> {
+    path: &'f str,
     settings: Settings,
     accounts: Accounts,
     clients: TcpListener,
@@ -156,7 +157,7 @@ struct HostFolder {
 }
 
 /// Looks at the settings and the accounts of a folder, and then listens.
-fn opened<R>(rt: &R, alloc: Global, folder: &str) -> Result<HostFolder, Fault>
+fn opened<'f, R>(rt: &R, alloc: Global, folder: &'f str) -> Result<HostFolder<'f>, Fault>
 where
     R: Net<Listener = TcpListener, Stream = TcpStream> + Files<File = File> + AllocGlobal,
 {
@@ -171,6 +172,7 @@ where
         None => None,
     };
     Ok(HostFolder {
+        path: folder,
         settings,
         accounts,
         clients,
@@ -182,8 +184,7 @@ where
 /// Runs a host with what is opened until it is asked to stop. `K` stands for the book of its browsers' sessions.
 fn run_opened<R, K: LoginKeys + Send + Sync>(
     log: &Log<'_, R>,
-    folder: &str,
-    opened: &HostFolder,
+    opened: &HostFolder<'_>,
     keys: &Keyring,
     repairs: bool,
     asker: &Mutex<Option<UnixStream>>,
@@ -212,7 +213,7 @@ where
     let program = Program {
         rt,
         alloc,
-        folder,
+        folder: opened.path,
         keys,
         settings,
         set: &set,
@@ -268,7 +269,7 @@ where
     let first = mem::replace(&mut opened.accounts.keys, Vec::new(alloc));
     let keys = Keyring::new(rt, alloc, first)?;
     let ended = match fitted {
-        Ok(()) => run_opened::<R, Brand>(&log, folder, &opened, &keys, repairs, asker),
+        Ok(()) => run_opened::<R, Brand>(&log, &opened, &keys, repairs, asker),
         Err(fault) => Err(fault),
     };
     if ended.is_ok() {
