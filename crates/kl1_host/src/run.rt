@@ -97,7 +97,7 @@ fn places_for(settings: &Settings, accounts: usize) -> usize
 }
 
 /// Runs a host until it is asked to stop. With `repairs` a journal with a fault goes on from what is before it.
-fn serve<R, K: LoginKeys + Send + Sync>(
+fn serve<R, K: LoginKeys + Send + Sync + 'static>(
     program: &Program<'_, R, K>,
     settings: &Settings,
     repairs: bool,
@@ -182,7 +182,7 @@ where
 }
 
 /// Runs a host with what is opened until it is asked to stop. `K` stands for the book of its browsers' sessions.
-fn run_opened<R, K: LoginKeys + Send + Sync>(
+fn run_opened<R, K: LoginKeys + Send + Sync + 'static>(
     log: &Log<'_, R>,
     opened: &HostFolder<'_>,
     keys: &Keyring,
