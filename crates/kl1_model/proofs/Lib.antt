@@ -45,3 +45,4 @@ pub mod TreeSteps
 pub mod TreeEndings
 pub mod TreeLives
 pub mod TreeLiving
+pub mod GivenFree

@@ -1,5 +1,5 @@
 -- What effects keep of the tree of shoens and of charges.
-use Rattle.std.proofs.Common.{◌≡◌, ◌≤◌, ℕ, suc, ◌==◌, not, ◌&&◌, Bool, true, false, if◌then◌else◌, List, [], ◌∷◌, refl, sym, ap, ap₂, ◌∙◌, subst}
+use Rattle.std.proofs.Common.{◌≡◌, ◌≤◌, ℕ, zero, suc, ◌==◌, not, ◌&&◌, Bool, true, false, if◌then◌else◌, List, [], ◌∷◌, refl, sym, ap, ap₂, ◌∙◌, subst}
 use Rattle.std.specs.Prelude.{map, filter, length, get_or, Option, Some, None}
 use Rattle.std.specs.List.{AllByRecursion}
 use Rattle.kl1_model.specs.declared.life.Life.TheVariants.{Terminated, Aborted}
@@ -7,11 +7,12 @@ use Rattle.kl1_model.specs.declared.message.Message.{Message}
 use Rattle.kl1_model.specs.declared.message.Message.TheVariants.{Stop, Start, Abort, Allow}
 use Rattle.kl1_model.specs.Term.{Term, variable, integer, atom, structure, Replacement}
 use Rattle.kl1_model.specs.Meaning.{nil, cell}
-use Rattle.kl1_model.specs.State.{Goal, Shoen, State, shoen_at, replace_in_goal, replace_in_shoen, replace_in_state, replace_all, change_shoen, is_living}
+use Rattle.kl1_model.specs.State.{Goal, Origin, Shoen, State, shoen_at, replace_in_goal, replace_in_shoen, replace_in_state, replace_all, change_shoen, is_living}
 use Rattle.kl1_model.specs.Tree.{parents_of, path, is_on_path}
 use Rattle.kl1_model.specs.Control.{Control, awaits_message, tells, tells_other, ends, breaks_off}
 use Rattle.kl1_model.specs.Report.{broken_at, has_made_last, report_tail, reported_on, reported_at, report, report_each, closed_at, close, exception, illegal_input, exhausted_report, terminated_report, aborted_report, stopped_report, resumed_report}
 use Rattle.kl1_model.specs.Ending.{without_monitor, ended_at, terminate, terminate_each, ending_of, settle, newly_exhausted, after_reduction, ended_below, abort}
+use Rattle.kl1_model.specs.Forgetting.{with_origin, without_reports, empty_place, gone_below, gone}
 use Rattle.kl1_model.specs.Reduction.{obeyed, with_control, heard}
 use Rattle.kl1_model.specs.code.Steps.{report_of, close_of, aborted_below, stopped_of, resumed_of, allowed_more}
 use Rattle.kl1_model.specs.laws.TreeLaws.{AreNumbered, AreWithin, IsTree}
@@ -184,6 +185,27 @@ keeps_abort n s =
     let b = report n aborted_report a in
     let k : Keeps s a = record { parents = aborted_parents s.shoens n s.shoens; work = refl; last = refl; owners = λ m within. filtered_owners (λ g. not (is_on_path s.shoens n g.shoen)) m s.goals within; numbered = λ m a. aborted_numbers s.shoens n m s.shoens a } in
     keeps_both s b (close n b) (keeps_both s a b k (keeps_report n aborted_report a)) (keeps_close n b)
+
+if_gone : (c : Bool) (h : Shoen) → (if c then empty_place h else h).parent ≡ h.parent
+if_gone true h = refl
+if_gone false h = refl
+
+gone_parents : (all : List Shoen) (n : ℕ) (hs : List Shoen) → parents_of (map (gone_below all n) hs) ≡ parents_of hs
+gone_parents all n [] = refl
+gone_parents all n (h ∷ hs) = ap₂ (λ (p : ℕ) (ps : List ℕ). p ∷ ps) (if_gone (not (is_living h.life) && is_on_path all n h.number) h) (gone_parents all n hs)
+
+if_gone_number : (c : Bool) (h : Shoen) (n : ℕ) → h.number ≡ n → (if c then empty_place h else h).number ≡ n
+if_gone_number true h n e = e
+if_gone_number false h n e = e
+
+gone_numbers : (all : List Shoen) (n m : ℕ) (hs : List Shoen) → AreNumbered m hs → AreNumbered m (map (gone_below all n) hs)
+gone_numbers all n m [] a = tt
+gone_numbers all n m (h ∷ hs) a = (if_gone_number (not (is_living h.life) && is_on_path all n h.number) h (suc m) a.0, gone_numbers all n (suc m) hs a.1)
+
+-- letting go keeps the tree
+pub keeps_gone : (n count : ℕ) (o : Origin) (s : State) → Keeps s (gone n count o s)
+keeps_gone n zero o s = record { parents = gone_parents s.shoens n s.shoens; work = refl; last = refl; owners = λ m a. a; numbered = λ m a. gone_numbers s.shoens n m s.shoens a }
+keeps_gone n (suc count) o s = keeps_change n (with_origin (without_reports (suc count) o)) s (λ h. refl) (λ h. refl)
 
 stopped_keeps : (o : Option Shoen) (n : ℕ) (s : State) → Keeps s (stopped_of o n s)
 stopped_keeps None n s = keeps_same s

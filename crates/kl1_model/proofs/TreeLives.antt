@@ -26,7 +26,7 @@ found_lives : (c : Bool) (h : Shoen) (o : Option Shoen) (b : Bool) → unwrap_or
 found_lives true h o b e = refl
 found_lives false h o b e = e
 
-marked_lives : (n : ℕ) (hs : List Shoen) → unwrap_or (option_map (λ (h : Shoen). is_living h.life) (shoen_at n hs)) false ≡ lives_in (marks_of hs) n
+pub marked_lives : (n : ℕ) (hs : List Shoen) → unwrap_or (option_map (λ (h : Shoen). is_living h.life) (shoen_at n hs)) false ≡ lives_in (marks_of hs) n
 marked_lives n [] = refl
 marked_lives n (h ∷ hs) = found_lives (h.number == n) h (shoen_at n hs) (lives_in (marks_of hs) n) (marked_lives n hs)
 

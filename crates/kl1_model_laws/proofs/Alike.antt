@@ -15,6 +15,7 @@ use Rattle.kl1_model.specs.Sending.{with_control_tail, sent_on}
 use Rattle.kl1_model.specs.declared.message.Message.{Message}
 use Rattle.kl1_model.specs.Reduction.{replaced_by, substituted_by, raised, unified, or_exhaustion}
 use Rattle.kl1_model.specs.code.Steps.{report_of, close_of, stopped_of, resumed_of}
+use Rattle.kl1_model.specs.Telling.{Given}
 use Rattle.kl1_model.specs.Answering.{answered}
 
 -- a shoen's number, its parent's, and its life
@@ -179,9 +180,9 @@ alike_sent n m (integer i) s = alike_same s
 alike_sent n m (atom a) s = alike_same s
 alike_sent n m (structure f ts) s = alike_same s
 
-pub alike_answered : (v : ℕ) (t : Term) (s : State) → Alike s (answered v t s)
-alike_answered v t s =
-    let k = alike_replace v (with_next_variables s.last_variable t) s in record { nodes = k.nodes; duties = k.duties; modules = refl; last = refl; rules = refl; work = refl }
+pub alike_answered : (v : ℕ) (g : Given) (t : Term) (s : State) → Alike s (answered v g t s)
+alike_answered v g t s =
+    let k = alike_replace v g.goal s in record { nodes = k.nodes; duties = k.duties; modules = refl; last = refl; rules = refl; work = refl }
 
 -- ---- a goal in the place of another
 

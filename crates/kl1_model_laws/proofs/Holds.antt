@@ -21,7 +21,7 @@ use Rattle.kl1_model.specs.State.{most_spelled}
 use Rattle.kl1_model.specs.Reduction.{Move, commits, raises, unifies, names, opens, goes, gives_way, failure, call_move, becomes, execute_arguments, execute_move, pair_move, built_in_move, term_move, equation, move_found}
 use Rattle.kl1_model.specs.code.Steps.{order_move, substitute_move, elements_in}
 use Rattle.kl1_model.specs.Asking.{elements_of}
-use Rattle.kl1_model.specs.Answering.{unanswered, unanswered_at}
+use Rattle.kl1_model.specs.Answering.{unanswered}
 use Rattle.kl1_model_laws.proofs.UnifySound.{HoldsInEachCase, holds_of_solution}
 use Rattle.kl1_model.specs.Found.{Found, found, awaits, wrong}
 
@@ -405,8 +405,6 @@ in_reports P (t ∷ ts) zero a = in_report P t a.0
 in_reports P (t ∷ ts) (suc n) a = in_reports P ts n a.1
 
 -- what holds of the variables of reports holds of the one that a substitute waits for by one of them
-pub holds_unanswered : (P : ℕ → Type 0) (reports : Term) (n v : ℕ) → Holds P reports → unanswered_at reports n ≡ Some v → P v
-holds_unanswered P reports n v h e = subst (MayBe P) e (in_reports P (elements_of reports) (n - 1) (listed_holds P reports h))
 
 pub holds_term_at : (P : ℕ → Type 0) (ps : List Replacement) (v : ℕ) → Places P ps → Holds P (term_at ps v nil)
 holds_term_at P [] v a = tt

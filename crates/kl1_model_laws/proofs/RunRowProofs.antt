@@ -157,7 +157,7 @@ heading_of_four_row : heading_in (codes "journal 4 0 0") ≡ Some (record { rule
 unfolding digits tokens_within expression_at parted_by grouped_by mgu_within path_within
 heading_of_four_row = refl
 
-heading_of_five_row : heading_in (codes "journal 5 0 0") ≡ None
+heading_of_five_row : heading_in (codes "journal 6 0 0") ≡ None
 unfolding digits tokens_within expression_at parted_by grouped_by mgu_within path_within
 heading_of_five_row = refl
 

@@ -171,7 +171,7 @@ heading_line_of_version_3_row : heading_in (codes "journal 3 4 1024") ≡ Some (
 unfolding digits tokens_within expression_at parted_by grouped_by mgu_within path_within
 heading_line_of_version_3_row = refl
 
-heading_line_of_version_5_row : heading_in (codes "journal 5 0 0") ≡ None
+heading_line_of_version_5_row : heading_in (codes "journal 6 0 0") ≡ None
 unfolding digits tokens_within expression_at parted_by grouped_by mgu_within path_within
 heading_line_of_version_5_row = refl
 

@@ -124,7 +124,7 @@ own_moved c g t (unifies x y) s f h a = own_unified c g t x y (mgu (equation x y
 own_moved c g t (names text x) s f h a =
     let u = record s { names = with_name s.names text } in
     let b : Of c u = record { goals = a.goals; shoens = a.shoens; above = a.above } in
-    own_or (not (are_too_many (with_name s.names text))) c g t (named_by g t text x s) s f (own_unified c g t x (atom text) (mgu (equation x (atom text))) u refl f h tt b) a
+    own_or (not (are_too_many s.rules (with_name s.names text))) c g t (named_by g t text x s) s f (own_unified c g t x (atom text) (mgu (equation x (atom text))) u refl f h tt b) a
 own_moved c g t (opens o) s f h a =
     own_or (has_room_for_child s g.shoen) c g t (open_child s g.shoen o) s f (own_open c (child_shoen s g.shoen o) o.goal s (record { tail = h.2; control = h.1 }) h.0 a) a
 own_moved c g t goes s f h a = a

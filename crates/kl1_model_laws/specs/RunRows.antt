@@ -100,4 +100,4 @@ pub record RunRowsHold : Type 0 where
   -- the first line
   pub heading_of_four : heading_in (codes "journal 4 0 0") ≡ Some (record { rules = Four; sessions = 0; names = 0 })
   -- a later version
-  pub heading_of_five : heading_in (codes "journal 5 0 0") ≡ None
+  pub heading_of_five : heading_in (codes "journal 6 0 0") ≡ None

@@ -104,4 +104,4 @@ pub record SubstituteRowsHold : Type 0 where
   -- a journal of version 3
   pub heading_line_of_version_3 : heading_in (codes "journal 3 4 1024") ≡ Some (record { rules = Three; sessions = 4; names = 1024 })
   -- a version that there isn't
-  pub heading_line_of_version_5 : heading_in (codes "journal 5 0 0") ≡ None
+  pub heading_line_of_version_5 : heading_in (codes "journal 6 0 0") ≡ None

@@ -16,13 +16,15 @@ use Rattle.kl1_model.specs.Print.{print}
 use Rattle.kl1_model.specs.Token.{is_digit}
 use Rattle.kl1_model.specs.Line.{before_space, behind_space, number_in}
 use Rattle.kl1_model.specs.Module.{Reading, good, bad, read_goal}
+use Rattle.kl1_model.specs.Telling.{read_told_goal, is_told_term}
 use Rattle.kl1_model.specs.Event.{is_number}
 use Rattle.kl1_model.specs.Sending.{is_message, may_send}
 use Rattle.kl1_model.specs.laws.ReadLaws.{is_printable}
-use Rattle.kl1_model_server.specs.Journal.{Entry, loads, starts, sends, steps, answers, runs}
+use Rattle.kl1_model_server.specs.Journal.{Entry, loads, starts, sends, steps, answers, forgets, runs}
 use Rattle.kl1_model_server.specs.JournalText.{hex_digit, is_hex_digit, hex_text, hex_value, hex_bytes, entry_line, of_two, if_good, start_in, answer_in, run_of, entry_by, exactly}
 use Rattle.kl1_model_server.specs.laws.TextLaws.{AreBytes, HasLine, EntriesReadBack, StrictLinesAreEntries}
 use Rattle.kl1_model_server.proofs.ReadBack.{printed_goals_read_back}
+use Rattle.kl1_model_server.proofs.ToldBack.{told_few, told_goals_read_back}
 use Rattle.kl1_model_server.proofs.ReadPlain.{prints_are_plain}
 use Rattle.kl1_model_server.proofs.Exactly.{exactly_back, exactly_strict}
 use Rattle.kl1_model_server.proofs.Words.{few_digits, number_back, before_front, behind_front, decimal_no_space, highest_fits}
@@ -101,7 +103,8 @@ pub record Answers (n report : ℕ) (t : Term) : Type 0 where
   pub first : n < NUMBER_LIMIT
   pub second : report < NUMBER_LIMIT
   pub goal : is_goal t ≡ true
-  pub printable : is_printable t ≡ true
+  pub writable : is_writable t ≡ true
+  pub told : is_told_term t ≡ true
   pub plain : list_all is_name_byte (print t) ≡ true
 
 -- what an answer's line has before its goal
@@ -114,8 +117,9 @@ answers_here n report t h = record {
   first = h.0;
   second = h.1;
   goal = h.2;
-  printable = (printable_here (answer_front n report) t h.3 h.4 h.5).back;
-  plain = (printable_here (answer_front n report) t h.3 h.4 h.5).plain;
+  writable = h.3;
+  told = h.4;
+  plain = prints_are_plain t (and_parts (is_narrow t) (nat_le (depth t) MOST_DEPTH) h.3).0 (told_few t h.4);
 }
 
 -- what was read as good
@@ -154,10 +158,10 @@ answer_back n report t s =
     let rest = decimal n ++ 32 ∷ b in
     let is_b : behind_space rest ≡ b = behind_front (decimal n) b (decimal_no_space n s.first) in
     let is_last : behind_space (behind_space rest) ≡ last = ap behind_space is_b ∙ behind_front (decimal report) last (decimal_no_space report s.second) in
-    by_two (number_in (before_space rest)) (number_in (before_space (behind_space rest))) (if_good (read_goal (behind_space (behind_space rest)))) n report t
+    by_two (number_in (before_space rest)) (number_in (before_space (behind_space rest))) (if_good (read_told_goal (behind_space (behind_space rest)))) n report t
     (ap number_in (before_front (decimal n) b (decimal_no_space n s.first)) ∙ number_back n s.first)
     (ap (λ x. number_in (before_space x)) is_b ∙ ap number_in (before_front (decimal report) last (decimal_no_space report s.second)) ∙ number_back report s.second)
-    (ap if_good (ap read_goal is_last ∙ printed_goals_read_back t s.printable s.goal))
+    (ap if_good (ap read_told_goal is_last ∙ told_goals_read_back t s.writable s.told s.goal))
 
 three_parts : (a b p : List ℕ) → a ++ 32 ∷ [] ++ b ++ 32 ∷ [] ++ p ≡ a ++ 32 ∷ (b ++ 32 ∷ p)
 three_parts a b p = simp append_assoc refl
@@ -189,6 +193,7 @@ by_back (sends n Start) h = ap (option_map (λ k. sends k Start)) (number_back n
 by_back (sends n Abort) h = ap (option_map (λ k. sends k Abort)) (number_back n (sent_number n Abort h))
 by_back (sends n (Allow k)) h = ap (of_two (λ n k. sends n (Allow k))) (two_parts (decimal n) (decimal k)) ∙ two_back (λ n k. sends n (Allow k)) n k (sent_number n (Allow k) h) (sent_more n k h)
 by_back (answers n report t) h = ap answer_in (three_parts (decimal n) (decimal report) (print t)) ∙ answer_back n report t (answers_here n report t h)
+by_back (forgets n count) h = ap (of_two forgets) (two_parts (decimal n) (decimal count)) ∙ two_back forgets n count h.0 h.1
 by_back (runs n) h = ap (option_and_then run_of) (number_back n h.1) ∙ ap (λ x. if◌then◌else◌ {A = Option Entry} x (Some (runs n)) None) (le-leb 1 n h.0)
 by_back (steps goal clause) h = ap (of_two steps) (two_parts (decimal goal) (decimal clause)) ∙ two_back steps goal clause h.0 h.1
 
@@ -209,6 +214,7 @@ fits (sends n Start) h = omega (arith, few_digits n (sent_number n Start h))
 fits (sends n Abort) h = omega (arith, few_digits n (sent_number n Abort h))
 fits (sends n (Allow k)) h = omega (arith, length_two n k (sent_number n (Allow k) h) (sent_more n k h))
 fits (answers n report t) h = h.5
+fits (forgets n count) h = omega (arith, length_two n count h.0 h.1)
 fits (runs n) h = omega (arith, few_digits n h.1)
 fits (steps goal clause) h = omega (arith, length_two goal clause h.0 h.1)
 

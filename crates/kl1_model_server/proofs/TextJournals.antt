@@ -8,6 +8,7 @@ use Rattle.std.proofs.lemmas.List.Folds.{list_all-append}
 use Rattle.std.proofs.lemmas.Option.{none-some, same_Some}
 use Rattle.kl1_model.specs.declared.rules.Rules.{Rules}
 use Rattle.kl1_model.specs.Text.{is_text}
+use Rattle.kl1_model.proofs.LimitFacts.{limits_are_low}
 use Rattle.kl1_model_server.specs.Command.{written_lines}
 use Rattle.kl1_model_server.specs.Journal.{Entry, Journal}
 use Rattle.kl1_model_server.specs.JournalText.{entry_line, name_line, heading_line, journal_lines, entry_in, name_in, is_new_name, Heading, heading_in, Lines, lines_of, entries_in, journal_after, journal_of}
@@ -19,7 +20,7 @@ use Rattle.kl1_model_server.proofs.TextUnbroken.{entry_unbroken, name_unbroken, 
 
 -- the journal of these rules, sessions, names and entries
 abbrev journal_from : Rules → ℕ → List (List ℕ) → List Entry → Journal
-journal_from rules sessions names entries = record { rules = rules; sessions = sessions; names = names; entries = entries }
+journal_from rules sessions names entries = record { rules = rules; sessions = sessions; names = names; image = []; entries = entries }
 
 -- one entry of those that are read
 entry_then : (e : Entry) (o : Option Entry) (rest : Option (List Entry)) (es : List Entry) → o ≡ Some e → rest ≡ Some es → option_and_then (λ e. option_map (λ es. e ∷ es) rest) o ≡ Some (e ∷ es)
@@ -49,6 +50,7 @@ of_back j w =
     let lines = map name_line j.names ++ map entry_line j.entries in
     ap (option_and_then (λ (h : Heading). journal_after h.rules h.sessions [] h.names lines)) (headings_read_back j.rules j.sessions (length j.names) w.sessions w.names.few)
     ∙ after_back j.rules j.sessions [] j.names j.entries w.names.new w.entries
+    ∙ ap (λ i. Some (record j { image = i })) (sym w.image)
 
 names_unbroken : (before names : List (List ℕ)) → are_new_names before names ≡ true → list_all is_unbroken (map name_line names) ≡ true
 names_unbroken before [] h = refl
@@ -67,6 +69,7 @@ lines_unbroken j w =
     let entries = map entry_line j.entries in
     let few = w.sessions in
     let less = w.names.few in
+    let low = (limits_are_low j.rules).names in
     and_from (is_unbroken (heading_line j.rules j.sessions (length j.names))) (list_all is_unbroken (names ++ entries)) (first_unbroken j.rules j.sessions (length j.names) (omega arith) (omega arith))
     (list_all-append is_unbroken names entries ∙ and_from (list_all is_unbroken names) (list_all is_unbroken entries) (names_unbroken [] j.names w.names.new) (entries_unbroken j.entries w.entries))
 

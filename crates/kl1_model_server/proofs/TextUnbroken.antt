@@ -6,7 +6,7 @@ use Rattle.std.proofs.lemmas.Bool.{and_parts, and_from, leb-true, ne_eqb, not_fr
 use Rattle.std.proofs.lemmas.List.Folds.{list_all-append}
 use Rattle.std.proofs.lemmas.Slice.Eq.{bytes_eq-Decides}
 use Rattle.kl1_model.specs.declared.rules.Rules.{Rules}
-use Rattle.kl1_model.specs.declared.rules.Rules.TheVariants.{One, Two, Three, Four}
+use Rattle.kl1_model.specs.declared.rules.Rules.TheVariants.{One, Two, Three, Four, Five}
 use Rattle.kl1_model.specs.declared.limits.TheConstants.{NUMBER_LIMIT}
 use Rattle.kl1_model.specs.declared.message.Message.TheVariants.{Stop, Start, Abort, Allow}
 use Rattle.kl1_model.specs.Text.{is_name_byte, is_text}
@@ -14,7 +14,7 @@ use Rattle.kl1_model.specs.Name.{atom_text}
 use Rattle.kl1_model.specs.Token.{is_digit}
 use Rattle.kl1_model.specs.Term.{Term, atom}
 use Rattle.kl1_model.specs.Print.{Printed, plain, print}
-use Rattle.kl1_model_server.specs.Journal.{Entry, loads, starts, sends, steps, answers, runs}
+use Rattle.kl1_model_server.specs.Journal.{Entry, loads, starts, sends, steps, answers, forgets, runs}
 use Rattle.kl1_model_server.specs.JournalText.{hex_digit, hex_text, entry_line, name_line, heading_line}
 use Rattle.kl1_model_server.specs.laws.TextLaws.{HasLine, is_unbroken}
 use Rattle.kl1_model_server.proofs.LexWords.{decimal_writes}
@@ -88,6 +88,7 @@ entry_unbroken (sends n Abort) h = decimal_unbroken n (sent_number n Abort h)
 entry_unbroken (sends n (Allow k)) h = two_unbroken n k (sent_number n (Allow k) h) (sent_more n k h)
 entry_unbroken (runs n) h = decimal_unbroken n h.1
 entry_unbroken (steps goal clause) h = two_unbroken goal clause h.0 h.1
+entry_unbroken (forgets n count) h = two_unbroken n count h.0 h.1
 entry_unbroken (answers n report t) h = answer_unbroken n report t (answers_here n report t h)
 
 atom_printed : (x : Bool) (t : List ℕ) → bytes_eq t (codes "[]") ≡ x → print (atom t) ≡ atom_text t
@@ -105,3 +106,4 @@ first_unbroken One sessions names p q = two_unbroken sessions names p q
 first_unbroken Two sessions names p q = two_unbroken sessions names p q
 first_unbroken Three sessions names p q = two_unbroken sessions names p q
 first_unbroken Four sessions names p q = two_unbroken sessions names p q
+first_unbroken Five sessions names p q = two_unbroken sessions names p q

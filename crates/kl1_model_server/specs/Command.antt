@@ -7,18 +7,22 @@ use Rattle.kl1_model.specs.Term.{Term}
 use Rattle.kl1_model.specs.Name.{atom_text}
 use Rattle.kl1_model.specs.declared.limits.TheConstants.{MOST_COMMAND_BYTES, MOST_LISTED, MOST_STEPS}
 use Rattle.kl1_model.specs.Line.{word_in, behind_word_in, number_in, up_to, only_number, is_blank_line}
-use Rattle.kl1_model.specs.Event.{Refusal, syntax, source, exists, no_shoen, shoen_ended, step_refused, too_many_names, limit_passed, journal_full, sessions_refused, answer_refused, value, status, reports, modules, is_quiet, Event, load, start, control, reduce, read, login, logout, reset, answer, Reply, loaded, opened, sent, reduced, ran, shown, status_is, listed, quiet_is, welcome, bye, was_reset, refused, is_refused, is_range}
+use Rattle.kl1_model.specs.Event.{Refusal, syntax, source, exists, no_shoen, shoen_ended, step_refused, too_many_names, limit_passed, journal_full, sessions_refused, answer_refused, value, status, reports, modules, is_quiet, Event, load, start, control, reduce, read, login, logout, reset, answer, forget, Reply, loaded, opened, sent, reduced, ran, shown, status_is, listed, quiet_is, welcome, bye, was_reset, forgot, refused, is_refused, is_range}
 use Rattle.kl1_model.specs.Module.{Reading, good, bad, read_goal}
+use Rattle.kl1_model.specs.State.{has_told}
+use Rattle.kl1_model.specs.Telling.{read_told_goal}
 use Rattle.kl1_model.specs.Choice.{first}
 use Rattle.kl1_model.specs.Record.{Request, load_of, spoiled_load, other_line}
 use Rattle.kl1_model_server.specs.Journal.{Kept, Done, done}
 use Rattle.kl1_model_server.specs.JournalText.{page_of}
 
--- a command: an event; a run of at most n steps; or the journal's lines from number n on, the first being 1, at most m of them
+-- a command: an event; a run of at most n steps; the journal's lines from number n on, the first being 1, at most m of them; or an answer by
+-- shoen and report, with its goal's variables numbered from 1 by first occurrence, and as they are told
 pub data Command : Type 0 where
   does : Event → Command
   run : ℕ → Command
   shows : ℕ → ℕ → Command
+  says : ℕ → ℕ → Term → Term → Command
 
 -- the command of a line whose first word is a number, by that and what is after it
 abbrev pub by_number : (ℕ → List ℕ → Option Command) → List ℕ → Option Command
@@ -37,14 +41,15 @@ start_with allowance low high (good t) = if is_range low high then Some (does (s
 abbrev pub start_command : List ℕ → Option Command
 start_command = by_number (λ allowance. by_number (λ low. by_number (λ high rest. start_with allowance low high (read_goal rest))))
 
--- an answer with its goal as it was read, to a report whose number is at least 1
-abbrev pub answer_with : ℕ → ℕ → Reading Term → Option Command
-answer_with n report (bad line) = None
-answer_with n report (good t) = if nat_le 1 report then Some (does (answer n report t)) else None
+-- an answer with its goal as it was read in either way, to a report whose number is at least 1
+abbrev pub answer_with : ℕ → ℕ → Reading Term → Reading Term → Option Command
+answer_with n report (bad line) told = None
+answer_with n report (good t) (bad line) = None
+answer_with n report (good t) (good u) = if nat_le 1 report then Some (says n report t u) else None
 
 -- an answer, by the number of a shoen, the number of its report, from 1, and the goal
 abbrev pub answer_command : List ℕ → Option Command
-answer_command = by_number (λ n. by_number (λ report rest. answer_with n report (read_goal rest)))
+answer_command = by_number (λ n. by_number (λ report rest. answer_with n report (read_goal rest) (read_told_goal rest)))
 
 -- the reports of a shoen, by its number and that of the first report, from 1
 abbrev pub reports_command : List ℕ → Option Command
@@ -78,6 +83,7 @@ command_by w rest =
     else if bytes_eq w (codes "logout") then alone_command logout rest
     else if bytes_eq w (codes "reset") then alone_command reset rest
     else if bytes_eq w (codes "answer") then answer_command rest
+    else if bytes_eq w (codes "forget") then by_two (λ n count. Some (does (forget n count))) rest
     else None
 
 -- the command that a line without its end is, if it is one and isn't too long; a `load` line without its source is none
@@ -110,6 +116,7 @@ abbrev pub act : Kept → Command → Done
 act k (does e) = done k e
 act k (run most) = run_from most 0 k
 act k (shows from count) = said k (listed (page_of k.journal from count))
+act k (says n report t u) = done k (answer n report (if has_told k.state.rules then u else t))
 
 -- the text of a refusal: its number and its word, and for a source the line
 abbrev pub refusal_text : Refusal → List ℕ
@@ -149,6 +156,7 @@ reply_lines (quiet_is false) = codes "+ no" ∷ []
 reply_lines (welcome name) = (codes "+ welcome " ++ name) ∷ []
 reply_lines bye = codes "+ bye" ∷ []
 reply_lines was_reset = codes "+ reset" ∷ []
+reply_lines forgot = codes "+ forgotten" ∷ []
 reply_lines (refused r) = (codes "- " ++ refusal_text r) ∷ []
 
 -- a line as it is written

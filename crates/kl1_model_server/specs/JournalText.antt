@@ -4,16 +4,18 @@ use Rattle.std.specs.List.{list_all, list_any}
 use Rattle.kl1_model.specs.declared.message.Message.{Message}
 use Rattle.kl1_model.specs.declared.message.Message.TheVariants.{Stop, Start, Abort, Allow}
 use Rattle.kl1_model.specs.declared.rules.Rules.{Rules}
-use Rattle.kl1_model.specs.declared.rules.Rules.TheVariants.{One, Two, Three, Four}
-use Rattle.kl1_model.specs.declared.limits.TheConstants.{MOST_LINE_BYTES, MOST_NAMES, MOST_SESSIONS}
+use Rattle.kl1_model.specs.declared.rules.Rules.TheVariants.{One, Two, Three, Four, Five}
+use Rattle.kl1_model.specs.declared.limits.TheConstants.{MOST_LINE_BYTES, MOST_SESSIONS}
 use Rattle.kl1_model.specs.Text.{is_text, is_built_in}
 use Rattle.kl1_model.specs.Name.{atom_text}
 use Rattle.kl1_model.specs.Token.{is_digit}
 use Rattle.kl1_model.specs.Line.{before_space, behind_space, number_in}
 use Rattle.kl1_model.specs.Module.{Reading, good, bad, read_goal}
 use Rattle.kl1_model.specs.Opening.{start_line}
+use Rattle.kl1_model.specs.Telling.{read_told_goal}
+use Rattle.kl1_model.specs.State.{limits_of}
 use Rattle.kl1_model.specs.Answering.{answer_line}
-use Rattle.kl1_model_server.specs.Journal.{Entry, loads, starts, sends, steps, answers, runs, Journal}
+use Rattle.kl1_model_server.specs.Journal.{Entry, loads, starts, sends, steps, answers, forgets, runs, Journal}
 
 -- what was read, if it is good
 abbrev pub if_good : {A : Type 0} → Reading A → Option A
@@ -45,6 +47,7 @@ entry_line (starts allowance low high t) = start_line allowance low high t
 entry_line (sends n m) = message_line n m
 entry_line (steps goal clause) = codes "reduce " ++ decimal goal ++ codes " " ++ decimal clause
 entry_line (answers n report t) = answer_line n report t
+entry_line (forgets n count) = codes "forget " ++ decimal n ++ codes " " ++ decimal count
 entry_line (runs n) = codes "run " ++ decimal n
 
 -- the line of a name that was used at the last reset
@@ -57,6 +60,7 @@ version One = codes "1"
 version Two = codes "2"
 version Three = codes "3"
 version Four = codes "4"
+version Five = codes "5"
 
 -- the first line of a journal: its version, how many sessions are open, and how many names follow
 abbrev pub heading_line : Rules → ℕ → ℕ → List ℕ
@@ -102,9 +106,9 @@ of_two make = of_number (λ a rest. option_map (make a) (number_in rest))
 abbrev pub start_in : List ℕ → Option Entry
 start_in = of_number (λ allowance. of_number (λ low. of_number (λ high rest. option_map (starts allowance low high) (if_good (read_goal rest)))))
 
--- an answer of two numbers and a goal
+-- an answer of two numbers and a goal, with its variables as they are told: from 1 by first occurrence too, if they are
 abbrev pub answer_in : List ℕ → Option Entry
-answer_in = of_number (λ n. of_number (λ report rest. option_map (answers n report) (if_good (read_goal rest))))
+answer_in = of_number (λ n. of_number (λ report rest. option_map (answers n report) (if_good (read_told_goal rest))))
 
 -- a run of this number of reductions, which is at least 1
 abbrev pub run_of : ℕ → Option Entry
@@ -117,6 +121,7 @@ entry_by w rest =
     else if bytes_eq w (codes "load") then load_in rest
     else if bytes_eq w (codes "start") then start_in rest
     else if bytes_eq w (codes "answer") then answer_in rest
+    else if bytes_eq w (codes "forget") then of_two forgets rest
     else if bytes_eq w (codes "stop") then option_map (λ n. sends n Stop) (number_in rest)
     else if bytes_eq w (codes "resume") then option_map (λ n. sends n Start) (number_in rest)
     else if bytes_eq w (codes "abort") then option_map (λ n. sends n Abort) (number_in rest)
@@ -171,6 +176,7 @@ rules_of w =
     else if bytes_eq w (version Two) then Some Two
     else if bytes_eq w (version Three) then Some Three
     else if bytes_eq w (version Four) then Some Four
+    else if bytes_eq w (version Five) then Some Five
     else None
 
 -- the heading that a line may be, by what is after its first word: a version and two numbers
@@ -184,7 +190,7 @@ heading_by line =
 
 -- a heading, if its numbers are allowed
 abbrev pub if_allowed : Heading → Option Heading
-if_allowed h = if nat_le h.sessions MOST_SESSIONS && nat_le h.names MOST_NAMES then Some h else None
+if_allowed h = if nat_le h.sessions MOST_SESSIONS && nat_le h.names (limits_of h.rules).names then Some h else None
 
 -- the heading whose line this is, if there is one and its numbers are allowed
 abbrev pub heading_in : List ℕ → Option Heading
@@ -221,7 +227,7 @@ entries_in (line ∷ lines) = option_and_then (λ e. option_map (λ es. e ∷ es
 -- the journal of these rules, sessions and names, if its other lines are these: first those of n more names, then those of entries
 abbrev pub journal_after : Rules → ℕ → List (List ℕ) → ℕ → List (List ℕ) → Option Journal
 journal_after rules sessions names zero lines =
-    option_map (λ es. record { rules = rules; sessions = sessions; names = names; entries = es }) (entries_in lines)
+    option_map (λ es. record { rules = rules; sessions = sessions; names = names; image = []; entries = es }) (entries_in lines)
 journal_after rules sessions names (suc n) [] = None
 journal_after rules sessions names (suc n) (line ∷ lines) =
     option_and_then (λ t. if is_new_name names t then journal_after rules sessions (names ++ t ∷ []) n lines else None) (name_in line)
