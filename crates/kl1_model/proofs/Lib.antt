@@ -24,9 +24,9 @@ pub mod ScanStays
 pub mod LookStays
 pub mod GuardStays
 pub mod Renamed
-pub mod OutcomeAnswers
-pub mod VerdictAnswers
-pub mod OutcomeNames
+pub mod Comparisons
+pub mod PlainTests
+pub mod PlainVerdicts
 pub mod VerdictNames
 pub mod NamedWaits
 pub mod Beside

@@ -23,7 +23,7 @@ use Rattle.kl1_model.proofs.ScanStays.{evaluated_stays}
 use Rattle.kl1_model.proofs.LookStays.{spelling_stays, order_substituted, order_stays}
 use Rattle.kl1_model.proofs.VerdictStays.{clauses_stay}
 use Rattle.kl1_model.specs.Found.{Found, found, awaits, wrong}
-use Rattle.kl1_model.specs.code.Awaited.{awaited_by_found}
+use Rattle.kl1_model.specs.code.Waits.{awaited_by_found}
 
 -- ---- calls
 

@@ -19,7 +19,7 @@ use Rattle.kl1_model.specs.Opening.{may_start, has_room_to_start, with_shoen, op
 use Rattle.kl1_model.specs.Reduction.{Move, commits, raises, unifies, names, opens, goes, gives_way, Action, moves, reads, action_of, has_room_for, committed, replaced_by, substituted_by, raised, unified, equation, or_exhaustion, moved, obeyed, with_control, heard, acted, reduce_goal}
 use Rattle.kl1_model.specs.Sending.{may_send, has_room_to_send, sent_on, send_living, send_to}
 use Rattle.kl1_model.specs.Event.{Refusal, syntax, exists, shoen_ended, too_many_names, limit_passed, journal_full, answer_refused, start, reduce, Reply, loaded, opened, sent, reduced, ran, forgot, Transition, refuse, is_number, is_refused, unless, are_too_many, is_full, needs_entry, with_entry, with_reduction}
-use Rattle.kl1_model.specs.Answering.{may_answer, has_room_to_answer, asked_at, given, answer_asked, answer_by, answer_living, answer_to}
+use Rattle.kl1_model.specs.Answering.{may_answer, has_room_to_answer, asked_at, given, answered, answer_asked, answer_by, answer_living, answer_to}
 use Rattle.kl1_model.specs.Telling.{Asked, Given}
 use Rattle.kl1_model.specs.Forgetting.{may_forget, gone, may_go, forget_by, forget_of}
 use Rattle.kl1_model.specs.Step.{load_module, start_by, step}
@@ -252,7 +252,8 @@ reduce_beside r clause (Some g) name n s = reduced_by_beside r g (action_of s g 
 
 answer_by_beside : (g : Given) (t : Term) (o : Option Asked) (name : List ℕ) (n : ℕ) (s : State) → answer_by (beside name n s) g t o ≡ stepped_beside name n (answer_by s g t o)
 answer_by_beside g t None name n s = refl
-answer_by_beside g t (Some a) name n s = refl
+answer_by_beside g t (Some a) name n s =
+    unless_beside ((g.tells_gone, answer_refused) ∷ []) name n (record { state = with_entry (answered a.new g t (beside name n s)); reply = sent }) (record { state = with_entry (answered a.new g t s); reply = sent }) s refl
 
 asked_beside : (t : Term) (o : Option Asked) (name : List ℕ) (n : ℕ) (s : State) → answer_asked (beside name n s) t o ≡ stepped_beside name n (answer_asked s t o)
 asked_beside t o name n s =

@@ -18,6 +18,7 @@ use Rattle.kl1_model_server.specs.laws.TextLaws.{HasLine, are_new_names}
 use Rattle.kl1_model_server.specs.Replay.{written_fault, written_end, written_entries, replay_name, written_names, written_replay}
 use Rattle.kl1_model_server.specs.laws.ReplayLaws.{are_accepted, written_replies, replayed_from, RepliesOfReplays, FreshIsReplayable, ReplayableStays}
 use Rattle.kl1_model_server.proofs.Besides.{stays_beside}
+use Rattle.kl1_model_server.proofs.RulesKept.{entry_rules}
 use Rattle.kl1_model_server.proofs.Replays.{longer_is, after_entries, fresh_is_replay, replays_stay, rules_after, run_does, before_run, last_run}
 use Rattle.kl1_model_server.proofs.RunsKept.{run_with, reduction_run, run_goes_on, run_has_room, run_is_first, run_has_rules}
 use Rattle.kl1_model_server.proofs.TextEntries.{entries_read_back}
@@ -49,14 +50,14 @@ step_written : (next : State → List ℕ) (k : ℕ) (x : Transition) (rest : Li
 step_written next k x rest a e =
     ap (λ c. if c then written_fault k else written_lines (reply_lines x.reply) ++ next x.state) (not_true (is_refused x.reply) a) ∙ ap (λ y. written_lines (reply_lines x.reply) ++ y) e
 
-entries_written : (es : List Entry) (k n total : ℕ) (s : State) → AllByRecursion HasLine es → are_accepted s es ≡ true → n + length es ≡ total → written_entries k n s (map entry_line es) [] ≡ written_replies s es ++ written_end total
+entries_written : (es : List Entry) (k n total : ℕ) (s : State) → AllByRecursion (HasLine s.rules) es → are_accepted s es ≡ true → n + length es ≡ total → written_entries k n s (map entry_line es) [] ≡ written_replies s es ++ written_end total
 entries_written [] k n total s h a is = let same : n ≡ total = omega arith in ap written_end same
 entries_written (e ∷ es) k n total s h a is =
     let x = entry_step s e in
     let both = and_parts (not (is_refused x.reply)) (are_accepted x.state es) a in
     let next : State → List ℕ = λ after. written_entries (suc k) (suc n) after (map entry_line es) [] in
-    ap (written_entry next k s) (entries_read_back e h.0)
-    ∙ step_written next k x (written_replies x.state es ++ written_end total) both.0 (entries_written es (suc k) (suc n) total x.state h.1 both.1 (omega arith))
+    ap (written_entry next k s) (entries_read_back s.rules e h.0)
+    ∙ step_written next k x (written_replies x.state es ++ written_end total) both.0 (entries_written es (suc k) (suc n) total x.state (subst (λ rules. AllByRecursion (HasLine rules) es) (sym (entry_rules s e)) h.1) both.1 (omega arith))
     ∙ sym (append_assoc (written_lines (reply_lines x.reply)) (written_replies x.state es) (written_end total))
 
 -- the lines of names

@@ -20,7 +20,7 @@ use Rattle.kl1_model.specs.Opening.{may_start, has_room_to_start, with_shoen, op
 use Rattle.kl1_model.specs.Reduction.{Move, commits, raises, unifies, names, opens, goes, gives_way, Action, moves, reads, action_of, has_room_for, committed, substituted_by, raised, unified, equation, or_exhaustion, moved, obeyed, with_control, heard, acted, reduce_goal}
 use Rattle.kl1_model.specs.Sending.{may_send, has_room_to_send, sent_on, send_living, send_to}
 use Rattle.kl1_model.specs.Event.{Refusal, syntax, exists, shoen_ended, too_many_names, limit_passed, journal_full, answer_refused, start, reduce, loaded, opened, sent, reduced, forgot, Transition, refuse, is_number, unless, are_too_many, is_full, needs_entry, with_entry, with_reduction}
-use Rattle.kl1_model.specs.Answering.{may_answer, has_room_to_answer, asked_at, given, answer_asked, answer_by, answer_living, answer_to}
+use Rattle.kl1_model.specs.Answering.{may_answer, has_room_to_answer, asked_at, given, answered, answer_asked, answer_by, answer_living, answer_to}
 use Rattle.kl1_model.specs.Telling.{Asked, Given}
 use Rattle.kl1_model.specs.Forgetting.{may_forget, gone, may_go, forget_by, forget_of}
 use Rattle.kl1_model.specs.Step.{load_module, start_by, step}
@@ -243,7 +243,7 @@ reduce_alike s r clause (Some g) = reduced_alike s r g (action_of s g clause)
 
 answer_by_alike : (s : State) (g : Given) (t : Term) (o : Option Asked) → Ruled s (answer_by s g t o).state
 answer_by_alike s g t None = refl
-answer_by_alike s g t (Some a) = refl
+answer_by_alike s g t (Some a) = unless_alike s ((g.tells_gone, answer_refused) ∷ []) (record { state = with_entry (answered a.new g t s); reply = sent }) refl
 
 asked_alike : (s : State) (t : Term) (o : Option Asked) → Ruled s (answer_asked s t o).state
 asked_alike s t o =

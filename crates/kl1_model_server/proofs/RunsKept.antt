@@ -11,7 +11,7 @@ use Rattle.kl1_model.specs.State.{State, has_substitutes, has_forgetting, has_ru
 use Rattle.kl1_model.specs.Event.{Refusal, syntax, source, exists, no_shoen, shoen_ended, too_many_names, limit_passed, journal_full, answer_refused, load, start, control, reduce, answer, forget, loaded, opened, sent, reduced, forgot, Transition, refuse, is_number, is_refused, unless, are_too_many, is_full, with_entry, run_after, needs_entry, with_reduction}
 use Rattle.kl1_model.specs.Opening.{may_start, has_room_to_start, start_goal}
 use Rattle.kl1_model.specs.Sending.{may_send, has_room_to_send, sent_on, send_living, send_to}
-use Rattle.kl1_model.specs.Answering.{may_answer, has_room_to_answer, asked_at, given, answer_asked, answer_by, answer_living, answer_to}
+use Rattle.kl1_model.specs.Answering.{may_answer, has_room_to_answer, asked_at, given, answered, answer_asked, answer_by, answer_living, answer_to}
 use Rattle.kl1_model.specs.Reduction.{Action, action_of, acted, reduce_goal}
 use Rattle.kl1_model.specs.Choice.{Chosen, first, is_first, is_in_run}
 use Rattle.kl1_model.specs.Telling.{Asked, Given}
@@ -74,7 +74,7 @@ sends_unrun s n m = unrun_or (may_send n m) s (send_to s n m (shoen_at n s.shoen
 
 answer_by_unrun : (s : State) (g : Given) (t : Term) (o : Option Asked) → Unrun (answer_by s g t o)
 answer_by_unrun s g t None = unrun_refused s answer_refused
-answer_by_unrun s g t (Some a) = λ a. refl
+answer_by_unrun s g t (Some a) = unrun_unless s ((g.tells_gone, answer_refused) ∷ []) (record { state = with_entry (answered a.new g t s); reply = sent }) (λ e. refl)
 
 asked_unrun : (s : State) (t : Term) (o : Option Asked) → Unrun (answer_asked s t o)
 asked_unrun s t o =

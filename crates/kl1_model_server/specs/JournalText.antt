@@ -12,8 +12,8 @@ use Rattle.kl1_model.specs.Token.{is_digit}
 use Rattle.kl1_model.specs.Line.{before_space, behind_space, number_in}
 use Rattle.kl1_model.specs.Module.{Reading, good, bad, read_goal}
 use Rattle.kl1_model.specs.Opening.{start_line}
-use Rattle.kl1_model.specs.Telling.{read_told_goal}
-use Rattle.kl1_model.specs.State.{limits_of}
+use Rattle.kl1_model.specs.Telling.{read_answer}
+use Rattle.kl1_model.specs.State.{has_forgetting, limits_of}
 use Rattle.kl1_model.specs.Answering.{answer_line}
 use Rattle.kl1_model_server.specs.Journal.{Entry, loads, starts, sends, steps, answers, forgets, runs, Journal}
 
@@ -106,22 +106,22 @@ of_two make = of_number (λ a rest. option_map (make a) (number_in rest))
 abbrev pub start_in : List ℕ → Option Entry
 start_in = of_number (λ allowance. of_number (λ low. of_number (λ high rest. option_map (starts allowance low high) (if_good (read_goal rest)))))
 
--- an answer of two numbers and a goal, with its variables as they are told: from 1 by first occurrence too, if they are
-abbrev pub answer_in : List ℕ → Option Entry
-answer_in = of_number (λ n. of_number (λ report rest. option_map (answers n report) (if_good (read_told_goal rest))))
+-- an answer of two numbers and a goal, as these rules read it
+abbrev pub answer_in : Rules → List ℕ → Option Entry
+answer_in rules = of_number (λ n. of_number (λ report rest. option_map (answers n report) (if_good (read_answer rules rest))))
 
 -- a run of this number of reductions, which is at least 1
 abbrev pub run_of : ℕ → Option Entry
 run_of n = if nat_le 1 n then Some (runs n) else None
 
--- the entry that a line may be, by its first word and what is after that
-abbrev pub entry_by : List ℕ → List ℕ → Option Entry
-entry_by w rest =
+-- the entry that a line may be by these rules, by its first word and what is after that
+abbrev pub entry_by : Rules → List ℕ → List ℕ → Option Entry
+entry_by rules w rest =
     if bytes_eq w (codes "reduce") then of_two steps rest
     else if bytes_eq w (codes "load") then load_in rest
     else if bytes_eq w (codes "start") then start_in rest
-    else if bytes_eq w (codes "answer") then answer_in rest
-    else if bytes_eq w (codes "forget") then of_two forgets rest
+    else if bytes_eq w (codes "answer") then answer_in rules rest
+    else if has_forgetting rules && bytes_eq w (codes "forget") then of_two forgets rest
     else if bytes_eq w (codes "stop") then option_map (λ n. sends n Stop) (number_in rest)
     else if bytes_eq w (codes "resume") then option_map (λ n. sends n Start) (number_in rest)
     else if bytes_eq w (codes "abort") then option_map (λ n. sends n Abort) (number_in rest)
@@ -133,10 +133,10 @@ entry_by w rest =
 abbrev pub exactly : {A : Type 0} → (A → List ℕ) → (List ℕ → Option A) → List ℕ → Option A
 exactly print read line = option_and_then (λ a. if bytes_eq (print a) line then Some a else None) (read line)
 
--- the entry whose line this is, if there is one and the line isn't too long
-abbrev pub entry_in : List ℕ → Option Entry
-entry_in line =
-    if nat_le (length line) MOST_LINE_BYTES then exactly entry_line (λ line. entry_by (before_space line) (behind_space line)) line else None
+-- the entry of a journal of these rules whose line this is, if there is one and the line isn't too long
+abbrev pub entry_in : Rules → List ℕ → Option Entry
+entry_in rules line =
+    if nat_le (length line) MOST_LINE_BYTES then exactly entry_line (λ line. entry_by rules (before_space line) (behind_space line)) line else None
 
 -- ---- the name that a line has, and the first line
 
@@ -219,15 +219,15 @@ lines_of (b ∷ bs) =
 
 -- ---- the journal that a text is
 
--- the entries whose lines these are, if each line is that of an entry
-abbrev pub entries_in : List (List ℕ) → Option (List Entry)
-entries_in [] = Some []
-entries_in (line ∷ lines) = option_and_then (λ e. option_map (λ es. e ∷ es) (entries_in lines)) (entry_in line)
+-- the entries whose lines these are, if each line is that of an entry of these rules
+abbrev pub entries_in : Rules → List (List ℕ) → Option (List Entry)
+entries_in rules [] = Some []
+entries_in rules (line ∷ lines) = option_and_then (λ e. option_map (λ es. e ∷ es) (entries_in rules lines)) (entry_in rules line)
 
 -- the journal of these rules, sessions and names, if its other lines are these: first those of n more names, then those of entries
 abbrev pub journal_after : Rules → ℕ → List (List ℕ) → ℕ → List (List ℕ) → Option Journal
 journal_after rules sessions names zero lines =
-    option_map (λ es. record { rules = rules; sessions = sessions; names = names; image = []; entries = es }) (entries_in lines)
+    option_map (λ es. record { rules = rules; sessions = sessions; names = names; image = []; entries = es }) (entries_in rules lines)
 journal_after rules sessions names (suc n) [] = None
 journal_after rules sessions names (suc n) (line ∷ lines) =
     option_and_then (λ t. if is_new_name names t then journal_after rules sessions (names ++ t ∷ []) n lines else None) (name_in line)

@@ -1,4 +1,4 @@
--- Verdicts that name variables have the answers of those that don't.
+-- Verdicts without what they wait for are what they were.
 use Rattle.std.proofs.Common.{◌≡◌, ℕ, suc, ◌+◌, ◌-◌, ◌≤◌, ◌==◌, ◌&&◌, Bool, true, false, if◌then◌else◌, List, [], ◌∷◌, ◌++◌, refl, sym, ap, ap₂, ◌∙◌, subst, arith, inl, inr}
 use Rattle.std.specs.Prelude.{nat_le, bytes_eq}
 use Rattle.std.specs.Ordering.{int_eq}
@@ -6,70 +6,69 @@ use Rattle.std.proofs.lemmas.Bool.{cond-true, cond-false, leb-true, le-leb, fals
 use Rattle.std.proofs.lemmas.Bool.Decides.{leb_tells}
 use Rattle.kl1_model.specs.Term.{Term, variable, integer, atom, structure, Terms, none, more, terms_of, count_of, substituted, each_substituted, Replacement}
 use Rattle.kl1_model.specs.Meaning.{highest, highest_in}
-use Rattle.kl1_model.specs.Same.{passive}
-use Rattle.kl1_model.specs.Guard.{test_of, Answer, yes, no, together, same_answer}
+use Rattle.kl1_model.specs.Answer.{Answer, yes, no, wait, together}
+use Rattle.kl1_model.specs.Same.{compare}
+use Rattle.kl1_model.specs.code.Comparing.{passive}
+use Rattle.kl1_model.specs.Guard.{test_of}
 use Rattle.kl1_model.specs.Module.{Clause}
-use Rattle.kl1_model.specs.Match.{Match, with_answer, match_pattern, match_patterns, one_answer, each_answer, guard_term, tests_answer, places_of, verdict, candidate_by}
-use Rattle.kl1_model.specs.code.Outcome.{Outcome, agrees, clashes, waits, both, alike, outcome_by, answer_of, Matched, with_outcome, match_both, match_term, match_terms, places_alike, alike_with, each_alike, beside, test_variable, own_outcome, test_outcome, tests_outcome, guard_outcome, Verdict, accepts, rejects, suspends, verdict_with, named_verdict, answer_in}
-use Rattle.kl1_model.specs.laws.OutcomeLaws.{VerdictsAnswer, AcceptsPlaces}
+use Rattle.kl1_model.specs.Match.{Match, answer_by, with_answer, match_both, match_pattern, match_patterns, two_answer, one_answer, each_answer, beside, test_variable, own_answer, one_test_answer, tests_answer, guard_answer, whole}
+use Rattle.kl1_model.specs.laws.PlainAnswers.{Plain, surely, never, plain, plain_together, plain_same, PlainMatch, plain_with, plain_both, plain_pattern, plain_patterns, plain_one, plain_each, guard_term, plain_tests, plain_whole}
+use Rattle.kl1_model.specs.laws.PlainLaws.{MatchesStand, VerdictsStand}
+use Rattle.kl1_model.proofs.Comparisons.{compare_plain}
 use Rattle.kl1_model.proofs.GuardStays.{then_substituted}
 use Rattle.kl1_model.proofs.Renamed.{renamed, IsOneToOne}
-use Rattle.kl1_model.proofs.OutcomeAnswers.{answer_both, answer_decided, answer_alike, answer_outcome, Renames, same_answer_made}
+use Rattle.kl1_model.proofs.PlainTests.{answer_both, answer_decided, answer_by_plain, Renames, same_answer_made}
 
 -- ---- matches
 
 -- a match without what it waits for
-abbrev pub answered : Matched → Match
-answered m = record { answer = answer_of m.outcome; places = m.places }
+abbrev pub answered : Match → PlainMatch
+answered m = record { answer = plain m.answer; places = m.places }
 
--- two parts of a match together
-abbrev match_parts : Match → Match → Match
-match_parts a b = record { answer = together a.answer b.answer; places = a.places ++ b.places }
+answered_both : (a b : Match) → answered (match_both a b) ≡ plain_both (answered a) (answered b)
+answered_both a b = ap (λ (x : Plain). let m : PlainMatch = record { answer = x; places = a.places ++ b.places } in m) (answer_both a.answer b.answer)
 
-answered_both : (a b : Matched) → answered (match_both a b) ≡ match_parts (answered a) (answered b)
-answered_both a b = ap (λ (x : Answer). let m : Match = record { answer = x; places = a.places ++ b.places } in m) (answer_both a.outcome b.outcome)
-
-answered_inside : (c : Bool) (m : Matched) (n : Match) → answered m ≡ n → answered (if c then m else with_outcome clashes) ≡ (if c then n else with_answer no)
+answered_inside : (c : Bool) (m : Match) (n : PlainMatch) → answered m ≡ n → answered (if c then m else with_answer no) ≡ (if c then n else plain_with never)
 answered_inside true m n e = e
 answered_inside false m n e = refl
 
 mutual
-  pattern_answer : (p t : Term) → answered (match_term p t) ≡ match_pattern p t
+  pattern_answer : (p t : Term) → answered (match_pattern p t) ≡ plain_pattern p t
   pattern_answer (variable v) t = refl
   pattern_answer (integer i) (variable w) = refl
-  pattern_answer (integer i) (integer j) = ap (λ a. with_answer a) (answer_decided (int_eq i j))
+  pattern_answer (integer i) (integer j) = ap (λ a. plain_with a) (answer_decided (int_eq i j))
   pattern_answer (integer i) (atom b) = refl
   pattern_answer (integer i) (structure g us) = refl
   pattern_answer (atom a) (variable w) = refl
   pattern_answer (atom a) (integer j) = refl
-  pattern_answer (atom a) (atom b) = ap (λ x. with_answer x) (answer_decided (bytes_eq a b))
+  pattern_answer (atom a) (atom b) = ap (λ x. plain_with x) (answer_decided (bytes_eq a b))
   pattern_answer (atom a) (structure g us) = refl
   pattern_answer (structure f ps) (variable w) = refl
   pattern_answer (structure f ps) (integer j) = refl
   pattern_answer (structure f ps) (atom b) = refl
-  pattern_answer (structure f ps) (structure g ts) = answered_inside (bytes_eq f g && count_of ps == count_of ts) (match_terms ps ts) (match_patterns ps ts) (patterns_answer ps ts)
+  pattern_answer (structure f ps) (structure g ts) = answered_inside (bytes_eq f g && count_of ps == count_of ts) (match_patterns ps ts) (plain_patterns ps ts) (patterns_answer ps ts)
 
-  pub patterns_answer : (ps ts : Terms) → answered (match_terms ps ts) ≡ match_patterns ps ts
+  pub patterns_answer : (ps ts : Terms) → answered (match_patterns ps ts) ≡ plain_patterns ps ts
   patterns_answer none none = refl
   patterns_answer none (more t ts) = refl
   patterns_answer (more p ps) none = refl
-  patterns_answer (more p ps) (more t ts) = answered_both (match_term p t) (match_terms ps ts) ∙ ap₂ match_parts (pattern_answer p t) (patterns_answer ps ts)
+  patterns_answer (more p ps) (more t ts) = answered_both (match_pattern p t) (match_patterns ps ts) ∙ ap₂ plain_both (pattern_answer p t) (patterns_answer ps ts)
 
 -- ---- places
 
-by_number : (c : Bool) (o : Outcome) (a : Answer) → answer_of o ≡ a → answer_of (if c then o else agrees) ≡ (if c then a else yes)
+by_number : (c : Bool) (o : Answer) (a : Plain) → plain o ≡ a → plain (if c then o else yes) ≡ (if c then a else surely)
 by_number true o a e = e
 by_number false o a e = refl
 
-one_answers : (p : Replacement) (qs : List Replacement) → answer_of (alike_with p qs) ≡ one_answer p qs
+one_answers : (p : Replacement) (qs : List Replacement) → plain (one_answer p qs) ≡ plain_one p qs
 one_answers p [] = refl
 one_answers p (q ∷ qs) =
-    answer_both (places_alike p q) (alike_with p qs)
-    ∙ ap₂ together (by_number (p.number == q.number) (alike p.by q.by) (same_answer (passive p.by q.by)) (answer_alike p.by q.by)) (one_answers p qs)
+    answer_both (two_answer p q) (one_answer p qs)
+    ∙ ap₂ plain_together (by_number (p.number == q.number) (compare p.by q.by) (plain_same (passive p.by q.by)) (compare_plain p.by q.by)) (one_answers p qs)
 
-each_answers : (ps : List Replacement) → answer_of (each_alike ps) ≡ each_answer ps
+each_answers : (ps : List Replacement) → plain (each_answer ps) ≡ plain_each ps
 each_answers [] = refl
-each_answers (p ∷ ps) = answer_both (alike_with p ps) (each_alike ps) ∙ ap₂ together (one_answers p ps) (each_answers ps)
+each_answers (p ∷ ps) = answer_both (one_answer p ps) (each_answer ps) ∙ ap₂ plain_together (one_answers p ps) (each_answers ps)
 
 -- ---- the variables of tests
 
@@ -140,12 +139,12 @@ both_up_to : (top : ℕ) (ps qs : List Replacement) → AreUpTo top ps → AreUp
 both_up_to top [] qs a b = b
 both_up_to top (p ∷ ps) qs a b = (a.0, both_up_to top ps qs a.1 b)
 
-inside_up_to : (top : ℕ) (c : Bool) (m : Match) → AreUpTo top m.places → AreUpTo top (if c then m else with_answer no).places
+inside_up_to : (top : ℕ) (c : Bool) (m : PlainMatch) → AreUpTo top m.places → AreUpTo top (if c then m else plain_with never).places
 inside_up_to top true m a = a
 inside_up_to top false m a = tt
 
 mutual
-  match_up_to : (top : ℕ) (p t : Term) → highest t ≤ top → AreUpTo top (match_pattern p t).places
+  match_up_to : (top : ℕ) (p t : Term) → highest t ≤ top → AreUpTo top (plain_pattern p t).places
   match_up_to top (variable v) t few = (few, tt)
   match_up_to top (integer i) (variable w) few = tt
   match_up_to top (integer i) (integer j) few = tt
@@ -158,14 +157,14 @@ mutual
   match_up_to top (structure f ps) (variable w) few = tt
   match_up_to top (structure f ps) (integer j) few = tt
   match_up_to top (structure f ps) (atom b) few = tt
-  match_up_to top (structure f ps) (structure g ts) few = inside_up_to top (bytes_eq f g && count_of ps == count_of ts) (match_patterns ps ts) (matches_up_to top ps ts few)
+  match_up_to top (structure f ps) (structure g ts) few = inside_up_to top (bytes_eq f g && count_of ps == count_of ts) (plain_patterns ps ts) (matches_up_to top ps ts few)
 
-  matches_up_to : (top : ℕ) (ps ts : Terms) → highest_in ts ≤ top → AreUpTo top (match_patterns ps ts).places
+  matches_up_to : (top : ℕ) (ps ts : Terms) → highest_in ts ≤ top → AreUpTo top (plain_patterns ps ts).places
   matches_up_to top none none few = tt
   matches_up_to top none (more t ts) few = tt
   matches_up_to top (more p ps) none few = tt
   matches_up_to top (more p ps) (more t ts) few =
-      both_up_to top (match_pattern p t).places (match_patterns ps ts).places (match_up_to top p t (omega (arith, few))) (matches_up_to top ps ts (omega (arith, few)))
+      both_up_to top (plain_pattern p t).places (plain_patterns ps ts).places (match_up_to top p t (omega (arith, few))) (matches_up_to top ps ts (omega (arith, few)))
 
 mutual
   beside_up_to : (last top : ℕ) (t : Term) → highest t ≤ top → highest (beside last t) ≤ suc (last + top)
@@ -196,87 +195,37 @@ renames last top places a =
 
 -- ---- tests
 
-own_answer : (last : ℕ) (o : Outcome) → answer_of (own_outcome last o) ≡ answer_of o
-own_answer last agrees = refl
-own_answer last clashes = refl
-own_answer last (waits vs) = refl
+plain_own : (last : ℕ) (o : Answer) → plain (own_answer last o) ≡ plain o
+plain_own last yes = refl
+plain_own last no = refl
+plain_own last (wait vs) = refl
 
-tests_answered : (last top : ℕ) (places : List Replacement) → AreUpTo top places → (ts : List Term) → highest_in (terms_of ts) ≤ last → answer_of (tests_outcome last places ts) ≡ tests_answer (guard_term top places) ts
+tests_answered : (last top : ℕ) (places : List Replacement) → AreUpTo top places → (ts : List Term) → highest_in (terms_of ts) ≤ last → plain (tests_answer last places ts) ≡ plain_tests (guard_term top places) ts
 tests_answered last top places a [] few = refl
 tests_answered last top places a (t ∷ ts) few =
-    answer_both (test_outcome last places t) (tests_outcome last places ts)
-    ∙ ap₂ together
-    (own_answer last (outcome_by (test_variable last places) (test_of t))
-    ∙ answer_outcome (test_variable last places) (test_of t)
+    answer_both (one_test_answer last places t) (tests_answer last places ts)
+    ∙ ap₂ plain_together
+    (plain_own last (answer_by (test_variable last places) (test_of t))
+    ∙ answer_by_plain (test_variable last places) (test_of t)
     ∙ same_answer_made (guard_number last top) last (suc (last + top)) (test_variable last places) (guard_term top places) (renames last top places a) t (omega (arith, few)))
     (tests_answered last top places a ts (omega (arith, few)))
 
 -- ---- verdicts
 
--- the whole outcome of a match and a guard
-abbrev pub whole : List Term → Matched → Outcome
-whole tests m = both (both m.outcome (each_alike m.places)) (guard_outcome m.places tests)
-
--- and the whole answer
-abbrev whole_answer : List Term → ℕ → Match → Answer
-whole_answer tests top m = together (together m.answer (each_answer m.places)) (tests_answer (guard_term top m.places) tests)
-
-whole_answered : (tests : List Term) (top : ℕ) (m : Matched) → AreUpTo top m.places → answer_of (whole tests m) ≡ whole_answer tests top (answered m)
+whole_answered : (tests : List Term) (top : ℕ) (m : Match) → AreUpTo top m.places → plain (whole tests m) ≡ plain_whole tests top (answered m)
 whole_answered tests top m a =
-    answer_both (both m.outcome (each_alike m.places)) (guard_outcome m.places tests)
-    ∙ ap₂ together
-    (answer_both m.outcome (each_alike m.places) ∙ ap (together (answer_of m.outcome)) (each_answers m.places))
+    answer_both (together m.answer (each_answer m.places)) (guard_answer m.places tests)
+    ∙ ap₂ plain_together
+    (answer_both m.answer (each_answer m.places) ∙ ap (plain_together (plain m.answer)) (each_answers m.places))
     (tests_answered (highest_in (terms_of tests)) top m.places a tests (omega arith))
 
-outcome_in : (m : Matched) (o : Outcome) → answer_in (verdict_with m o) ≡ answer_of o
-outcome_in m agrees = refl
-outcome_in m clashes = refl
-outcome_in m (waits vs) = refl
+places_up_to : (c : Clause) (ts : Terms) → AreUpTo (highest_in ts) (match_patterns c.patterns ts).places
+places_up_to c ts = subst (λ (ps : List Replacement). AreUpTo (highest_in ts) ps) (sym (ap (λ (m : PlainMatch). m.places) (patterns_answer c.patterns ts))) (matches_up_to (highest_in ts) c.patterns ts (omega arith))
 
--- the places that a match reaches
-pub same_places : (c : Clause) (ts : Terms) → (match_terms c.patterns ts).places ≡ places_of c ts
-same_places c ts = ap (λ (m : Match). m.places) (patterns_answer c.patterns ts)
+pub verdicts_stand : VerdictsStand
+verdicts_stand c ts =
+    let m = match_patterns c.patterns ts in
+    whole_answered c.tests (highest_in ts) m (places_up_to c ts) ∙ ap (plain_whole c.tests (highest_in ts)) (patterns_answer c.patterns ts)
 
-pub places_up_to : (c : Clause) (ts : Terms) → AreUpTo (highest_in ts) (match_terms c.patterns ts).places
-places_up_to c ts = subst (λ (ps : List Replacement). AreUpTo (highest_in ts) ps) (sym (same_places c ts)) (matches_up_to (highest_in ts) c.patterns ts (omega arith))
-
--- the verdict is the answer of the whole outcome
-pub verdict_is_whole : (c : Clause) (ts : Terms) → verdict c ts ≡ answer_of (whole c.tests (match_terms c.patterns ts))
-verdict_is_whole c ts =
-    let m = match_terms c.patterns ts in
-    sym (whole_answered c.tests (highest_in ts) m (places_up_to c ts) ∙ ap (whole_answer c.tests (highest_in ts)) (patterns_answer c.patterns ts))
-
--- the verdict that names variables has the answer of the one that doesn't
-pub verdicts_answer : VerdictsAnswer
-verdicts_answer c ts =
-    let m = match_terms c.patterns ts in
-    outcome_in m (whole c.tests m) ∙ whole_answered c.tests (highest_in ts) m (places_up_to c ts) ∙ ap (whole_answer c.tests (highest_in ts)) (patterns_answer c.patterns ts)
-
-accepted_places : (m : Matched) (o : Outcome) (ps : List Replacement) → verdict_with m o ≡ accepts ps → ps ≡ m.places
-accepted_places m agrees ps e = cc
-accepted_places m clashes ps e = absurd (cc)
-accepted_places m (waits vs) ps e = absurd (cc)
-
--- it accepts with the places that the match reaches
-pub accepts_places : AcceptsPlaces
-accepts_places c ts places e =
-    let m = match_terms c.patterns ts in
-    accepted_places m (whole c.tests m) places e ∙ same_places c ts
-
--- ---- what follows from a verdict that names variables
-
--- the places with which a verdict accepts
-abbrev pub places_in : Verdict → List Replacement
-places_in (accepts places) = places
-places_in (rejects vs) = []
-places_in (suspends vs) = []
-
-candidate_in_by : (n : ℕ) (c : Clause) (ts : Terms) (v : Verdict) → named_verdict c ts ≡ v → candidate_by n c (places_of c ts) (answer_in v) ≡ candidate_by n c (places_in v) (answer_in v)
-candidate_in_by n c ts (accepts ps) e = ap (λ (l : List Replacement). candidate_by n c l yes) (sym (accepts_places c ts ps e))
-candidate_in_by n c ts (rejects vs) e = refl
-candidate_in_by n c ts (suspends vs) e = refl
-
--- a clause is a candidate by the verdict that names variables
-pub candidate_in : (n : ℕ) (c : Clause) (ts : Terms) (v : Verdict) → named_verdict c ts ≡ v → candidate_by n c (places_of c ts) (verdict c ts) ≡ candidate_by n c (places_in v) (answer_in v)
-candidate_in n c ts v e =
-    ap (candidate_by n c (places_of c ts)) (sym (verdicts_answer c ts) ∙ ap answer_in e) ∙ candidate_in_by n c ts v e
+pub matches_stand : MatchesStand
+matches_stand ps ts = let k = patterns_answer ps ts in (ap (λ (m : PlainMatch). m.answer) k, ap (λ (m : PlainMatch). m.places) k)

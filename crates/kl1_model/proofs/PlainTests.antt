@@ -1,4 +1,4 @@
--- The outcomes of tests without what they wait for are their answers, whatever the numbers of their variables.
+-- The answers of tests without what they wait for are what they were, whatever the numbers of their variables.
 use Rattle.std.proofs.Common.{◌≡◌, ℕ, ◌≤◌, Bool, true, false, if◌then◌else◌, List, refl, sym, ap, ap₂, ◌∙◌, arith}
 use Rattle.std.specs.Prelude.{bytes_eq, codes, Option, Some, None, option_map}
 use Rattle.kl1_model.specs.declared.comparison.Comparison.{Comparison}
@@ -7,81 +7,69 @@ use Rattle.kl1_model.specs.declared.number.Number.{Number}
 use Rattle.kl1_model.specs.declared.number.Number.TheVariants.{Value, Overflow, ZeroDivisor}
 use Rattle.kl1_model.specs.Term.{Term, variable, integer, atom, structure, Terms, none, more, substituted, each_substituted}
 use Rattle.kl1_model.specs.Meaning.{highest, highest_in}
-use Rattle.kl1_model.specs.Same.{Passive, same, differs, unknown, passive}
-use Rattle.kl1_model.specs.code.Awaited.{awaited}
+use Rattle.kl1_model.specs.Answer.{Answer, yes, no, wait, together, opposite, known}
+use Rattle.kl1_model.specs.Same.{compare}
+use Rattle.kl1_model.specs.code.Comparing.{Passive, same, differs, unknown, passive}
 use Rattle.kl1_model.specs.Arithmetic.{evaluated}
-use Rattle.kl1_model.specs.Guard.{Test, holds, looks, is_same, is_other, compares, test_of, type_test_named, comparison_named, test_substituted, is_found, compared, together, known, same_answer, numbers_answer, test_answer, Answer, yes, no, wait}
-use Rattle.kl1_model.specs.code.Outcome.{Outcome, agrees, clashes, waits, both, decided, alike, same_outcome, other_outcome, compared_numbers, compared_sides, outcome_by, answer_of}
-use Rattle.kl1_model.specs.laws.OutcomeLaws.{OutcomesAnswer}
+use Rattle.kl1_model.specs.Guard.{Test, holds, looks, is_same, is_other, compares, test_of, type_test_named, comparison_named, test_substituted, is_found, compared, numbers_answer, sides_answer}
+use Rattle.kl1_model.specs.Match.{answer_by}
+use Rattle.kl1_model.specs.laws.PlainAnswers.{Plain, surely, never, not_yet, plain, plain_together, plain_known, plain_same, plain_other, plain_numbers, plain_sides, plain_test, plain_by}
+use Rattle.kl1_model.specs.laws.PlainLaws.{TestsStand}
+use Rattle.kl1_model.proofs.Comparisons.{compare_plain}
 use Rattle.kl1_model.proofs.Renamed.{renamed, each_renamed, IsOneToOne, passive_renamed, evaluated_renamed, comes_renamed, found_renamed}
-use Rattle.kl1_model.specs.Found.{Found, found, awaits, wrong, then_found, found_map}
+use Rattle.kl1_model.specs.Found.{Found, found, awaits, wrong}
 
--- ---- an outcome without what it waits for
+-- ---- an answer without what it waits for
 
-pub answer_both : (o p : Outcome) → answer_of (both o p) ≡ together (answer_of o) (answer_of p)
-answer_both agrees p = refl
-answer_both clashes p = refl
-answer_both (waits vs) agrees = refl
-answer_both (waits vs) clashes = refl
-answer_both (waits vs) (waits ws) = refl
+pub answer_both : (o p : Answer) → plain (together o p) ≡ plain_together (plain o) (plain p)
+answer_both yes p = refl
+answer_both no p = refl
+answer_both (wait vs) yes = refl
+answer_both (wait vs) no = refl
+answer_both (wait vs) (wait ws) = refl
 
-pub answer_decided : (b : Bool) → answer_of (decided b) ≡ known b
+pub answer_decided : (b : Bool) → plain (known b) ≡ plain_known b
 answer_decided true = refl
 answer_decided false = refl
 
-answer_same : (p : Passive) (vs : List ℕ) → answer_of (same_outcome p vs) ≡ same_answer p
-answer_same same vs = refl
-answer_same differs vs = refl
-answer_same unknown vs = refl
+answer_other : (a : Answer) (p : Passive) → plain a ≡ plain_same p → plain (opposite a) ≡ plain_other p
+answer_other yes same e = refl
+answer_other yes differs e = absurd (cc)
+answer_other yes unknown e = absurd (cc)
+answer_other no same e = absurd (cc)
+answer_other no differs e = refl
+answer_other no unknown e = absurd (cc)
+answer_other (wait vs) same e = absurd (cc)
+answer_other (wait vs) differs e = absurd (cc)
+answer_other (wait vs) unknown e = refl
 
-pub answer_alike : (t u : Term) → answer_of (alike t u) ≡ same_answer (passive t u)
-answer_alike t u = answer_same (passive t u) (awaited t u)
-
--- the answer of `\=`, by passive equality
-abbrev pub other_answer : Passive → Answer
-other_answer p = elim p [ same ↦ no | differs ↦ yes | unknown ↦ wait ]
-
-answer_other : (p : Passive) (vs : List ℕ) → answer_of (other_outcome p vs) ≡ other_answer p
-answer_other same vs = refl
-answer_other differs vs = refl
-answer_other unknown vs = refl
-
-answer_numbers : (c : Comparison) (x y : Number) → answer_of (compared_numbers c x y) ≡ numbers_answer c x y
+answer_numbers : (c : Comparison) (x y : Number) → plain (numbers_answer c x y) ≡ plain_numbers c x y
 answer_numbers c (Value x) (Value y) = answer_decided (compared c x y)
 answer_numbers c (Value x) Overflow = refl
 answer_numbers c (Value x) ZeroDivisor = refl
 answer_numbers c Overflow y = refl
 answer_numbers c ZeroDivisor y = refl
 
--- the answer of a comparison, by its sides
-abbrev pub sides_answer : Comparison → Found Number → Found Number → Answer
-sides_answer c x y = elim (then_found x (λ a. found_map (numbers_answer c a) y)) [ found a ↦ a | awaits v ↦ wait | wrong ↦ no ]
-
-answer_sides : (c : Comparison) (x y : Found Number) → answer_of (compared_sides c x y) ≡ sides_answer c x y
+answer_sides : (c : Comparison) (x y : Found Number) → plain (sides_answer c x y) ≡ plain_sides c x y
 answer_sides c (awaits v) y = refl
 answer_sides c wrong y = refl
 answer_sides c (found x) (awaits v) = refl
 answer_sides c (found x) wrong = refl
 answer_sides c (found x) (found y) = answer_numbers c x y
 
--- the outcome of a test is its answer
-pub outcomes_answer : OutcomesAnswer
-outcomes_answer holds = refl
-outcomes_answer (looks i (variable v)) = refl
-outcomes_answer (looks i (integer n)) = answer_decided (is_found i (integer n))
-outcomes_answer (looks i (atom a)) = answer_decided (is_found i (atom a))
-outcomes_answer (looks i (structure f ts)) = answer_decided (is_found i (structure f ts))
-outcomes_answer (is_same t u) = answer_alike t u
-outcomes_answer (is_other t u) = answer_other (passive t u) (awaited t u)
-outcomes_answer (compares c t u) = answer_sides c (evaluated t) (evaluated u)
+pub tests_stand : TestsStand
+tests_stand holds = refl
+tests_stand (looks i (variable v)) = refl
+tests_stand (looks i (integer n)) = answer_decided (is_found i (integer n))
+tests_stand (looks i (atom a)) = answer_decided (is_found i (atom a))
+tests_stand (looks i (structure f ts)) = answer_decided (is_found i (structure f ts))
+tests_stand (is_same t u) = compare_plain t u
+tests_stand (is_other t u) = answer_other (compare t u) (passive t u) (compare_plain t u)
+tests_stand (compares c t u) = answer_sides c (evaluated t) (evaluated u)
 
--- the answer of what may be a test, with terms in place of its variables
-abbrev pub answer_by : (ℕ → Term) → Option Test → Answer
-answer_by s x = elim x [ None ↦ no | Some test ↦ test_answer (test_substituted s test) ]
-
-pub answer_outcome : (s : ℕ → Term) (x : Option Test) → answer_of (outcome_by s x) ≡ answer_by s x
-answer_outcome s None = refl
-answer_outcome s (Some test) = outcomes_answer (test_substituted s test)
+pub answer_by_plain : (s : ℕ → Term) (x : Option Test) → plain (answer_by s x) ≡ plain_by s x
+answer_by_plain s None = refl
+answer_by_plain s (Some test) = tests_stand (test_substituted s test)
 
 -- ---- the answer of a test with other numbers for its variables
 
@@ -93,23 +81,23 @@ IsUpTo most (is_same t u) = (highest t ≤ most) × (highest u ≤ most)
 IsUpTo most (is_other t u) = (highest t ≤ most) × (highest u ≤ most)
 IsUpTo most (compares c t u) = (highest t ≤ most) × (highest u ≤ most)
 
-sides_renamed : (r : ℕ → ℕ) (c : Comparison) (x y : Found Number) → sides_answer c (evaluated_renamed r x) (evaluated_renamed r y) ≡ sides_answer c x y
+sides_renamed : (r : ℕ → ℕ) (c : Comparison) (x y : Found Number) → plain_sides c (evaluated_renamed r x) (evaluated_renamed r y) ≡ plain_sides c x y
 sides_renamed r c (awaits v) y = refl
 sides_renamed r c wrong y = refl
 sides_renamed r c (found x) (awaits v) = refl
 sides_renamed r c (found x) wrong = refl
 sides_renamed r c (found x) (found y) = refl
 
-pub answer_renamed : (r : ℕ → ℕ) (most : ℕ) (test : Test) → IsOneToOne r most → IsUpTo most test → test_answer (test_substituted (λ v. variable (r v)) test) ≡ test_answer test
+pub answer_renamed : (r : ℕ → ℕ) (most : ℕ) (test : Test) → IsOneToOne r most → IsUpTo most test → plain_test (test_substituted (λ v. variable (r v)) test) ≡ plain_test test
 answer_renamed r most holds once few = refl
 answer_renamed r most (looks i (variable v)) once few = refl
 answer_renamed r most (looks i (integer n)) once few = refl
 answer_renamed r most (looks i (atom a)) once few = refl
-answer_renamed r most (looks i (structure f ts)) once few = ap known (found_renamed r i f ts)
-answer_renamed r most (is_same t u) once few = ap same_answer (passive_renamed r most t u once few.0 few.1)
-answer_renamed r most (is_other t u) once few = ap other_answer (passive_renamed r most t u once few.0 few.1)
+answer_renamed r most (looks i (structure f ts)) once few = ap plain_known (found_renamed r i f ts)
+answer_renamed r most (is_same t u) once few = ap plain_same (passive_renamed r most t u once few.0 few.1)
+answer_renamed r most (is_other t u) once few = ap plain_other (passive_renamed r most t u once few.0 few.1)
 answer_renamed r most (compares c t u) once few =
-    ap₂ (sides_answer c) (comes_renamed r t) (comes_renamed r u) ∙ sides_renamed r c (evaluated t) (evaluated u)
+    ap₂ (plain_sides c) (comes_renamed r t) (comes_renamed r u) ∙ sides_renamed r c (evaluated t) (evaluated u)
 
 -- ---- two substitutions, of which a renaming makes the second of the first
 
@@ -165,11 +153,11 @@ abbrev pub MayBeUpTo : ℕ → Option Test → Type 0
 MayBeUpTo last None = Unit {0}
 MayBeUpTo last (Some test) = IsUpTo last test
 
-answers_by : (r : ℕ → ℕ) (last most : ℕ) (first second : ℕ → Term) → Renames r last most first second → (x : Option Test) → MayBeUpTo last x → answer_by first x ≡ answer_by second x
+answers_by : (r : ℕ → ℕ) (last most : ℕ) (first second : ℕ → Term) → Renames r last most first second → (x : Option Test) → MayBeUpTo last x → plain_by first x ≡ plain_by second x
 answers_by r last most first second is None few = refl
 answers_by r last most first second is (Some test) few =
     sym
-    (ap test_answer (test_made r last most first second is test few)
+    (ap plain_test (test_made r last most first second is test few)
     ∙ answer_renamed r most (test_substituted first test) is.once (test_up_to last most first is.up_to test few))
 
 -- ---- the variables of the test that a term is
@@ -198,5 +186,5 @@ read_up_to last (structure f (more a (more b none))) few = two_up_to last (bytes
 read_up_to last (structure f (more a (more b (more c ts)))) few = tt
 
 -- the answer of the test that a term is
-pub same_answer_made : (r : ℕ → ℕ) (last most : ℕ) (first second : ℕ → Term) → Renames r last most first second → (t : Term) → highest t ≤ last → answer_by first (test_of t) ≡ answer_by second (test_of t)
+pub same_answer_made : (r : ℕ → ℕ) (last most : ℕ) (first second : ℕ → Term) → Renames r last most first second → (t : Term) → highest t ≤ last → plain_by first (test_of t) ≡ plain_by second (test_of t)
 same_answer_made r last most first second is t few = answers_by r last most first second is (test_of t) (read_up_to last t few)
