@@ -12,7 +12,7 @@ use Rattle.kl1_model.specs.Answer.{Answer, yes, no, wait, together, opposite, kn
 use Rattle.kl1_model.specs.Same.{compare}
 use Rattle.kl1_model.specs.Arithmetic.{evaluated}
 use Rattle.kl1_model.specs.Guard.{Test, holds, looks, is_same, is_other, compares, test_of, type_test_named, comparison_named, test_substituted, is_found, look, sides_answer, test_answer}
-use Rattle.kl1_model.specs.Match.{answer_by, two_answer, one_answer, each_answer, beside, test_variable, own_variables, own_answer, one_test_answer, tests_answer, guard_answer}
+use Rattle.kl1_model.specs.Match.{option_answer, two_answer, one_answer, each_answer, beside, test_variable, own_variables, own_answer, one_test_answer, tests_answer, guard_answer}
 use Rattle.kl1_model.specs.code.Waits.{LeavesEach, awaited_by_found}
 pub use Rattle.kl1_model.specs.laws.CompareLaws.{Stays}
 use Rattle.kl1_model.specs.laws.WaitsLaws.{place_substituted, places_substituted}
@@ -137,7 +137,7 @@ module _ (last : ℕ) (s before later : ℕ → Term) (again : (v : ℕ) → v �
   FewOption None = Unit {0}
   FewOption (Some test) = FewIn test
 
-  test_again : (test : Test) → FewIn test → test_substituted later test ≡ test_substituted s (test_substituted before test)
+  pub test_again : (test : Test) → FewIn test → test_substituted later test ≡ test_substituted s (test_substituted before test)
   test_again holds few = refl
   test_again (looks i t) few = ap (looks i) (term_again t few)
   test_again (is_same t u) few = ap₂ is_same (term_again t few.0) (term_again u few.1)
@@ -167,7 +167,7 @@ module _ (last : ℕ) (s before later : ℕ → Term) (again : (v : ℕ) → v �
   few_test (structure f (more a (more b none))) few = few_two (bytes_eq f (codes "=")) (bytes_eq f (codes "\\=")) (comparison_named f) a b (omega (arith, few)) (omega (arith, few))
   few_test (structure f (more a (more b (more c ts)))) few = tt
 
-  pub by_test : (x : Option Test) → FewOption x → Stays s (answer_by before x) (answer_by later x)
+  pub by_test : (x : Option Test) → FewOption x → Stays s (option_answer before x) (option_answer later x)
   by_test None few l = refl
   by_test (Some test) few l = ap test_answer (test_again test few) ∙ test_answer_stays s (test_substituted before test) l
 
@@ -195,7 +195,7 @@ test_stays last s places t few l =
     let before = test_variable last places in
     let later = test_variable last (places_substituted s places) in
     let again = test_variable_stays last s places in
-    ap (own_answer last) (by_test last (lift last s) before later again (test_of t) (few_test last (lift last s) before later again t few) (own_left last s (answer_by before (test_of t)) l))
+    ap (own_answer last) (by_test last (lift last s) before later again (test_of t) (few_test last (lift last s) before later again t few) (own_left last s (option_answer before (test_of t)) l))
 
 tests_stay : (last : ℕ) (s : ℕ → Term) (places : List Replacement) (ts : List Term) → highest_in (terms_of ts) ≤ last → Stays s (tests_answer last places ts) (tests_answer last (places_substituted s places) ts)
 tests_stay last s places [] few l = refl

@@ -46,3 +46,14 @@ pub mod TreeEndings
 pub mod TreeLives
 pub mod TreeLiving
 pub mod GivenFree
+pub mod UnifySound
+pub mod UnifySolution
+pub mod UnifyAnswer
+pub mod UnifyDerivation
+pub mod UnifyFails
+pub mod Renaming
+pub mod RenamedVerdicts
+pub mod RenamedMoves
+pub mod RelabelledStates
+pub mod RelabelledSteps
+pub mod WorkOrder

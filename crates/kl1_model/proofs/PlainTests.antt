@@ -12,7 +12,7 @@ use Rattle.kl1_model.specs.Same.{compare}
 use Rattle.kl1_model.specs.code.Comparing.{Passive, same, differs, unknown, passive}
 use Rattle.kl1_model.specs.Arithmetic.{evaluated}
 use Rattle.kl1_model.specs.Guard.{Test, holds, looks, is_same, is_other, compares, test_of, type_test_named, comparison_named, test_substituted, is_found, compared, numbers_answer, sides_answer}
-use Rattle.kl1_model.specs.Match.{answer_by}
+use Rattle.kl1_model.specs.Match.{option_answer}
 use Rattle.kl1_model.specs.laws.PlainAnswers.{Plain, surely, never, not_yet, plain, plain_together, plain_known, plain_same, plain_other, plain_numbers, plain_sides, plain_test, plain_by}
 use Rattle.kl1_model.specs.laws.PlainLaws.{TestsStand}
 use Rattle.kl1_model.proofs.Comparisons.{compare_plain}
@@ -67,7 +67,7 @@ tests_stand (is_same t u) = compare_plain t u
 tests_stand (is_other t u) = answer_other (compare t u) (passive t u) (compare_plain t u)
 tests_stand (compares c t u) = answer_sides c (evaluated t) (evaluated u)
 
-pub answer_by_plain : (s : ℕ → Term) (x : Option Test) → plain (answer_by s x) ≡ plain_by s x
+pub answer_by_plain : (s : ℕ → Term) (x : Option Test) → plain (option_answer s x) ≡ plain_by s x
 answer_by_plain s None = refl
 answer_by_plain s (Some test) = tests_stand (test_substituted s test)
 

@@ -11,7 +11,7 @@ use Rattle.kl1_model.specs.Same.{compare}
 use Rattle.kl1_model.specs.code.Comparing.{passive}
 use Rattle.kl1_model.specs.Guard.{test_of}
 use Rattle.kl1_model.specs.Module.{Clause}
-use Rattle.kl1_model.specs.Match.{Match, answer_by, with_answer, match_both, match_pattern, match_patterns, two_answer, one_answer, each_answer, beside, test_variable, own_answer, one_test_answer, tests_answer, guard_answer, whole}
+use Rattle.kl1_model.specs.Match.{Match, option_answer, with_answer, match_both, match_pattern, match_patterns, two_answer, one_answer, each_answer, beside, test_variable, own_answer, one_test_answer, tests_answer, guard_answer, whole}
 use Rattle.kl1_model.specs.laws.PlainAnswers.{Plain, surely, never, plain, plain_together, plain_same, PlainMatch, plain_with, plain_both, plain_pattern, plain_patterns, plain_one, plain_each, guard_term, plain_tests, plain_whole}
 use Rattle.kl1_model.specs.laws.PlainLaws.{MatchesStand, VerdictsStand}
 use Rattle.kl1_model.proofs.Comparisons.{compare_plain}
@@ -205,7 +205,7 @@ tests_answered last top places a [] few = refl
 tests_answered last top places a (t ∷ ts) few =
     answer_both (one_test_answer last places t) (tests_answer last places ts)
     ∙ ap₂ plain_together
-    (plain_own last (answer_by (test_variable last places) (test_of t))
+    (plain_own last (option_answer (test_variable last places) (test_of t))
     ∙ answer_by_plain (test_variable last places) (test_of t)
     ∙ same_answer_made (guard_number last top) last (suc (last + top)) (test_variable last places) (guard_term top places) (renames last top places a) t (omega (arith, few)))
     (tests_answered last top places a ts (omega (arith, few)))

@@ -8,7 +8,7 @@ use Rattle.kl1_model.specs.Meaning.{highest_in}
 use Rattle.kl1_model.specs.Answer.{Answer, yes, no, wait, together, awaited_in}
 use Rattle.kl1_model.specs.Same.{compare}
 use Rattle.kl1_model.specs.Guard.{test_of}
-use Rattle.kl1_model.specs.Match.{Match, answer_by, with_answer, match_pattern, match_patterns, two_answer, one_answer, each_answer, beside, test_variable, own_answer, one_test_answer, tests_answer, guard_answer, whole}
+use Rattle.kl1_model.specs.Match.{Match, option_answer, with_answer, match_pattern, match_patterns, two_answer, one_answer, each_answer, beside, test_variable, own_answer, one_test_answer, tests_answer, guard_answer, whole}
 use Rattle.kl1_model.specs.code.Waits.{LeavesEach}
 use Rattle.kl1_model.specs.laws.WaitsLaws.{place_substituted, places_substituted}
 use Rattle.kl1_model.specs.laws.VerdictLaws.{NamedRejectsNeverAccepts}
@@ -125,7 +125,7 @@ test_clashes last ps qs t few a w e =
     let before = test_variable last ps in
     let later = test_variable last qs in
     let again = filled_is last qs ps a w in
-    let k : answer_by before (test_of t) ≡ no = own_clash last (answer_by before (test_of t)) e in
+    let k : option_answer before (test_of t) ≡ no = own_clash last (option_answer before (test_of t)) e in
     ap (own_answer last) (by_test last s before later again (test_of t) (few_test last s before later again t (omega (arith, few))) (subst (λ o. LeavesEach s (awaited_in o)) (sym k) tt) ∙ k)
 
 tests_clash : (last : ℕ) (ps qs : List Replacement) (ts : List Term) → highest_in (terms_of ts) ≤ last → Agree qs → Within ps qs → tests_answer last ps ts ≡ no → tests_answer last qs ts ≡ no

@@ -284,7 +284,8 @@ answered_leaves v g t s =
 
 answer_by_posts : (s : State) (g : Given) (t : Term) (o : Option Asked) → IsPosted s → Posts (answer_by s g t o)
 answer_by_posts s g t None a = a
-answer_by_posts s g t (Some b) a = posted_left s (answered b.new g t s) (answered_leaves b.new g t s) a
+answer_by_posts s g t (Some b) a =
+    posts_unless s ((g.tells_gone, answer_refused) ∷ []) (record { state = with_entry (answered b.new g t s); reply = sent }) a (posted_left s (answered b.new g t s) (answered_leaves b.new g t s) a)
 
 asked_posts : (s : State) (t : Term) (o : Option Asked) → IsPosted s → Posts (answer_asked s t o)
 asked_posts s t o a =

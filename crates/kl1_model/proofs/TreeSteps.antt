@@ -148,10 +148,12 @@ answered_keeps v g t s =
 
 comes_answer_by : (s : State) (g : Given) (t : Term) (o : Option Asked) → Comes s (answer_by s g t o)
 comes_answer_by s g t None = comes_refused s answer_refused
-comes_answer_by s g t (Some a) = record {
-  follows = follows_kept 0 s (with_entry (answered a.new g t s)) (keeps_both s (answered a.new g t s) (with_entry (answered a.new g t s)) (answered_keeps a.new g t s) (with_entry_keeps (answered a.new g t s)));
-  kept = λ e. absurd (false≢true e);
-}
+comes_answer_by s g t (Some a) =
+    let x : Transition = record { state = with_entry (answered a.new g t s); reply = sent } in
+    comes_unless s ((g.tells_gone, answer_refused) ∷ []) x (record {
+      follows = follows_kept 0 s (with_entry (answered a.new g t s)) (keeps_both s (answered a.new g t s) (with_entry (answered a.new g t s)) (answered_keeps a.new g t s) (with_entry_keeps (answered a.new g t s)));
+      kept = λ e. absurd (false≢true e);
+    })
 
 comes_asked : (s : State) (t : Term) (o : Option Asked) → Comes s (answer_asked s t o)
 comes_asked s t o =

@@ -18,7 +18,7 @@ use Rattle.kl1_model.specs.Answer.{Answer, yes, no, wait, together, opposite, kn
 use Rattle.kl1_model.specs.Same.{compare, compare_each}
 use Rattle.kl1_model.specs.Arithmetic.{ArithmeticExpression, with_left, with_right, operator_named, scan, scan_operation, evaluated, Scanned}
 use Rattle.kl1_model.specs.Guard.{type_test_named, comparison_named, Test, holds, looks, is_same, is_other, compares, test_of, test_substituted, is_found, compared, look, numbers_answer, sides_answer, test_answer}
-use Rattle.kl1_model.specs.Match.{Match, answer_by, with_answer, match_pattern, match_patterns, two_answer, one_answer, each_answer, beside, test_variable, own_variables, own_answer, one_test_answer, tests_answer, guard_answer}
+use Rattle.kl1_model.specs.Match.{Match, option_answer, with_answer, match_pattern, match_patterns, two_answer, one_answer, each_answer, beside, test_variable, own_variables, own_answer, one_test_answer, tests_answer, guard_answer}
 use Rattle.kl1_model.specs.code.Verdicts.{suspends, verdict_with}
 use Rattle.kl1_model.specs.laws.VerdictLaws.{NamedSuspendsWaits}
 use Rattle.kl1_model.proofs.Comparisons.{Names, names_both, names_known, compare_names, compare_waits}
@@ -294,7 +294,7 @@ module _ (last : ℕ) (places : List Replacement) where
       pair_above (bytes_eq f (codes "=")) (bytes_eq f (codes "\\=")) (comparison_named f) a b k.0 k.1.0
   test_above (structure f (more a (more b (more c ts)))) h = tt
 
-  by_own : (x : Option Test) → OptionAbove x → Own last (answer_by (test_variable last places) x)
+  by_own : (x : Option Test) → OptionAbove x → Own last (option_answer (test_variable last places) x)
   by_own None h = tt
   by_own (Some test) h = test_own last (test_substituted (test_variable last places) test) h
 
@@ -307,7 +307,7 @@ module _ (last : ℕ) (places : List Replacement) where
   tests_names vs f (t ∷ ts) h =
       let b = and_parts (has_only vs t) (list_all (has_only vs) ts) h in
       names_both (one_test_answer last places t) (tests_answer last places ts)
-      (own_names last (answer_by (test_variable last places) (test_of t)) (by_own (test_of t) (test_above t (each_has vs (variables_of t) f b.0))))
+      (own_names last (option_answer (test_variable last places) (test_of t)) (by_own (test_of t) (test_above t (each_has vs (variables_of t) f b.0))))
       (tests_names vs f ts b.1)
 
 -- ---- a match that agrees has a place for each variable

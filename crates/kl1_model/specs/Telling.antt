@@ -1,13 +1,16 @@
 -- Answers that tell variables of the account by their numbers: how their texts are read, and what stands for their variables.
 use Rattle.std.specs.Prelude.{ℕ, suc, ◌+◌, ◌-◌, ◌==◌, nat_le, nat_lt, not, ◌&&◌, ◌||◌, Bool, true, false, if◌then◌else◌, List, [], ◌∷◌, ◌++◌, length, max, drop, codes, bytes_eq, decimal, Option, Some, None, option_map}
+use Rattle.std.specs.List.{list_any}
 use Rattle.kl1_model.specs.declared.limits.TheConstants.{FIRST_UNTOLD}
+use Rattle.kl1_model.specs.declared.rules.Rules.{Rules}
 use Rattle.kl1_model.specs.Term.{Term, variable, occurs, substituted}
 use Rattle.kl1_model.specs.Token.{Token, name_token, variable_token, digits_token, minus_token, sign_token, end_token, number_of, tokens_of_text}
 use Rattle.kl1_model.specs.Grammar.{Numbered}
 use Rattle.kl1_model.specs.reader.Reader.{expression_tree}
 use Rattle.kl1_model.specs.Numbering.{variable_number, seen_after}
 use Rattle.kl1_model.specs.Meaning.{variables_of, expression_term}
-use Rattle.kl1_model.specs.Module.{Reading, is_among, bare_tokens, first_line, startable}
+use Rattle.kl1_model.specs.Module.{Reading, is_among, bare_tokens, first_line, startable, read_goal}
+use Rattle.kl1_model.specs.State.{has_told}
 use Rattle.kl1_model.specs.Event.{is_number}
 
 -- ---- how a text tells variables
@@ -86,13 +89,22 @@ place_among (m ∷ ms) n = if m == n then 1 else suc (place_among ms n)
 abbrev pub given_variable : Option Asked → List ℕ → ℕ → ℕ → Term
 given_variable a new last n = if stands_at a n then variable n else variable (last + place_among new n)
 
--- a goal as it takes the place of what a substitute waits for, and how many of its variables are new
+-- whether a variable that the account has made is told to an exception in whose goal it doesn't stand: it was bound since, or never stood there
+abbrev pub is_gone : Option Asked → ℕ → ℕ → Bool
+is_gone a last n = nat_le n last && not (stands_at a n)
+
+-- a goal as it takes the place of what a substitute waits for, how many of its variables are new, and whether it tells one that is gone
 pub record Given : Type 0 where
   pub goal : Term
   pub new : ℕ
+  pub tells_gone : Bool
 
--- a goal that tells variables to an exception that may be there; if there is none, each variable is new
+-- a goal that tells variables to an exception that may be there; each that doesn't stand in its goal counts as new
 abbrev pub given_told : Option Asked → ℕ → Term → Given
 given_told a last t =
     let new = new_among a [] (variables_of t) in
-    record { goal = substituted (given_variable a new last) t; new = length new }
+    record { goal = substituted (given_variable a new last) t; new = length new; tells_gone = list_any (is_gone a last) (variables_of t) }
+
+-- what a text is as the goal of an answer by these rules
+abbrev pub read_answer : Rules → List ℕ → Reading Term
+read_answer rules text = if has_told rules then read_told_goal text else read_goal text

@@ -4,6 +4,7 @@ use Rattle.std.specs.Prelude.{map, length, get_or, count_by, cond, Option, Some,
 use Rattle.std.specs.List.{AllByRecursion}
 use Rattle.std.proofs.lemmas.Bool.{true≢false, eq-eqb, ne_eqb, or_from}
 use Rattle.std.proofs.lemmas.List.Sums.{sum_by-cons, count_by-le-length}
+use Rattle.kl1_model.specs.declared.rules.Rules.{Rules}
 use Rattle.kl1_model.specs.declared.life.Life.TheVariants.{Terminated, Aborted}
 use Rattle.kl1_model.specs.declared.message.Message.{Message}
 use Rattle.kl1_model.specs.declared.message.Message.TheVariants.{Stop, Start, Abort, Allow}
@@ -12,11 +13,11 @@ use Rattle.kl1_model.specs.Meaning.{nil, cell}
 use Rattle.kl1_model.specs.Unify.{mgu}
 use Rattle.kl1_model.specs.Module.{is_among}
 use Rattle.kl1_model.specs.Control.{Control, awaits_message, tells, tells_other, ends, breaks_off}
-use Rattle.kl1_model.specs.State.{Goal, Origin, Shoen, State, has_substitutes, shoen_at, replace_in_shoen, replace_in_state, replace_all, change_shoen, without_goal, with_name, is_monitor, is_living}
+use Rattle.kl1_model.specs.State.{Goal, Origin, Shoen, State, has_substitutes, shoen_at, replace_in_shoen, replace_in_state, replace_all, change_shoen, without_goal, with_name, is_monitor, is_living, has_forgetting}
 use Rattle.kl1_model.specs.Tree.{parents_of, path_within, path, is_on_path, charged_of, charge, is_enabled}
 use Rattle.kl1_model.specs.Event.{are_too_many, with_entry, with_reduction}
 use Rattle.kl1_model.specs.Report.{broken_at, has_made_last, report_tail, reported_on, reported_at, report, is_reported, report_each, closed_at, close, exception, exception_with, failure, illegal_input, exhaustion, started_report, exhausted_report, stopped_report, resumed_report, terminated_report, aborted_report}
-use Rattle.kl1_model.specs.Ending.{ended_at, ending_of, without_monitor, terminate, terminate_each, settle, newly_exhausted, after_reduction, ended_below, abort}
+use Rattle.kl1_model.specs.Ending.{ended_at, ending_of, without_monitor, terminate, terminate_each, settle, newly_exhausted, after_reduction, ended_below, abort, ended_as}
 use Rattle.kl1_model.specs.Opening.{with_shoen, open_shoen, with_next_variables, start_goal, has_room_for_child, child_shoen, open_child}
 use Rattle.kl1_model.specs.Reduction.{Move, commits, raises, unifies, names, opens, goes, gives_way, moves, reads, has_room_for, committed, substituted_by, raised, unified, equation, or_exhaustion, moved, obeyed, with_control, grown, heard, acted}
 use Rattle.kl1_model.specs.code.Steps.{report_of, close_of, aborted_below, stopped_of, resumed_of, allowed_more, named_by}
@@ -67,7 +68,7 @@ cap_all b [] s a = a
 cap_all b (r ∷ rs) s a = cap_all b rs (replace_in_state r.number r.by s) (replaced b r.number r.by s a)
 
 cap_broken : (b : ℕ → ℕ) (n : ℕ) (s : State) → Cap b s → Cap b (broken_at n s)
-cap_broken b n s a = changed b n (λ h. record h { is_broken = true }) s (λ h p. p) a
+cap_broken b n s a = changed b n (λ h. record h { is_broken = true; tail = if has_forgetting s.rules then nil else h.tail }) s (λ h p. p) a
 
 told : (b : ℕ → ℕ) (n : ℕ) (m : Term) (o : Option ℕ) (s : State) → Cap b s → Cap b (reported_on n m o s)
 told b n m None s a = cap_broken b n s a
@@ -104,7 +105,7 @@ cap_closing : (b : ℕ → ℕ) (n : ℕ) (m : Term) (s : State) → Cap b s →
 cap_closing b n m s a = let t = report n m s in cap_close_of b (shoen_at n t.shoens) t (cap_report b n m s a)
 
 cap_terminate : (b : ℕ → ℕ) (n : ℕ) (s : State) → Cap b s → Cap b (terminate n s)
-cap_terminate b n s a = cap_closing b n terminated_report (without_monitor n (ended_at n s)) (changed b n (λ h. record h { life = Terminated }) s (λ h p. p) a)
+cap_terminate b n s a = cap_closing b n terminated_report (without_monitor n (ended_at n s)) (changed b n (ended_as s.rules Terminated) s (λ h p. p) a)
 
 cap_terminations : (b : ℕ → ℕ) (ns : List ℕ) (s : State) → Cap b s → Cap b (terminate_each ns s)
 cap_terminations b [] s a = a
@@ -120,13 +121,13 @@ cap_settle_charged b n s a =
     let told = newly_exhausted s ending ns in
     cap_terminations b ending (report_each told exhausted_report s) (cap_each b told exhausted_report s a)
 
-aborted_if : (c : Bool) (b : ℕ → ℕ) (h : Shoen) → b h.number ≤ h.allowance → b (if c then record h { life = Aborted } else h).number ≤ (if c then record h { life = Aborted } else h).allowance
-aborted_if true b h p = p
-aborted_if false b h p = p
+aborted_if : (c : Bool) (rules : Rules) (b : ℕ → ℕ) (h : Shoen) → b h.number ≤ h.allowance → b (if c then ended_as rules Aborted h else h).number ≤ (if c then ended_as rules Aborted h else h).allowance
+aborted_if true rules b h p = p
+aborted_if false rules b h p = p
 
 cap_abort : (b : ℕ → ℕ) (n : ℕ) (s : State) → Cap b s → Cap b (abort n s)
 cap_abort b n s a = cap_closing b n aborted_report (ended_below n s)
-    (all_map (λ h. b h.number ≤ h.allowance) (λ h. b h.number ≤ h.allowance) (aborted_below s.shoens n) (λ h p. aborted_if (is_living h.life && is_on_path s.shoens n h.number) b h p) s.shoens a)
+    (all_map (λ h. b h.number ≤ h.allowance) (λ h. b h.number ≤ h.allowance) (aborted_below s.rules s.shoens n) (λ h p. aborted_if (is_living h.life && is_on_path s.shoens n h.number) s.rules b h p) s.shoens a)
 
 cap_stopped : (b : ℕ → ℕ) (o : Option Shoen) (n : ℕ) (s : State) → Cap b s → Cap b (stopped_of o n s)
 cap_stopped b None n s a = a

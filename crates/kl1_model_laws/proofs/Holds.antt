@@ -22,7 +22,7 @@ use Rattle.kl1_model.specs.Reduction.{Move, commits, raises, unifies, names, ope
 use Rattle.kl1_model.specs.code.Steps.{order_move, substitute_move, elements_in}
 use Rattle.kl1_model.specs.Asking.{elements_of}
 use Rattle.kl1_model.specs.Answering.{unanswered}
-use Rattle.kl1_model_laws.proofs.UnifySound.{HoldsInEachCase, holds_of_solution}
+use Rattle.kl1_model.proofs.UnifySound.{HoldsInEachCase, holds_of_solution}
 use Rattle.kl1_model.specs.Found.{Found, found, awaits, wrong}
 
 -- ---- terms

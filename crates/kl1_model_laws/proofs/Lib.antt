@@ -1,10 +1,5 @@
 pub mod ExampleRows
 pub mod JournalRows
-pub mod UnifySound
-pub mod UnifySolution
-pub mod UnifyAnswer
-pub mod UnifyDerivation
-pub mod UnifyFails
 pub mod AccountRowProofs
 pub mod HistoryRowProofs
 pub mod RunRowProofs

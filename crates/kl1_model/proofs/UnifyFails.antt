@@ -5,7 +5,7 @@ use Rattle.kl1_model.specs.code.Unifying.{replaced}
 use Rattle.kl1_model.specs.Unify.{Equation, replace_in_all, mgu}
 use Rattle.kl1_model.specs.laws.UnifyLaws.{bind, MakesEqual, FailureLeavesNone, FailureLeavesNoReplacements}
 use Rattle.kl1_model.proofs.Substitutions.{substituted-replace, values_of, replaced_is, arguments_equal, MakesEqual-same, replaced-MakesEqual}
-use Rattle.kl1_model_laws.proofs.UnifyAnswer.{HoldsOfEachAnswer, holds_of_answer}
+use Rattle.kl1_model.proofs.UnifyAnswer.{HoldsOfEachAnswer, holds_of_answer}
 
 is_some-option_map : {A B : Type 0} (f : A → B) (o : Option A) → IsSome o → IsSome (option_map f o)
 is_some-option_map f None h = absurd cc

@@ -7,9 +7,9 @@ use Rattle.kl1_model.proofs.TermFacts.{same_term-self}
 use Rattle.kl1_model.proofs.Substitutions.{values_of, replaced_is}
 use Rattle.kl1_model.proofs.UnifyRule.{nothing_solved}
 use Rattle.kl1_model.proofs.UnifySteps.{arguments_decide, left_takes_right, right_takes_left}
-use Rattle.kl1_model_laws.proofs.UnifySolution.{none_where_none_unify}
+use Rattle.kl1_model.proofs.UnifySolution.{none_where_none_unify}
 use Rattle.kl1_model.proofs.EqualSides.{equal_sides_dropped}
-use Rattle.kl1_model_laws.proofs.UnifyAnswer.{HoldsOfEachAnswer, holds_of_answer}
+use Rattle.kl1_model.proofs.UnifyAnswer.{HoldsOfEachAnswer, holds_of_answer}
 
 -- the answer is that of any derivation
 pub the_answer : {es : List Equation} {o : Option (List Replacement)} → Solves es o → mgu es ≡ o

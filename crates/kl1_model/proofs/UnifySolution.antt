@@ -9,7 +9,7 @@ use Rattle.kl1_model.specs.laws.UnifyLaws.{equate, bind, NumberedTo, AllNumbered
 use Rattle.kl1_model.proofs.TermFacts.{occurs-replace, occurs-replaced, replace-absent}
 use Rattle.kl1_model.proofs.Occurrences.{numbered-replace_in_all, numbered-arguments, Absent, absent-replace_in_all, absent-replaced, absent-arguments}
 use Rattle.kl1_model.proofs.Substitutions.{substituted-replace, values_of, replaced_is, equal_arguments, arguments_equal, MakesEqual-same, MakesEqual-replaced, replaced-MakesEqual}
-use Rattle.kl1_model_laws.proofs.UnifySound.{HoldsInEachCase, holds_of_solution}
+use Rattle.kl1_model.proofs.UnifySound.{HoldsInEachCase, holds_of_solution}
 
 -- ---- both sides become equal
 
