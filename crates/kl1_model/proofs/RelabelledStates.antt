@@ -125,16 +125,16 @@ changed g b w n f k s e =
 
 -- ---- replacing
 
-goal_replaced : (g : ℕ → ℕ) (v : ℕ) (t : Term) (k : Goal) → IsIncreasing g → replace_in_goal (g v) (renamed g t) (goal_renamed g k) ≡ goal_renamed g (replace_in_goal v t k)
-goal_replaced g v t k up = by_task k.task
-  where
-    abbrev made : Task → Goal
-    made x = record k { task = x }
+abbrev with_task : Goal → Task → Goal
+with_task k x = record k { task = x }
 
-    by_task : (x : Task) → replace_in_goal (g v) (renamed g t) (goal_renamed g (made x)) ≡ goal_renamed g (replace_in_goal v t (made x))
-    by_task monitor = refl
-    by_task (reduces u) = ap (λ y. made (reduces y)) (sym (replace_renamed g v t u up))
-    by_task (substitutes u) = ap (λ y. made (substitutes y)) (sym (replace_renamed g v t u up))
+task_replaced : (g : ℕ → ℕ) (v : ℕ) (t : Term) (k : Goal) (x : Task) → IsIncreasing g → replace_in_goal (g v) (renamed g t) (goal_renamed g (with_task k x)) ≡ goal_renamed g (replace_in_goal v t (with_task k x))
+task_replaced g v t k monitor up = refl
+task_replaced g v t k (reduces u) up = ap (λ y. with_task k (reduces y)) (sym (replace_renamed g v t u up))
+task_replaced g v t k (substitutes u) up = ap (λ y. with_task k (substitutes y)) (sym (replace_renamed g v t u up))
+
+goal_replaced : (g : ℕ → ℕ) (v : ℕ) (t : Term) (k : Goal) → IsIncreasing g → replace_in_goal (g v) (renamed g t) (goal_renamed g k) ≡ goal_renamed g (replace_in_goal v t k)
+goal_replaced g v t k up = task_replaced g v t k k.task up
 
 origin_replaced : (g : ℕ → ℕ) (v : ℕ) (t : Term) (o : Option Origin) → IsIncreasing g → option_map (replace_in_origin (g v) (renamed g t)) (option_map (origin_renamed g) o) ≡ option_map (origin_renamed g) (option_map (replace_in_origin v t) o)
 origin_replaced g v t None up = refl

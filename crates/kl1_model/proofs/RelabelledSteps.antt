@@ -11,12 +11,12 @@ use Rattle.kl1_model.specs.Meaning.{nil, cell, highest, highest_in}
 use Rattle.kl1_model.specs.Nodes.{goal_nodes, goals_nodes, structures_of}
 use Rattle.kl1_model.specs.Unify.{mgu}
 use Rattle.kl1_model.specs.Module.{Clause, goals_of, Module, Reading, good, bad, read_module}
-use Rattle.kl1_model.specs.Match.{call_of, Candidate, candidates_of, module_of, term_at}
+use Rattle.kl1_model.specs.Match.{Call, call_of, Candidate, candidates_of, module_of, term_at}
 use Rattle.kl1_model.specs.Instance.{head_variables, fresh_variables, body_variable, body_instance, body_priorities}
 use Rattle.kl1_model.specs.Look.{ExecuteArguments, number_of_term, goal_look}
 use Rattle.kl1_model.specs.Control.{Control, awaits_message, tells, tells_other, ends, breaks_off, control_of, message_term, message_nodes}
 use Rattle.kl1_model.specs.State.{Task, monitor, reduces, substitutes, Goal, Origin, Shoen, State, has_substitutes, has_runs, has_told, has_forgetting, limits_of, fresh_with, goal_at, shoen_at, names_of, names_of_module, with_name, with_names, replace_in_state, replace_all, change_shoen, without_goal, is_living}
-use Rattle.kl1_model.specs.Tree.{path, charge, is_enabled}
+use Rattle.kl1_model.specs.Tree.{path, charge, is_enabled, is_on_path}
 use Rattle.kl1_model.specs.Event.{Refusal, syntax, exists, no_shoen, shoen_ended, step_refused, too_many_names, limit_passed, journal_full, sessions_refused, answer_refused, Event, load, start, control, reduce, read, login, logout, reset, answer, forget, Reply, loaded, opened, sent, reduced, welcome, bye, was_reset, forgot, Transition, refuse, is_number, unless, are_too_many, is_full, needs_entry, with_entry, with_reduction}
 use Rattle.kl1_model.specs.Report.{report, is_reported, exception, exception_with, failure, illegal_input, exhaustion, started_report, exhausted_report, stopped_report, resumed_report}
 use Rattle.kl1_model.specs.Ending.{without_monitor, settle, after_reduction, abort}
@@ -81,17 +81,17 @@ numbers_are : (g : ℕ → ℕ) (ks : List Candidate) → map (λ k. k.number) (
 numbers_are g [] = refl
 numbers_are g (k ∷ ks) = ap (λ (l : List ℕ). k.number ∷ l) (numbers_are g ks)
 
+abbrev clauses_by : List Module → Option Call → List ℕ
+clauses_by modules o = 0 ∷ elim o [ None ↦ [] | Some call ↦ map (λ k. k.number) (candidates_of modules call) ]
+
+clauses_by_are : (g : ℕ → ℕ) (modules : List Module) (o : Option Call) → IsIncreasing g → clauses_by modules (option_map (call_renamed g) o) ≡ clauses_by modules o
+clauses_by_are g modules None up = refl
+clauses_by_are g modules (Some call) up = ap (λ (l : List ℕ). 0 ∷ l) (ap (map (λ k. k.number)) (candidates_renamed g modules call up) ∙ numbers_are g (candidates_of modules call))
+
 task_clauses_are : (g : ℕ → ℕ) (modules : List Module) (t : Task) → IsIncreasing g → task_clauses modules (task_renamed g t) ≡ task_clauses modules t
 task_clauses_are g modules monitor up = refl
 task_clauses_are g modules (substitutes t) up = refl
-task_clauses_are g modules (reduces t) up = ap with_call (call_is g t) ∙ by_call (call_of t)
-  where
-    with_call : Option _ → List ℕ
-    with_call o = 0 ∷ elim o [ None ↦ [] | Some call ↦ map (λ k. k.number) (candidates_of modules call) ]
-
-    by_call : (o : Option _) → with_call (option_map (call_renamed g) o) ≡ with_call o
-    by_call None = refl
-    by_call (Some call) = ap (λ (l : List ℕ). 0 ∷ l) (ap (map (λ k. k.number)) (candidates_renamed g modules call up) ∙ numbers_are g (candidates_of modules call))
+task_clauses_are g modules (reduces t) up = ap (clauses_by modules) (call_is g t) ∙ clauses_by_are g modules (call_of t) up
 
 some_action : (g : ℕ → ℕ) (o : Option Action) → is_some (option_map (action_renamed g) o) ≡ is_some o
 some_action g None = refl
@@ -128,7 +128,7 @@ first_goal_is g ks =
     find_same g (λ k. not (list_any (λ h. goes_before h k) ks)) (λ k. not (list_any (λ h. goes_before h k) (map (goal_renamed g) ks)))
     (λ k. ap not (any_same (goal_renamed g) (λ h. goes_before h k) (λ h. goes_before h (goal_renamed g k)) (λ h. refl) ks)) ks
 
-chosen_of : State → Option Goal → Option Chosen
+abbrev chosen_of : State → Option Goal → Option Chosen
 chosen_of s o = option_and_then (λ k. option_map (λ c. record { goal = k.number; clause = c }) (clause_for s k)) o
 
 chosen_is : (g : ℕ → ℕ) (b : Bool) (w : List ℕ) (s : State) (o : Option Goal) → IsIncreasing g → AreAlike b s.work w → chosen_of (like g w s) (option_map (goal_renamed g) o) ≡ chosen_of s o
@@ -190,13 +190,13 @@ room_for_child g b w s parent = ap (λ (ns : List ℕ). nat_lt s.last_shoen (lim
 
 -- ---- commits
 
+renamed_if : (g : ℕ → ℕ) (c : Bool) (x y u v : Term) → x ≡ renamed g u → y ≡ renamed g v → (if c then x else y) ≡ renamed g (if c then u else v)
+renamed_if g true x y u v e f = e
+renamed_if g false x y u v e f = f
+
 term_at_is : (g : ℕ → ℕ) (ps : List Replacement) (v : ℕ) (t : Term) → term_at (map (place_renamed g) ps) v (renamed g t) ≡ renamed g (term_at ps v t)
 term_at_is g [] v t = refl
-term_at_is g (p ∷ ps) v t = by_number (p.number == v)
-  where
-    by_number : (c : Bool) → (if c then renamed g p.by else term_at (map (place_renamed g) ps) v (renamed g t)) ≡ renamed g (if c then p.by else term_at ps v t)
-    by_number true = refl
-    by_number false = term_at_is g ps v t
+term_at_is g (p ∷ ps) v t = renamed_if g (p.number == v) (renamed g p.by) (term_at (map (place_renamed g) ps) v (renamed g t)) p.by (term_at ps v t) refl (term_at_is g ps v t)
 
 body_variable_is : (g : ℕ → ℕ) (c : Clause) (ps : List Replacement) (last v : ℕ) → ShiftsFrom g last → body_variable c (map (place_renamed g) ps) (g last) v ≡ renamed g (body_variable c ps last v)
 body_variable_is g c ps last v on = by_head (nat_le v (head_variables c))
@@ -284,7 +284,7 @@ substituted_is g b w k kind t s fit =
           ap (λ n. substituted_with (goal_renamed g k) kind (renamed g t) n (like g w s)) (sym (next_number g s.last_variable on))
           ∙ ap (replaced_by (goal_renamed g k) (substitutes (variable (g new)))) r.is
           ∙ placed_is g b w k (substitutes (variable new)) (report k.shoen m u);
-      fits = r.fits;
+      fits = let f = r.fits in record { up = f.up; on = f.on; work = f.work };
     }
 
 pub raised_is : (g : ℕ → ℕ) (b : Bool) (w : List ℕ) (k : Goal) (kind : List ℕ) (t : Term) (s : State) → Fits g b w s → Becomes g b w (raised (goal_renamed g k) kind (renamed g t) (like g w s)) (raised k kind t s)
@@ -449,7 +449,7 @@ reduces_is g b w goal clause s fit =
 loads_is : (g : ℕ → ℕ) (b : Bool) (w : List ℕ) (r : Reading Module) (s : State) → Fits g b w s → Turns g b (load_module (like g w s) r) (load_module s r)
 loads_is g b w (bad line) s fit = (w, (refl, fit))
 loads_is g b w (good m) s fit =
-    turns_unless g
+    turns_unless g b w
     ((is_some (module_of s.modules m.name), exists) ∷ (are_too_many s.rules (with_names s.names (names_of_module m)), too_many_names)
     ∷ (not (nat_lt (length s.modules) MOST_MODULES), limit_passed) ∷ (is_full s, journal_full) ∷ [])
     (record { state = with_entry (with_module (like g w s) m); reply = loaded m.name }) (record { state = with_entry (with_module s m); reply = loaded m.name }) s fit (w, (refl, record { up = fit.up; on = fit.on; work = fit.work }))
@@ -540,7 +540,7 @@ sent_is g b w n m (variable v) s fit =
     record {
       is =
           ap (λ k. sent_with n m (g v) k (like g w s)) (sym (next_number g s.last_variable on))
-          ∙ ap (λ w. put (replace_in_state (g v) (cell w (variable (g next))) (like g w s))) (sym (message_is g m))
+          ∙ ap (λ x. put (replace_in_state (g v) (cell x (variable (g next))) (like g w s))) (sym (message_is g m))
           ∙ ap put (replaced g b w v (cell (message_term m) (variable next)) s up)
           ∙ changed g b w n (with_control_tail (variable next)) (with_control_tail (variable (g next))) after (control_tail_is g (variable next));
       fits = record { up = up; on = shifts_next g s.last_variable on; work = fit.work };
@@ -566,17 +566,17 @@ send_is g b w n m (Some h) s fit = send_by_is g b w n m h h.origin s fit
 abbrev elements_renamed : (ℕ → ℕ) → List Term → List Term
 elements_renamed g ts = map (renamed g) ts
 
+elements_if : (g : ℕ → ℕ) (c : Bool) (t : Term) (ts us : List Term) → us ≡ elements_renamed g ts → (if c then renamed g t ∷ us else []) ≡ elements_renamed g (if c then t ∷ ts else [])
+elements_if g true t ts us e = ap (λ (l : List Term). renamed g t ∷ l) e
+elements_if g false t ts us e = refl
+
 elements_are : (g : ℕ → ℕ) (t : Term) → elements_of (renamed g t) ≡ elements_renamed g (elements_of t)
 elements_are g (variable v) = refl
 elements_are g (integer i) = refl
 elements_are g (atom a) = refl
 elements_are g (structure f none) = refl
 elements_are g (structure f (more h none)) = refl
-elements_are g (structure f (more h (more t none))) = by_name (bytes_eq f (codes "."))
-  where
-    by_name : (c : Bool) → (if c then renamed g h ∷ elements_of (renamed g t) else []) ≡ elements_renamed g (if c then h ∷ elements_of t else [])
-    by_name true = ap (λ (l : List Term). renamed g h ∷ l) (elements_are g t)
-    by_name false = refl
+elements_are g (structure f (more h (more t none))) = elements_if g (bytes_eq f (codes ".")) h (elements_of t) (elements_of (renamed g t)) (elements_are g t)
 elements_are g (structure f (more h (more t (more u us)))) = refl
 
 got_is : (g : ℕ → ℕ) (ts : List Term) (n : ℕ) → slice_get (elements_renamed g ts) n ≡ option_map (renamed g) (slice_get ts n)
@@ -682,11 +682,9 @@ cells_are g (suc n) (integer i) = refl
 cells_are g (suc n) (atom a) = refl
 cells_are g (suc n) (structure f none) = refl
 cells_are g (suc n) (structure f (more h none)) = refl
-cells_are g (suc n) (structure f (more h (more t none))) = by_name (bytes_eq f (codes "."))
-  where
-    by_name : (c : Bool) → (if c then without_cells n (renamed g t) else structure f (more (renamed g h) (more (renamed g t) none))) ≡ renamed g (if c then without_cells n t else structure f (more h (more t none)))
-    by_name true = cells_are g n t
-    by_name false = refl
+cells_are g (suc n) (structure f (more h (more t none))) =
+    let s = structure f (more h (more t none)) in
+    renamed_if g (bytes_eq f (codes ".")) (without_cells n (renamed g t)) (renamed g s) (without_cells n t) s (cells_are g n t) refl
 cells_are g (suc n) (structure f (more h (more t (more u us)))) = refl
 
 reports_go : (g : ℕ → ℕ) (count : ℕ) (o : Origin) → without_reports count (origin_renamed g o) ≡ origin_renamed g (without_reports count o)
@@ -766,7 +764,7 @@ forgets_is g b w n count (Some h) s fit = forget_by_is g b w n count h h.origin 
 
 -- ---- steps
 
-turns : (g : ℕ → ℕ) (b : Bool) (w : List ℕ) (s : State) (e : Event) → Fits g b w s → IsBlind s e → is_reset e ≡ false → Turns g b (step (like g w s) e) (step s e)
+pub turns : (g : ℕ → ℕ) (b : Bool) (w : List ℕ) (s : State) (e : Event) → Fits g b w s → IsBlind s e → is_reset e ≡ false → Turns g b (step (like g w s) e) (step s e)
 turns g b w s (load text) fit blind r = turns_or g b w (nat_le (length text) MOST_SOURCE_BYTES) syntax (load_module (like g w s) (read_module text)) (load_module s (read_module text)) s fit (loads_is g b w (read_module text) s fit)
 turns g b w s (start allowance low high t) fit blind r = starts_is g b w allowance low high t s fit
 turns g b w s (control n m) fit blind r =

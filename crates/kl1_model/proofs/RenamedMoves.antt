@@ -8,6 +8,7 @@ use Rattle.kl1_model.specs.declared.rules.Rules.{Rules}
 use Rattle.kl1_model.specs.declared.number.Number.{Number}
 use Rattle.kl1_model.specs.declared.number.Number.TheVariants.{Value, Overflow, ZeroDivisor}
 use Rattle.kl1_model.specs.declared.message.Message.{Message}
+use Rattle.kl1_model.specs.declared.message.Message.TheVariants.{Stop, Start, Abort}
 use Rattle.kl1_model.specs.Text.{is_name_byte}
 use Rattle.kl1_model.specs.Term.{Term, variable, integer, atom, structure, Terms, none, more, count_of, substituted, each_substituted, Replacement}
 use Rattle.kl1_model.specs.Found.{Found, found, awaits, wrong, then_found, found_map, right_if}
@@ -387,7 +388,7 @@ words_is g false false false x y z = refl
 word_is : (g : ℕ → ℕ) (t : Term) → word_of (renamed g t) ≡ found_renamed g (word_of t)
 word_is g (variable v) = refl
 word_is g (integer i) = refl
-word_is g (atom a) = words_is g _ _ _ _ _ _
+word_is g (atom a) = words_is g (bytes_eq a (codes "stop")) (bytes_eq a (codes "start")) (bytes_eq a (codes "abort")) Stop Start Abort
 word_is g (structure f none) = refl
 word_is g (structure f (more n none)) = if_found g (bytes_eq f (codes "allow")) (allow_word (renamed g n)) wrong (allow_word n) wrong (allow_is g n) refl
 word_is g (structure f (more a (more b us))) = refl

@@ -101,15 +101,17 @@ arguments_renamed g none (more u us) es = refl
 arguments_renamed g (more t ts) none es = refl
 arguments_renamed g (more t ts) (more u us) es = ap (λ (l : List Equation). equate (renamed g t) (renamed g u) ∷ l) (arguments_renamed g ts us es)
 
--- replacements of renamed terms are a substitution of the terms
-pub then_renamed : (f : ℕ → Term) (g : ℕ → ℕ) (t : Term) → substituted f (renamed g t) ≡ substituted (λ v. f (g v)) t
-pub then_each_renamed : (f : ℕ → Term) (g : ℕ → ℕ) (ts : Terms) → each_substituted f (each_renamed g ts) ≡ each_substituted (λ v. f (g v)) ts
-then_renamed f g (variable n) = refl
-then_renamed f g (integer i) = refl
-then_renamed f g (atom a) = refl
-then_renamed f g (structure h ts) = ap (structure h) (then_each_renamed f g ts)
-then_each_renamed f g none = refl
-then_each_renamed f g (more t ts) = ap₂ more (then_renamed f g t) (then_each_renamed f g ts)
+mutual
+  -- a substitution in a renamed term is one in the term
+  pub then_renamed : (f : ℕ → Term) (g : ℕ → ℕ) (t : Term) → substituted f (renamed g t) ≡ substituted (λ v. f (g v)) t
+  then_renamed f g (variable n) = refl
+  then_renamed f g (integer i) = refl
+  then_renamed f g (atom a) = refl
+  then_renamed f g (structure h ts) = ap (structure h) (then_each_renamed f g ts)
+
+  pub then_each_renamed : (f : ℕ → Term) (g : ℕ → ℕ) (ts : Terms) → each_substituted f (each_renamed g ts) ≡ each_substituted (λ v. f (g v)) ts
+  then_each_renamed f g none = refl
+  then_each_renamed f g (more t ts) = ap₂ more (then_renamed f g t) (then_each_renamed f g ts)
 
 still_never : (g : ℕ → ℕ) (t u : Term) → ((rs : List Replacement) → replaced rs t ≡ replaced rs u → ⊥) → (rs : List Replacement) → replaced rs (renamed g t) ≡ replaced rs (renamed g u) → ⊥
 still_never g t u never rs e =

@@ -25,26 +25,29 @@ use Rattle.kl1_model.proofs.RelabelledSteps.{transition_like, Turns, turns, quie
 -- ---- the same counts
 
 -- a list without the first that is this
-without_first : ℕ → List ℕ → List ℕ
+abbrev without_first : ℕ → List ℕ → List ℕ
 without_first x [] = []
 without_first x (m ∷ ms) = if m == x then ms else m ∷ without_first x ms
 
+out_by : (f : ℕ → Bool) (x m : ℕ) (ms : List ℕ) (b : Bool) → m == x ≡ b → (m == x ≡ false → count_by f ms ≡ count_by f (x ∷ without_first x ms)) →
+    count_by f (m ∷ ms) ≡ count_by f (x ∷ (if b then ms else m ∷ without_first x ms))
+out_by f x m ms true h e = count_cons f m ms ∙ ap (λ y. cond (f y) 1 0 + count_by f ms) (eqb-true m x h) ∙ sym (count_cons f x ms)
+out_by f x m ms false h e =
+    let ws = without_first x ms in
+    let one = count_cons f m ms in
+    let two = e h in
+    let three = count_cons f x ws in
+    let four = count_cons f x (m ∷ ws) in
+    let five = count_cons f m ws in
+    omega (arith, one, two, three, four, five)
+
 first_out : (f : ℕ → Bool) (x : ℕ) (w : List ℕ) (c : ℕ) → count_by (λ m. m == x) w ≡ suc c → count_by f w ≡ count_by f (x ∷ without_first x w)
 first_out f x [] c e = absurd (omega (arith, e))
-first_out f x (m ∷ ms) c e = by_case (m == x) refl
-  where
-    by_case : (b : Bool) → m == x ≡ b → count_by f (m ∷ ms) ≡ count_by f (x ∷ (if b then ms else m ∷ without_first x ms))
-    by_case true h = count_cons f m ms ∙ ap (λ y. cond (f y) 1 0 + count_by f ms) (eqb-true m x h) ∙ sym (count_cons f x ms)
-    by_case false h =
+first_out f x (m ∷ ms) c e = out_by f x m ms (m == x) refl
+    (λ h.
         let front = count_cons (λ k. k == x) m ms ∙ ap (λ b. cond b 1 0 + count_by (λ k. k == x) ms) h in
         let rest : count_by (λ k. k == x) ms ≡ suc c = omega (arith, front, e) in
-        let ws = without_first x ms in
-        let one = count_cons f m ms in
-        let two = first_out f x ms c rest in
-        let three = count_cons f x ws in
-        let four = count_cons f x (m ∷ ws) in
-        let five = count_cons f m ws in
-        omega (arith, one, two, three, four, five)
+        first_out f x ms c rest)
 
 is_empty : (w : List ℕ) → SameCounts [] w → w ≡ []
 is_empty [] a = refl
@@ -196,13 +199,13 @@ same_or : (c : Bool) (r : Refusal) (w : List ℕ) (s : State) (y x : Transition)
 same_or true r w s y x e = e
 same_or false r w s y x e = refl
 
+same_refused : (c : Bool) (r : Refusal) (w : List ℕ) (s : State) (y x : Transition) → y ≡ with_this w x → (if c then refuse (with_work w s) r else y) ≡ with_this w (if c then refuse s r else x)
+same_refused true r w s y x e = refl
+same_refused false r w s y x e = e
+
 same_unless : (rs : List (Bool × Refusal)) (w : List ℕ) (s : State) (y x : Transition) → y ≡ with_this w x → unless (with_work w s) rs y ≡ with_this w (unless s rs x)
 same_unless [] w s y x e = e
-same_unless (r ∷ rs) w s y x e = by_first r.0
-  where
-    by_first : (c : Bool) → (if c then refuse (with_work w s) r.1 else unless (with_work w s) rs y) ≡ with_this w (if c then refuse s r.1 else unless s rs x)
-    by_first true = refl
-    by_first false = same_unless rs w s y x e
+same_unless (r ∷ rs) w s y x e = same_refused r.0 r.1 w s (unless (with_work w s) rs y) (unless s rs x) (same_unless rs w s y x e)
 
 answer_by_same : (w : List ℕ) (s : State) (x : Given) (t : Term) (o : Option Asked) → answer_by (with_work w s) x t o ≡ with_this w (answer_by s x t o)
 answer_by_same w s x t None = refl
@@ -228,13 +231,13 @@ kept_if : (c : Bool) (r : Refusal) (s : State) (x : Transition) → x.state.work
 kept_if true r s x e = e
 kept_if false r s x e = refl
 
+kept_refused : (c : Bool) (r : Refusal) (s : State) (x : Transition) → x.state.work ≡ s.work → (if c then refuse s r else x).state.work ≡ s.work
+kept_refused true r s x e = refl
+kept_refused false r s x e = e
+
 kept_unless : (rs : List (Bool × Refusal)) (s : State) (x : Transition) → x.state.work ≡ s.work → (unless s rs x).state.work ≡ s.work
 kept_unless [] s x e = e
-kept_unless (r ∷ rs) s x e = by_first r.0
-  where
-    by_first : (c : Bool) → (if c then refuse s r.1 else unless s rs x).state.work ≡ s.work
-    by_first true = refl
-    by_first false = kept_unless rs s x e
+kept_unless (r ∷ rs) s x e = kept_refused r.0 r.1 s (unless s rs x) (kept_unless rs s x e)
 
 answer_by_keeps : (s : State) (x : Given) (t : Term) (o : Option Asked) → (answer_by s x t o).state.work ≡ s.work
 answer_by_keeps s x t None = refl
@@ -268,16 +271,12 @@ blind s w e a b r =
       sym (ap (λ u. step u e) (state_as_is w s)) ∙ t.1.0 ∙ ap (λ u. let y : Transition = record { state = u; reply = x.reply } in y) (state_as_is t.0 x.state)))
 
 answer_says : (s : State) (w : List ℕ) (n report : ℕ) (t : Term) → SameCounts s.work w → Says s w (answer n report t)
-answer_says s w n report t a = by_step (same_or (may_answer s.rules n report t) syntax w s (answer_to (with_work w s) report t (shoen_at n s.shoens)) (answer_to s report t (shoen_at n s.shoens)) (answer_to_same w s report t (shoen_at n s.shoens)))
-  where
-    x : Transition
-    x = step s (answer n report t)
-
-    kept : x.state.work ≡ s.work
-    kept = kept_if (may_answer s.rules n report t) syntax s (answer_to s report t (shoen_at n s.shoens)) (answer_to_keeps s report t (shoen_at n s.shoens))
-
-    by_step : step (with_work w s) (answer n report t) ≡ with_this w x → Says s w (answer n report t)
-    by_step e = (w, (λ m. ap (count_by (λ k. k == m)) kept ∙ a m, e))
+answer_says s w n report t a =
+    let h = shoen_at n s.shoens in
+    let may = may_answer s.rules n report t in
+    let kept : (step s (answer n report t)).state.work ≡ s.work = kept_if may syntax s (answer_to s report t h) (answer_to_keeps s report t h) in
+    let same : step (with_work w s) (answer n report t) ≡ with_this w (step s (answer n report t)) = same_or may syntax w s (answer_to (with_work w s) report t h) (answer_to s report t h) (answer_to_same w s report t h) in
+    (w, (λ m. ap (count_by (λ k. k == m)) kept ∙ a m, same))
 
 pub order_of_work_is_nothing : OrderOfWorkIsNothing
 order_of_work_is_nothing s w (load text) a = blind s w (load text) a tt refl

@@ -1,12 +1,12 @@
 -- What holds of each variable of a goal holds of each variable of what its step makes of it.
-use Rattle.std.proofs.Common.{◌≡◌, ◌≤◌, ◌<◌, ℕ, zero, suc, ◌-◌, ◌==◌, ◌&&◌, Bool, true, false, if◌then◌else◌, List, [], ◌∷◌, ◌++◌, max, refl, sym, ap, ap₂, subst, arith}
+use Rattle.std.proofs.Common.{◌≡◌, ◌≤◌, ◌<◌, ℕ, zero, suc, ◌-◌, ◌==◌, ◌&&◌, ◌||◌, Bool, true, false, if◌then◌else◌, List, [], ◌∷◌, ◌++◌, max, refl, sym, ap, ap₂, subst, arith}
 use Rattle.std.specs.Prelude.{nat_le, find, slice_get, codes, bytes_eq, Option, Some, None, option_map, option_and_then, ⊤}
 use Rattle.std.specs.List.{AllByRecursion}
-use Rattle.std.proofs.lemmas.Bool.{and_parts, leb-true, cond_both, ne_eqb}
+use Rattle.std.proofs.lemmas.Bool.{and_parts, leb-true, cond_both, eqb-true, ne_eqb, false≢true}
 use Rattle.std.proofs.Math.Nat.{le-max_left, le-max_right}
 use Rattle.kl1_model.specs.declared.number.Number.{Number}
 use Rattle.kl1_model.specs.declared.number.Number.TheVariants.{Value, Overflow, ZeroDivisor}
-use Rattle.kl1_model.specs.Term.{Term, variable, integer, atom, structure, Terms, none, more, count_of, replace, replace_each, Replacement, substituted, each_substituted}
+use Rattle.kl1_model.specs.Term.{Term, variable, integer, atom, structure, Terms, none, more, count_of, occurs, occurs_in, replace, replace_each, Replacement, substituted, each_substituted}
 use Rattle.kl1_model.specs.Meaning.{nil, variables_of, variables_in, highest, highest_in, numbered_after}
 use Rattle.kl1_model.specs.Arithmetic.{evaluated}
 use Rattle.kl1_model.specs.Unify.{Equation, argument_equations, replace_in_all, mgu}
@@ -17,11 +17,13 @@ use Rattle.kl1_model.specs.code.Sections.{candidates_within, candidates_from}
 use Rattle.kl1_model.proofs.SectionRuns.{candidates_walked}
 use Rattle.kl1_model.specs.Look.{spelling, ExecuteArguments, arguments_look}
 use Rattle.kl1_model.specs.declared.rules.Rules.{Rules}
-use Rattle.kl1_model.specs.State.{most_spelled}
+use Rattle.kl1_model.specs.State.{Origin, most_spelled}
 use Rattle.kl1_model.specs.Reduction.{Move, commits, raises, unifies, names, opens, goes, gives_way, failure, call_move, becomes, execute_arguments, execute_move, pair_move, built_in_move, term_move, equation, move_found}
 use Rattle.kl1_model.specs.code.Steps.{order_move, substitute_move, elements_in}
 use Rattle.kl1_model.specs.Asking.{elements_of}
-use Rattle.kl1_model.specs.Answering.{unanswered}
+use Rattle.kl1_model.specs.Answering.{asked, asked_at}
+use Rattle.kl1_model.specs.Telling.{Asked}
+use Rattle.kl1_model.specs.Forgetting.{without_cells}
 use Rattle.kl1_model.proofs.UnifySound.{HoldsInEachCase, holds_of_solution}
 use Rattle.kl1_model.specs.Found.{Found, found, awaits, wrong}
 
@@ -115,7 +117,8 @@ split P [] ws a = (tt, a)
 split P (v ∷ vs) ws a = let more = split P vs ws a.1 in ((a.0, more.0), more.1)
 
 mutual
-  listed : (P : ℕ → Type 0) (t : Term) → AllByRecursion P (variables_of t) → Holds P t
+  -- a fact of each variable that is listed
+  pub listed : (P : ℕ → Type 0) (t : Term) → AllByRecursion P (variables_of t) → Holds P t
   listed P (variable v) a = a.0
   listed P (integer i) a = tt
   listed P (atom a) b = tt
@@ -386,25 +389,56 @@ mutual
   listed_each P f (more t (more u none)) h = if_each (bytes_eq f (codes ".")) P (t ∷ elements_of u) [] (h.0, listed_holds P u h.1.0) tt
   listed_each P f (more t (more u (more w ts))) h = tt
 
--- a fact holds of a variable that may be there
-abbrev MayBe : (ℕ → Type 0) → Option ℕ → Type 0
-MayBe P None = Unit {0}
-MayBe P (Some v) = P v
+-- a fact holds of the variables of the exception by which a substitute waits, if one does
+abbrev OfAsked : (ℕ → Type 0) → Option Asked → Type 0
+OfAsked P None = Unit {0}
+OfAsked P (Some a) = Holds P a.goal × P a.new
 
-if_maybe : (c : Bool) (P : ℕ → Type 0) (v : ℕ) → P v → MayBe P (if c then Some v else None)
-if_maybe true P v h = h
-if_maybe false P v h = tt
+if_asked : (c : Bool) (P : ℕ → Type 0) (a : Asked) → Holds P a.goal × P a.new → OfAsked P (if c then Some a else None)
+if_asked true P a h = h
+if_asked false P a h = tt
 
-in_report : (P : ℕ → Type 0) (t : Term) → Holds P t → MayBe P (unanswered t)
-in_report P (structure f (more kind (more goal (more (variable v) none)))) h = if_maybe (bytes_eq f (codes "exception")) P v h.1.1.0
+in_report : (P : ℕ → Type 0) (t : Term) → Holds P t → OfAsked P (asked t)
+in_report P (structure f (more kind (more goal (more (variable v) none)))) h = if_asked (bytes_eq f (codes "exception")) P (record { goal = goal; new = v }) (h.1.0, h.1.1.0)
 in_report P t h = tt
 
-in_reports : (P : ℕ → Type 0) (ts : List Term) (n : ℕ) → Each P ts → MayBe P (option_and_then unanswered (slice_get ts n))
+in_reports : (P : ℕ → Type 0) (ts : List Term) (n : ℕ) → Each P ts → OfAsked P (option_and_then asked (slice_get ts n))
 in_reports P [] n a = tt
 in_reports P (t ∷ ts) zero a = in_report P t a.0
 in_reports P (t ∷ ts) (suc n) a = in_reports P ts n a.1
 
--- what holds of the variables of reports holds of the one that a substitute waits for by one of them
+if_kept : (c : Bool) (P : ℕ → Type 0) (a : Option Asked) → OfAsked P a → OfAsked P (if c then None else a)
+if_kept true P a h = tt
+if_kept false P a h = h
+
+-- what holds of the variables of reports holds of those of the exception by which a substitute waits
+pub holds_asked : (P : ℕ → Type 0) (o : Origin) (report : ℕ) (a : Asked) → Holds P o.reports → asked_at o report ≡ Some a → Holds P a.goal × P a.new
+holds_asked P o report a h e =
+    let n = report - 1 - o.forgotten in
+    subst (OfAsked P) e (if_kept (nat_le report o.forgotten) P (option_and_then asked (slice_get (elements_of o.reports) n)) (in_reports P (elements_of o.reports) n (listed_holds P o.reports h)))
+
+-- and of those of the reports that are left
+pub holds_without : (P : ℕ → Type 0) (count : ℕ) (t : Term) → Holds P t → Holds P (without_cells count t)
+holds_without P zero t k = k
+holds_without P (suc count) (structure f (more h (more t none))) k =
+    cond_both (bytes_eq f (codes ".")) (without_cells count t) (structure f (more h (more t none))) (Holds P) (λ _. holds_without P count t k.1.0) (λ _. k)
+holds_without P (suc count) t k = k
+
+pub either : (b c : Bool) (X : Type 0) → (b || c) ≡ true → (b ≡ true → X) → (c ≡ true → X) → X
+either true c X e f g = f refl
+either false c X e f g = g e
+
+mutual
+  -- a fact holds of a variable that occurs
+  pub holds_occurring : (P : ℕ → Type 0) (v : ℕ) (t : Term) → Holds P t → occurs v t ≡ true → P v
+  holds_occurring P v (variable n) h e = subst P (sym (eqb-true v n e)) h
+  holds_occurring P v (integer i) h e = absurd (false≢true e)
+  holds_occurring P v (atom a) h e = absurd (false≢true e)
+  holds_occurring P v (structure f ts) h e = each_occurring P v ts h e
+
+  each_occurring : (P : ℕ → Type 0) (v : ℕ) (ts : Terms) → HoldsEach P ts → occurs_in v ts ≡ true → P v
+  each_occurring P v none h e = absurd (false≢true e)
+  each_occurring P v (more t ts) h e = either (occurs v t) (occurs_in v ts) (P v) e (λ f. holds_occurring P v t h.0 f) (λ f. each_occurring P v ts h.1 f)
 
 pub holds_term_at : (P : ℕ → Type 0) (ps : List Replacement) (v : ℕ) → Places P ps → Holds P (term_at ps v nil)
 holds_term_at P [] v a = tt

@@ -19,6 +19,7 @@ pub mod Endings
 pub mod Aborts
 pub mod Idle
 pub mod Holds
+pub mod GivenPlaces
 pub mod Each
 pub mod Owners
 pub mod Tails

@@ -105,7 +105,10 @@ module _ (P : State → Type 0) (k : Keeping P) where
 
   answers_by : (s : State) (n report : ℕ) (t : Term) (h : Shoen) (o : Origin) (v : Option Asked) → asked_at o report ≡ v → h.origin ≡ Some o → shoen_at n s.shoens ≡ Some h → has_room_to_answer s (given s v t).new t ≡ true → Answers s n report t → Holds (answer_by s (given s v t) t v)
   answers_by s n report t h o None e origin there room a = a.holds
-  answers_by s n report t h o (Some v) e origin there room a = k.answers s n report v t h o a.tree there origin a.may room e a.holds
+  answers_by s n report t h o (Some v) e origin there room a =
+      let g = given s (Some v) t in
+      holds_unless s ((g.tells_gone, answer_refused) ∷ []) (record { state = with_entry (answered v.new g t s); reply = sent }) a.holds
+      (k.answers s n report v t h o a.tree there origin a.may room e a.holds)
 
   answers_in : (s : State) (n report : ℕ) (t : Term) (h : Shoen) (o : Option Origin) → h.origin ≡ o → shoen_at n s.shoens ≡ Some h → Answers s n report t → Holds (answer_in s report t h o)
   answers_in s n report t h None e there a = a.holds

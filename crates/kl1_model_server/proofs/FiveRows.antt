@@ -19,11 +19,11 @@ use Rattle.kl1_model_server.specs.Script.{done_by}
 -- an account with its journal after lines of commands
 abbrev after : Kept → List (List ℕ) → Kept
 after k [] = k
-after k (l ∷ ls) = after (done_by k (parse l)).kept ls
+after k (l ∷ ls) = after (done_by k (parse k.state.rules l)).kept ls
 
 -- the lines of the reply to a command
 abbrev told : Kept → List ℕ → List (List ℕ)
-told k l = reply_lines (done_by k (parse l)).reply
+told k l = reply_lines (done_by k (parse k.state.rules l)).reply
 
 -- an account whose goal has asked the console for a term
 abbrev asking : Rules → Kept
@@ -52,22 +52,47 @@ told_counts_nothing_row : counts (after (asking Five) (codes "answer 1 2 _1 = so
 unfolding digits tokens_within expression_at parted_by grouped_by mgu_within path_within
 told_counts_nothing_row = refl
 
--- one that stands in no goal of the exception is new, as each that is written otherwise: in order of first occurrence
-others_are_new_row : told (after (asking Five) (codes "answer 1 2 _1 = f(_2,X,_2)" ∷ codes "run 9" ∷ [])) (codes "value 1") ≡ codes "+ console:read(f(_7,_8,_7))" ∷ []
+-- one that the account hasn't made yet is new, as each that is written otherwise: in order of first occurrence
+others_are_new_row : told (after (asking Five) (codes "answer 1 2 _1 = f(_99,X,_99)" ∷ codes "run 9" ∷ [])) (codes "value 1") ≡ codes "+ console:read(f(_7,_8,_7))" ∷ []
 unfolding digits tokens_within expression_at parted_by grouped_by mgu_within path_within
 others_are_new_row = refl
 
 -- new ones alone count
-others_count_row : counts (after (asking Five) (codes "answer 1 2 _1 = f(_2,X,_2)" ∷ [])) ≡ 8 ∷ 5 ∷ 3 ∷ []
+others_count_row : counts (after (asking Five) (codes "answer 1 2 _1 = f(_99,X,_99)" ∷ [])) ≡ 8 ∷ 5 ∷ 3 ∷ []
 unfolding digits tokens_within expression_at parted_by grouped_by mgu_within path_within
 others_count_row = refl
 
--- what the substitute waits for is new too, so that no term holds itself
-awaited_is_new_row : told (after (asking Five) (codes "answer 1 2 _1 = f(_5)" ∷ codes "run 9" ∷ [])) (codes "value 1") ≡ codes "+ console:read(f(_7))" ∷ []
+-- one that the account has made, and that doesn't stand in the goal, is refused
+gone_is_refused_row : told (asking Five) (codes "answer 1 2 _1 = f(_2)") ≡ codes "- 13 answer" ∷ []
 unfolding digits tokens_within expression_at parted_by grouped_by mgu_within path_within
-awaited_is_new_row = refl
+gone_is_refused_row = refl
 
--- so is one with a leading zero
+-- so is what the substitute waits for, so that no term holds itself
+awaited_is_refused_row : told (asking Five) (codes "answer 1 2 _1 = f(_5)") ≡ codes "- 13 answer" ∷ []
+unfolding digits tokens_within expression_at parted_by grouped_by mgu_within path_within
+awaited_is_refused_row = refl
+
+-- and the last that the account has made
+last_is_refused_row : told (asking Five) (codes "answer 1 2 _1 = f(_6)") ≡ codes "- 13 answer" ∷ []
+unfolding digits tokens_within expression_at parted_by grouped_by mgu_within path_within
+last_is_refused_row = refl
+
+-- the one after it is new
+next_is_new_row : told (after (asking Five) (codes "answer 1 2 _1 = f(_7)" ∷ codes "run 9" ∷ [])) (codes "value 1") ≡ codes "+ console:read(f(_7))" ∷ []
+unfolding digits tokens_within expression_at parted_by grouped_by mgu_within path_within
+next_is_new_row = refl
+
+-- such a refusal leaves the account as it was
+refused_changes_nothing_row : counts (after (asking Five) (codes "answer 1 2 _1 = f(_2)" ∷ [])) ≡ 6 ∷ 3 ∷ 2 ∷ []
+unfolding digits tokens_within expression_at parted_by grouped_by mgu_within path_within
+refused_changes_nothing_row = refl
+
+-- a variable that was bound since is refused too
+bound_since_is_refused_row : told (after (asking Five) (codes "answer 1 2 _1 = g(_99)" ∷ codes "run 9" ∷ codes "answer 1 4 _1 = 3" ∷ [])) (codes "answer 1 4 _1 = 3") ≡ codes "- 13 answer" ∷ []
+unfolding digits tokens_within expression_at parted_by grouped_by mgu_within path_within
+bound_since_is_refused_row = refl
+
+-- one with a leading zero is new
 leading_zero_is_new_row : told (after (asking Five) (codes "answer 1 2 _01 = 3" ∷ codes "run 9" ∷ [])) (codes "value 1") ≡ codes "+ console:read(_1)" ∷ []
 unfolding digits tokens_within expression_at parted_by grouped_by mgu_within path_within
 leading_zero_is_new_row = refl
@@ -78,12 +103,12 @@ unfolding digits tokens_within expression_at parted_by grouped_by mgu_within pat
 line_of_an_answer_row = refl
 
 -- and its line is read as that entry
-line_reads_back_row : entry_in (codes "answer 1 2 '='(_4611686018427387904,f(_1))") ≡ Some (answers 1 2 (pair (codes "=") (variable 4611686018427387904) (structure (codes "f") (more (variable 1) none))))
+line_reads_back_row : entry_in Five (codes "answer 1 2 '='(_4611686018427387904,f(_1))") ≡ Some (answers 1 2 (pair (codes "=") (variable 4611686018427387904) (structure (codes "f") (more (variable 1) none))))
 unfolding digits tokens_within expression_at parted_by grouped_by mgu_within path_within
 line_reads_back_row = refl
 
 -- other numbers for them are a fault
-line_in_another_order_row : entry_in (codes "answer 1 2 '='(_4611686018427387905,1)") ≡ None
+line_in_another_order_row : entry_in Five (codes "answer 1 2 '='(_4611686018427387905,1)") ≡ None
 unfolding digits tokens_within expression_at parted_by grouped_by mgu_within path_within
 line_in_another_order_row = refl
 
@@ -92,7 +117,17 @@ fourth_as_before_row : noted_lines (after (asking Four) (codes "answer 1 2 _1 = 
 unfolding digits tokens_within expression_at parted_by grouped_by mgu_within path_within
 fourth_as_before_row = refl
 
--- and they count
+-- which is read by their rules alone
+fourth_line_row : entry_in Four (codes "answer 1 2 '='(_1,f(_2,_3))") ≡ Some (answers 1 2 (pair (codes "=") (variable 1) (structure (codes "f") (more (variable 2) (more (variable 3) none)))))
+unfolding digits tokens_within expression_at parted_by grouped_by mgu_within path_within
+fourth_line_row = refl
+
+-- a line that tells variables is a fault by them
+fourth_told_line_row : entry_in Four (codes "answer 1 2 '='(_4611686018427387904,f(_1))") ≡ None
+unfolding digits tokens_within expression_at parted_by grouped_by mgu_within path_within
+fourth_told_line_row = refl
+
+-- new variables count
 fourth_counts_all_row : counts (after (asking Four) (codes "answer 1 2 _1 = f(_2,X)" ∷ [])) ≡ 9 ∷ 6 ∷ 3 ∷ []
 unfolding digits tokens_within expression_at parted_by grouped_by mgu_within path_within
 fourth_counts_all_row = refl
@@ -173,22 +208,27 @@ unfolding digits tokens_within expression_at parted_by grouped_by mgu_within pat
 line_of_forget_row = refl
 
 -- whose line is read
-forget_reads_back_row : entry_in (codes "forget 1 0") ≡ Some (forgets 1 0)
+forget_reads_back_row : entry_in Five (codes "forget 1 0") ≡ Some (forgets 1 0)
 unfolding digits tokens_within expression_at parted_by grouped_by mgu_within path_within
 forget_reads_back_row = refl
 
--- by the fourth rules there is none
+-- by the fourth rules it is a fault
+fourth_forget_line_row : entry_in Four (codes "forget 1 0") ≡ None
+unfolding digits tokens_within expression_at parted_by grouped_by mgu_within path_within
+fourth_forget_line_row = refl
+
+-- and such a command is none
 fourth_knows_no_forget_row : told (asking Four) (codes "forget 1 1") ≡ codes "- 1 syntax" ∷ []
 unfolding digits tokens_within expression_at parted_by grouped_by mgu_within path_within
 fourth_knows_no_forget_row = refl
 
--- the fifth rules have room for 16,384 names
+-- the fifth rules have room for 4,096 names, those before for 1,024
 more_names_row : map (λ rules. told (record { state = record (fresh rules (codes "alice")) { names = replicate 1024 (codes "n") }; journal = new_journal rules [] 0 }) (codes "start 9 0 9 X = y")) (Four ∷ Five ∷ []) ≡ (codes "- 7 names" ∷ []) ∷ (codes "+ shoen 1" ∷ []) ∷ []
 unfolding digits tokens_within expression_at parted_by grouped_by mgu_within path_within
 more_names_row = refl
 
 -- and their journals tell more
-headings_row : map (λ line. option_map (λ h. h.names) (heading_in line)) (codes "journal 5 0 16384" ∷ codes "journal 5 0 16385" ∷ codes "journal 4 0 1025" ∷ codes "journal 6 0 0" ∷ []) ≡ Some 16384 ∷ None ∷ None ∷ None ∷ []
+headings_row : map (λ line. option_map (λ h. h.names) (heading_in line)) (codes "journal 5 0 4096" ∷ codes "journal 5 0 4097" ∷ codes "journal 4 0 1025" ∷ codes "journal 6 0 0" ∷ []) ≡ Some 4096 ∷ None ∷ None ∷ None ∷ []
 unfolding digits tokens_within expression_at parted_by grouped_by mgu_within path_within
 headings_row = refl
 

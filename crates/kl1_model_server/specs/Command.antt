@@ -16,6 +16,7 @@ use Rattle.kl1_model.specs.Choice.{first}
 use Rattle.kl1_model.specs.Record.{Request, load_of, spoiled_load, other_line}
 use Rattle.kl1_model_server.specs.Journal.{Kept, Done, done}
 use Rattle.kl1_model_server.specs.JournalText.{page_of}
+pub use Rattle.kl1_model_server.specs.TextParts.{written_line, written_lines}
 
 -- a command: an event; a run of at most n steps; or the journal's lines from number n on, the first being 1, at most m of them
 pub data Command : Type 0 where
@@ -155,12 +156,3 @@ reply_lines bye = codes "+ bye" ∷ []
 reply_lines was_reset = codes "+ reset" ∷ []
 reply_lines forgot = codes "+ forgotten" ∷ []
 reply_lines (refused r) = (codes "- " ++ refusal_text r) ∷ []
-
--- a line as it is written
-abbrev pub written_line : List ℕ → List ℕ
-written_line line = line ++ 10 ∷ []
-
--- lines as they are written
-abbrev pub written_lines : List (List ℕ) → List ℕ
-written_lines [] = []
-written_lines (line ∷ lines) = written_line line ++ written_lines lines

@@ -14,6 +14,7 @@ use Rattle.kl1_model.specs.Answering.{answer_line, is_numbered_by}
 use Rattle.kl1_model_server.specs.Command.{written_lines}
 use Rattle.kl1_model_server.specs.Journal.{Entry, loads, starts, sends, steps, answers, forgets, runs, Journal, Kept, fresh_kept, done}
 use Rattle.kl1_model_server.specs.JournalText.{entry_line, name_line, heading_line, journal_lines, entry_in, name_in, is_new_name, Heading, heading_in, lines_of, journal_in}
+pub use Rattle.kl1_model_server.specs.TextParts.{are_new_names}
 
 -- each is a byte
 abbrev pub AreBytes : List ℕ → Type 0
@@ -66,11 +67,6 @@ LinesOfLines = (lines : List (List ℕ)) (rest : List ℕ) → IsTrue (list_all 
 -- a text is its lines as they are written, and then its rest; none of these has a line feed
 abbrev pub TextsAreLines : Type 0
 TextsAreLines = (text : List ℕ) → (written_lines (lines_of text).whole ++ (lines_of text).rest ≡ text) × IsTrue (list_all is_unbroken (lines_of text).whole) × IsTrue (is_unbroken (lines_of text).rest)
-
--- whether names may follow these in a journal: each is the text of a name, isn't built in and isn't among those before it
-abbrev pub are_new_names : List (List ℕ) → List (List ℕ) → Bool
-are_new_names before [] = true
-are_new_names before (t ∷ ts) = is_text t && is_new_name before t && are_new_names (before ++ t ∷ []) ts
 
 -- names that an account that keeps to these rules may have used: there aren't too many, each is the text of a name, none is built in, and no two are the same
 pub record AreNames (rules : Rules) (names : List (List ℕ)) : Type 0 where
