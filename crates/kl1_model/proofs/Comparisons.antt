@@ -12,7 +12,7 @@ use Rattle.kl1_model.specs.code.Comparing.{Passive, same, differs, unknown, pass
 use Rattle.kl1_model.specs.code.Waits.{LeavesEach}
 use Rattle.kl1_model.specs.laws.Clashes.{CompareIsEqual, CompareIsOnPath}
 use Rattle.kl1_model.specs.laws.CompareLaws.{Stays, CompareStays, CompareWaits, CompareIsParts}
-use Rattle.kl1_model.specs.laws.PlainAnswers.{Plain, surely, never, not_yet, plain, plain_same}
+use Rattle.kl1_model.specs.laws.PlainAnswers.{surely, never, plain, plain_same}
 use Rattle.kl1_model.specs.laws.PlainLaws.{ComparisonsStand}
 use Rattle.kl1_model.proofs.TermFacts.{same_term_decides}
 use Rattle.kl1_model.proofs.Clashes.{no_clash, same_is_equal, differs_on_path}

@@ -1,14 +1,14 @@
 -- Outcomes of tests when variables are replaced.
-use Rattle.std.proofs.Common.{◌≡◌, ℕ, suc, ◌+◌, ◌-◌, ◌≤◌, ◌==◌, Bool, true, false, if◌then◌else◌, List, [], ◌∷◌, ◌++◌, refl, sym, ap, ap₂, ◌∙◌, arith, inl, inr}
+use Rattle.std.proofs.Common.{◌≡◌, ℕ, suc, ◌+◌, ◌-◌, ◌≤◌, ◌==◌, Bool, true, false, if◌then◌else◌, List, [], ◌∷◌, refl, sym, ap, ap₂, ◌∙◌, arith, inl, inr}
 use Rattle.std.specs.Prelude.{nat_le, bytes_eq, codes, Option, Some, None, option_map}
-use Rattle.std.proofs.lemmas.Bool.{cond-true, cond-false, eqb-true, leb-true, le-leb, false_from_ne_true, false≢true}
+use Rattle.std.proofs.lemmas.Bool.{cond-true, cond-false, leb-true, le-leb, false_from_ne_true, false≢true}
 use Rattle.std.proofs.lemmas.Bool.Decides.{leb_tells}
 use Rattle.kl1_model.specs.declared.comparison.Comparison.{Comparison}
 use Rattle.kl1_model.specs.declared.type_test.TypeTest.{TypeTest}
 use Rattle.kl1_model.specs.declared.type_test.TypeTest.TheVariants as look_for
 use Rattle.kl1_model.specs.Term.{Term, variable, integer, atom, structure, Terms, none, more, terms_of, substituted, each_substituted, Replacement}
 use Rattle.kl1_model.specs.Meaning.{highest, highest_in}
-use Rattle.kl1_model.specs.Answer.{Answer, yes, no, wait, together, opposite, known, awaited_in}
+use Rattle.kl1_model.specs.Answer.{Answer, yes, no, wait, opposite, known, awaited_in}
 use Rattle.kl1_model.specs.Same.{compare}
 use Rattle.kl1_model.specs.Arithmetic.{evaluated}
 use Rattle.kl1_model.specs.Guard.{Test, holds, looks, is_same, is_other, compares, test_of, type_test_named, comparison_named, test_substituted, is_found, look, sides_answer, test_answer}

@@ -1,5 +1,5 @@
 -- The answers of tests without what they wait for are what they were, whatever the numbers of their variables.
-use Rattle.std.proofs.Common.{◌≡◌, ℕ, ◌≤◌, Bool, true, false, if◌then◌else◌, List, refl, sym, ap, ap₂, ◌∙◌, arith}
+use Rattle.std.proofs.Common.{◌≡◌, ℕ, ◌≤◌, Bool, true, false, if◌then◌else◌, refl, sym, ap, ap₂, ◌∙◌, arith}
 use Rattle.std.specs.Prelude.{bytes_eq, codes, Option, Some, None, option_map}
 use Rattle.kl1_model.specs.declared.comparison.Comparison.{Comparison}
 use Rattle.kl1_model.specs.declared.type_test.TypeTest.{TypeTest}
@@ -13,7 +13,7 @@ use Rattle.kl1_model.specs.code.Comparing.{Passive, same, differs, unknown, pass
 use Rattle.kl1_model.specs.Arithmetic.{evaluated}
 use Rattle.kl1_model.specs.Guard.{Test, holds, looks, is_same, is_other, compares, test_of, type_test_named, comparison_named, test_substituted, is_found, compared, numbers_answer, sides_answer}
 use Rattle.kl1_model.specs.Match.{option_answer}
-use Rattle.kl1_model.specs.laws.PlainAnswers.{Plain, surely, never, not_yet, plain, plain_together, plain_known, plain_same, plain_other, plain_numbers, plain_sides, plain_test, plain_by}
+use Rattle.kl1_model.specs.laws.PlainAnswers.{plain, plain_together, plain_known, plain_same, plain_other, plain_numbers, plain_sides, plain_test, plain_by}
 use Rattle.kl1_model.specs.laws.PlainLaws.{TestsStand}
 use Rattle.kl1_model.proofs.Comparisons.{compare_plain}
 use Rattle.kl1_model.proofs.Renamed.{renamed, each_renamed, IsOneToOne, passive_renamed, evaluated_renamed, comes_renamed, found_renamed}

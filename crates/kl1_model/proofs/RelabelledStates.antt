@@ -1,6 +1,6 @@
 -- Effects on accounts with other numbers for their variables: replacing, reports, ends.
-use Rattle.std.proofs.Common.{◌≡◌, ℕ, zero, suc, ◌+◌, ◌==◌, not, ◌&&◌, ◌||◌, Bool, true, false, if◌then◌else◌, List, [], ◌∷◌, ◌++◌, refl, sym, ap, ap₂, ◌∙◌, subst, arith}
-use Rattle.std.specs.Prelude.{nat_le, map, filter, length, count_by, cond, Option, Some, None, option_map, unwrap_or, is_some}
+use Rattle.std.proofs.Common.{◌≡◌, ℕ, suc, ◌+◌, ◌==◌, not, ◌&&◌, ◌||◌, Bool, true, false, if◌then◌else◌, List, [], ◌∷◌, refl, sym, ap, ap₂, ◌∙◌, subst}
+use Rattle.std.specs.Prelude.{nat_le, map, filter, count_by, cond, Option, Some, None, option_map, unwrap_or, is_some}
 use Rattle.std.specs.List.{list_any}
 use Rattle.std.proofs.lemmas.List.Sums.{sum_by-cons}
 use Rattle.kl1_model.specs.declared.life.Life.{Life}
@@ -10,7 +10,7 @@ use Rattle.kl1_model.specs.Term.{Term, variable, integer, atom, structure, occur
 use Rattle.kl1_model.specs.Meaning.{nil, cell}
 use Rattle.kl1_model.specs.Module.{is_among}
 use Rattle.kl1_model.specs.State.{Task, monitor, reduces, substitutes, Goal, Origin, Shoen, State, has_forgetting, shoen_at, replace_in_goal, replace_in_origin, replace_in_shoen, replace_in_state, replace_all, change_shoen, without_goal, is_monitor, is_living}
-use Rattle.kl1_model.specs.Tree.{parents_of, path_within, path, is_on_path, charged_of, is_exhausted, is_blocking, is_blocking_at, is_enabled_in, is_enabled, goals_alive, is_living_child}
+use Rattle.kl1_model.specs.Tree.{parents_of, path_within, path, is_on_path, charged_of, is_blocking, is_blocking_at, is_enabled_in, is_enabled, goals_alive, is_living_child}
 use Rattle.kl1_model.specs.Report.{broken_at, has_made_last, report_tail, reported_on, reported_at, report, is_reported, report_each, closed_at, close, exhausted_report, terminated_report, aborted_report}
 use Rattle.kl1_model.specs.Ending.{has_goal, has_living_child, lives, ends_now, control_left, ended_as, ended_at, ending_of, without_monitor, terminate, terminate_each, settle, has_reached, newly_exhausted, after_reduction, ended_below, abort}
 use Rattle.kl1_model.specs.code.Steps.{report_of, close_of}

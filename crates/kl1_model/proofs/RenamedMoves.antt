@@ -1,8 +1,7 @@
 -- What goals can do in an account with other numbers for its variables.
-use Rattle.std.proofs.Common.{◌≡◌, ℕ, zero, suc, ◌+◌, ◌==◌, not, ◌&&◌, ◌||◌, Bool, true, false, if◌then◌else◌, List, [], ◌∷◌, ◌++◌, refl, sym, ap, ap₂, ◌∙◌}
-use Rattle.std.specs.Prelude.{bytes_eq, codes, nat_le, pos, negsuc, map, filter, find, Option, Some, None, option_map, option_and_then, is_some, ⊤}
+use Rattle.std.proofs.Common.{◌≡◌, ℕ, zero, suc, ◌==◌, not, ◌&&◌, ◌||◌, Bool, true, false, if◌then◌else◌, List, [], ◌∷◌, ◌++◌, refl, sym, ap, ap₂, ◌∙◌}
+use Rattle.std.specs.Prelude.{bytes_eq, codes, nat_le, pos, negsuc, map, filter, find, Option, Some, None, option_map, option_and_then, ⊤}
 use Rattle.std.specs.List.{list_all}
-use Rattle.std.proofs.lemmas.Bool.{cond-false}
 use Rattle.std.proofs.lemmas.List.{map-append}
 use Rattle.kl1_model.specs.declared.rules.Rules.{Rules}
 use Rattle.kl1_model.specs.declared.number.Number.{Number}
@@ -10,7 +9,7 @@ use Rattle.kl1_model.specs.declared.number.Number.TheVariants.{Value, Overflow, 
 use Rattle.kl1_model.specs.declared.message.Message.{Message}
 use Rattle.kl1_model.specs.declared.message.Message.TheVariants.{Stop, Start, Abort}
 use Rattle.kl1_model.specs.Text.{is_name_byte}
-use Rattle.kl1_model.specs.Term.{Term, variable, integer, atom, structure, Terms, none, more, count_of, substituted, each_substituted, Replacement}
+use Rattle.kl1_model.specs.Term.{Term, variable, integer, atom, structure, Terms, none, more, count_of, Replacement}
 use Rattle.kl1_model.specs.Found.{Found, found, awaits, wrong, then_found, found_map, right_if}
 use Rattle.kl1_model.specs.Arithmetic.{evaluated}
 use Rattle.kl1_model.specs.Answer.{Answer, yes, no, wait}
@@ -20,14 +19,14 @@ use Rattle.kl1_model.specs.Match.{is_no, places_of, verdict, Call, call_of, modu
 use Rattle.kl1_model.specs.Look.{spelled_by, spelling, callee_look, goal_look, priority_look, allowance_look, number_of_term, ExecuteArguments, arguments_look}
 use Rattle.kl1_model.specs.Control.{allow_word, word_of, Control, awaits_message, tells, tells_other, ends, breaks_off, control_of}
 use Rattle.kl1_model.specs.State.{most_spelled}
-use Rattle.kl1_model.specs.Reduction.{Move, commits, raises, unifies, names, opens, goes, gives_way, move_found, call_move, becomes, execute_arguments, execute_move, pair_move, built_in_move, term_move, failure, illegal_input, overflow}
+use Rattle.kl1_model.specs.Reduction.{Move, commits, raises, unifies, names, opens, goes, gives_way, move_found, call_move, becomes, execute_move, built_in_move, term_move, failure}
 use Rattle.kl1_model.specs.code.Sections.{clauses_in, candidates_within, candidates_from}
-use Rattle.kl1_model.specs.laws.RelabelLaws.{renamed, each_renamed, answer_renamed, place_renamed, match_renamed, found_renamed, IsIncreasing}
+use Rattle.kl1_model.specs.laws.RelabelLaws.{renamed, each_renamed, answer_renamed, place_renamed, found_renamed, IsIncreasing}
 use Rattle.kl1_model.proofs.Renamed.{evaluated_renamed, comes_renamed}
 use Rattle.kl1_model.proofs.Renaming.{count_renamed}
 use Rattle.kl1_model.proofs.RenamedVerdicts.{patterns_renamed, verdict_renamed}
 use Rattle.kl1_model.proofs.SectionRuns.{candidates_walked}
-use Rattle.kl1_model.proofs.TermStays.{call_of-not_one, call_of-not_many, call_of-other}
+use Rattle.kl1_model.proofs.TermStays.{call_of-not_one, call_of-not_many}
 
 -- ---- with other numbers
 

@@ -1,22 +1,20 @@
 -- Matches, comparisons, tests and verdicts of terms with other numbers for their variables.
-use Rattle.std.proofs.Common.{◌≡◌, ℕ, suc, ◌+◌, ◌-◌, ◌<◌, ◌≤◌, ◌==◌, ◌&&◌, ◌||◌, Bool, true, false, if◌then◌else◌, List, [], ◌∷◌, ◌++◌, refl, sym, ap, ap₂, ◌∙◌, ◌⊎◌, inl, inr, arith}
+use Rattle.std.proofs.Common.{◌≡◌, ℕ, suc, ◌+◌, ◌-◌, ◌<◌, ◌≤◌, ◌==◌, ◌&&◌, Bool, true, false, if◌then◌else◌, List, [], ◌∷◌, refl, sym, ap, ap₂, ◌∙◌, ◌⊎◌, inl, inr, arith}
 use Rattle.std.specs.Prelude.{nat_le, bytes_eq, map, Option, Some, None}
 use Rattle.std.specs.Ordering.{int_eq}
 use Rattle.std.proofs.lemmas.Bool.{cond-true, cond-false, le-leb, leb-true, false_from_ne_true}
-use Rattle.std.proofs.lemmas.Bool.Decides.{leb_tells}
 use Rattle.std.proofs.lemmas.List.{map-append}
 use Rattle.kl1_model.specs.declared.comparison.Comparison.{Comparison}
 use Rattle.kl1_model.specs.declared.type_test.TypeTest.{TypeTest}
 use Rattle.kl1_model.specs.declared.number.Number.{Number}
 use Rattle.kl1_model.specs.declared.number.Number.TheVariants.{Value, Overflow, ZeroDivisor}
-use Rattle.kl1_model.specs.Term.{Term, variable, integer, atom, structure, Terms, none, more, terms_of, count_of, substituted, each_substituted, Replacement}
+use Rattle.kl1_model.specs.Term.{Term, variable, integer, atom, structure, Terms, none, more, terms_of, count_of, Replacement}
 use Rattle.kl1_model.specs.Meaning.{highest, highest_in}
 use Rattle.kl1_model.specs.Found.{Found, found, awaits, wrong}
 use Rattle.kl1_model.specs.Arithmetic.{evaluated}
 use Rattle.kl1_model.specs.Answer.{Answer, yes, no, wait, together, opposite, known}
 use Rattle.kl1_model.specs.Same.{compare, compare_each}
 use Rattle.kl1_model.specs.Guard.{Test, holds, looks, is_same, is_other, compares, test_of, test_substituted, compared, look, numbers_answer, sides_answer, test_answer}
-use Rattle.kl1_model.specs.Module.{Clause}
 use Rattle.kl1_model.specs.Match.{Match, with_answer, match_both, match_pattern, match_patterns, two_answer, one_answer, each_answer, beside, test_variable, option_answer, own_variables, own_answer, one_test_answer, tests_answer, guard_answer, whole}
 use Rattle.kl1_model.specs.laws.RelabelLaws.{renamed, each_renamed, answer_renamed, place_renamed, match_renamed, IsIncreasing, MatchRenamed, VerdictRenamed}
 use Rattle.kl1_model.proofs.GuardStays.{then_substituted, everywhere, FewOption, test_again, few_test}

@@ -25,7 +25,7 @@ use Rattle.kl1_model.specs.Sending.{may_send, has_room_to_send, send_living, wit
 use Rattle.kl1_model.specs.Asking.{origin_at, kept_at, reply_to}
 use Rattle.kl1_model.specs.Answering.{may_answer, has_room_to_answer, asked_at, given, answer_asked, answer_living, answered, answer_by, answer_to}
 use Rattle.kl1_model.specs.Telling.{Asked, Given}
-use Rattle.kl1_model.specs.Forgetting.{may_forget, with_origin, without_reports, empty_place, gone_below, without_shoen, gone, may_go, forget_by, forget_of}
+use Rattle.kl1_model.specs.Forgetting.{may_forget, with_origin, without_reports, empty_place, gone_below, gone, may_go, forget_by, forget_of}
 use Rattle.kl1_model.specs.Choice.{is_in_run}
 use Rattle.kl1_model.specs.Step.{load_module, start_by, step}
 use Rattle.kl1_model.specs.code.Steps.{opening_goals, stopped_of, resumed_of, allowed_more, reduced_by, send_by, value_of, status_of, reports_of, answer_in, with_module}

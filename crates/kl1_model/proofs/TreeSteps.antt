@@ -18,7 +18,7 @@ use Rattle.kl1_model.specs.Event.{Refusal, syntax, source, exists, no_shoen, sho
 use Rattle.kl1_model.specs.Reduction.{Move, Action, moves, reads, term_move, read_action, task_action, action_of, acted, reduce_goal}
 use Rattle.kl1_model.specs.Opening.{may_start, has_room_to_start, with_next_variables, started_shoen, start_goal}
 use Rattle.kl1_model.specs.Sending.{may_send, has_room_to_send, send_living, with_control_tail, sent_on, send_to}
-use Rattle.kl1_model.specs.Asking.{origin_at, kept_at, reports_from, reply_to}
+use Rattle.kl1_model.specs.Asking.{origin_at, kept_at, reply_to}
 use Rattle.kl1_model.specs.Answering.{may_answer, has_room_to_answer, asked_at, given, answer_asked, answer_living, answered, answer_by, answer_to}
 use Rattle.kl1_model.specs.Telling.{Asked, Given}
 use Rattle.kl1_model.specs.Forgetting.{may_forget, gone, may_go, forget_by, forget_of}

@@ -3,7 +3,7 @@ use Rattle.std.proofs.Common.{◌≡◌, ℕ, List, [], refl, sym, ap, ◌∙◌
 use Rattle.kl1_model.specs.Term.{Terms, Replacement}
 use Rattle.kl1_model.specs.Module.{Clause}
 use Rattle.kl1_model.specs.Answer.{Answer, yes, no, wait, awaited_in}
-use Rattle.kl1_model.specs.Match.{Match, match_patterns, whole, places_of, verdict, candidate_by}
+use Rattle.kl1_model.specs.Match.{Match, match_patterns, places_of, verdict, candidate_by}
 use Rattle.kl1_model.specs.code.Verdicts.{Verdict, accepts, rejects, suspends, verdict_with, named_verdict, answer_in, named_in}
 use Rattle.kl1_model.specs.laws.VerdictLaws.{VerdictsAnswer, AcceptsPlaces, VerdictsName}
 

@@ -21,7 +21,7 @@ use Rattle.kl1_model.specs.Guard.{type_test_named, comparison_named, Test, holds
 use Rattle.kl1_model.specs.Match.{Match, option_answer, with_answer, match_pattern, match_patterns, two_answer, one_answer, each_answer, beside, test_variable, own_variables, own_answer, one_test_answer, tests_answer, guard_answer}
 use Rattle.kl1_model.specs.code.Verdicts.{suspends, verdict_with}
 use Rattle.kl1_model.specs.laws.VerdictLaws.{NamedSuspendsWaits}
-use Rattle.kl1_model.proofs.Comparisons.{Names, names_both, names_known, compare_names, compare_waits}
+use Rattle.kl1_model.proofs.Comparisons.{Names, names_both, names_known, compare_names}
 use Rattle.kl1_model.proofs.ScanStays.{computed}
 use Rattle.kl1_model.specs.Found.{Found, found, awaits, wrong}
 

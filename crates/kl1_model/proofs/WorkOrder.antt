@@ -1,7 +1,7 @@
 -- The order in which reductions were done that are charged makes no difference.
-use Rattle.std.proofs.Common.{◌≡◌, ℕ, zero, suc, ◌+◌, ◌==◌, not, ◌&&◌, ◌||◌, Bool, true, false, if◌then◌else◌, List, [], ◌∷◌, refl, sym, ap, ap₂, ◌∙◌, subst, arith}
+use Rattle.std.proofs.Common.{◌≡◌, ℕ, suc, ◌+◌, ◌==◌, not, ◌&&◌, Bool, true, false, if◌then◌else◌, List, [], ◌∷◌, refl, sym, ap, ap₂, ◌∙◌, arith}
 use Rattle.std.specs.Prelude.{nat_le, map, count_by, cond, Option, Some, None, option_map}
-use Rattle.std.proofs.lemmas.Bool.{eq-eqb, eqb-true, ne_eqb, false≢true}
+use Rattle.std.proofs.lemmas.Bool.{eq-eqb, eqb-true}
 use Rattle.kl1_model.specs.declared.life.Life.{Life}
 use Rattle.kl1_model.specs.declared.life.Life.TheVariants.{Living, Terminated, Aborted, Forgotten}
 use Rattle.kl1_model.specs.declared.condition.Condition.TheVariants.{Stopped, Exhausted, Running}
@@ -13,14 +13,14 @@ use Rattle.kl1_model.specs.Event as event
 use Rattle.kl1_model.specs.Event.{syntax, shoen_ended, too_many_names, limit_passed, journal_full, answer_refused, Query, value, status, reports, modules, is_quiet, Event, load, start, control, reduce, read, login, logout, reset, answer, forget, shown, status_is, sent, Reply, Refusal, Transition, refuse, is_number, unless, are_too_many, is_full, with_entry}
 use Rattle.kl1_model.specs.Choice.{first, quiet}
 use Rattle.kl1_model.specs.Telling.{Asked, Given}
-use Rattle.kl1_model.specs.Answering.{may_answer, has_room_to_answer, asked_at, given, answered, answer_by, answer_with, answer_asked, answer_living, answer_to}
+use Rattle.kl1_model.specs.Answering.{may_answer, has_room_to_answer, asked_at, given, answered, answer_by, answer_asked, answer_living, answer_to}
 use Rattle.kl1_model.specs.Asking.{origin_at, kept_at, condition_of, reply_about, reports_from, reply_to}
 use Rattle.kl1_model.specs.Step.{step}
 use Rattle.kl1_model.specs.code.Steps.{answer_in, condition_by}
-use Rattle.kl1_model.specs.laws.RelabelLaws.{renamed, each_renamed, task_renamed, goal_renamed, origin_renamed, shoen_renamed, relabelled, IsBlind, is_reset}
+use Rattle.kl1_model.specs.laws.RelabelLaws.{renamed, each_renamed, task_renamed, goal_renamed, origin_renamed, shoen_renamed, IsBlind, is_reset}
 use Rattle.kl1_model.specs.laws.WorkLaws.{with_work, SameCounts, OrderOfWorkIsNothing, OrderOfWorkIsNotSeen}
 use Rattle.kl1_model.proofs.RelabelledStates.{count_cons, AreAlike, like, Fits, charged_is}
-use Rattle.kl1_model.proofs.RelabelledSteps.{transition_like, Turns, turns, quiet_is, first_is}
+use Rattle.kl1_model.proofs.RelabelledSteps.{turns, quiet_is, first_is}
 
 -- ---- the same counts
 

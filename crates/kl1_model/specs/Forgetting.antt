@@ -1,5 +1,5 @@
 -- Reports and shoens that are let go.
-use Rattle.std.specs.Prelude.{ℕ, zero, suc, ◌+◌, ◌-◌, ◌==◌, nat_le, nat_lt, not, ◌&&◌, Bool, true, false, if◌then◌else◌, List, [], ◌∷◌, length, map, take, codes, bytes_eq, Option, Some, None, is_some}
+use Rattle.std.specs.Prelude.{ℕ, zero, suc, ◌+◌, ◌-◌, nat_le, nat_lt, not, ◌&&◌, Bool, true, false, if◌then◌else◌, List, [], ◌∷◌, length, map, take, codes, bytes_eq, Option, Some, None, is_some}
 use Rattle.std.specs.List.{list_any}
 use Rattle.kl1_model.specs.declared.life.Life.TheVariants.{Forgotten}
 use Rattle.kl1_model.specs.Term.{Term, structure, none, more}

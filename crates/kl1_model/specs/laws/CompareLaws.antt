@@ -1,7 +1,7 @@
 -- What holds of comparisons when variables are replaced, and of their parts.
-use Rattle.std.specs.Prelude.{◌≡◌, ℕ, List, []}
+use Rattle.std.specs.Prelude.{◌≡◌, ℕ, []}
 use Rattle.kl1_model.specs.Term.{Term, substituted}
-use Rattle.kl1_model.specs.Answer.{Answer, yes, no, wait, awaited_in}
+use Rattle.kl1_model.specs.Answer.{Answer, wait, awaited_in}
 use Rattle.kl1_model.specs.Same.{compare}
 use Rattle.kl1_model.specs.code.Waits.{LeavesEach}
 use Rattle.kl1_model.specs.code.Comparing.{clash, awaited, answer_of_parts}

@@ -4,7 +4,7 @@ use Rattle.kl1_model.specs.Term.{Term, variable, Terms, substituted, each_substi
 use Rattle.kl1_model.specs.Unify.{Equation, mgu}
 use Rattle.kl1_model.specs.Module.{Clause}
 use Rattle.kl1_model.specs.Answer.{Answer, yes, no, wait}
-use Rattle.kl1_model.specs.Match.{Match, match_patterns, places_of, verdict}
+use Rattle.kl1_model.specs.Match.{Match, match_patterns, verdict}
 use Rattle.kl1_model.specs.Found.{Found, found, awaits, wrong}
 use Rattle.kl1_model.specs.State.{Task, monitor, reduces, substitutes, Goal, Origin, Shoen, State, has_told}
 use Rattle.kl1_model.specs.Event.{Event, read, reset, answer, Transition}

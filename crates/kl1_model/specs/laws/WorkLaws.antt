@@ -1,7 +1,7 @@
 -- The order in which reductions were done that are charged makes no difference.
 use Rattle.std.specs.Prelude.{◌≡◌, ℕ, ◌==◌, List, count_by}
 use Rattle.kl1_model.specs.State.{State}
-use Rattle.kl1_model.specs.Event.{Event, Transition}
+use Rattle.kl1_model.specs.Event.{Event}
 use Rattle.kl1_model.specs.Choice.{first, quiet}
 use Rattle.kl1_model.specs.Step.{step}
 
