@@ -56,4 +56,5 @@ pub mod RenamedVerdicts
 pub mod RenamedMoves
 pub mod RelabelledStates
 pub mod RelabelledSteps
+pub mod GivenRenamed
 pub mod WorkOrder

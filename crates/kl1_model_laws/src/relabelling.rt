@@ -1,5 +1,5 @@
 //! Laws of accounts with other numbers for their variables.
-ghost use Rattle.kl1_model.specs.laws.RelabelLaws.{MguRenamed, MatchRenamed, VerdictRenamed, StepRelabelled, ShiftsStay, FirstRelabelled, QuietRelabelled, RunRelabelled, AnswerRelabelled};
+ghost use Rattle.kl1_model.specs.laws.RelabelLaws.{MguRenamed, MatchRenamed, VerdictRenamed, StepRelabelled, ShiftsStay, FirstRelabelled, QuietRelabelled, RunRelabelled, GivenIsRenamed, AnswerRelabelled};
 ghost use Rattle.kl1_model.specs.laws.WorkLaws.{OrderOfWorkIsNothing, OrderOfWorkIsNotSeen};
 
 /// Equations, matches and verdicts of terms with other numbers for their variables, in the same order, come to the same with these
@@ -16,6 +16,7 @@ pub fn terms_keep_to_other_numbers()
 pub fn steps_keep_to_other_numbers()
     ensures steps { StepRelabelled }
     ensures shifts { ShiftsStay }
+    ensures given { GivenIsRenamed }
     ensures answers { AnswerRelabelled }
 {}
 

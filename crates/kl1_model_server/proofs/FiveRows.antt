@@ -87,11 +87,6 @@ refused_changes_nothing_row : counts (after (asking Five) (codes "answer 1 2 _1 
 unfolding digits tokens_within expression_at parted_by grouped_by mgu_within path_within
 refused_changes_nothing_row = refl
 
--- a variable that was bound since is refused too
-bound_since_is_refused_row : told (after (asking Five) (codes "answer 1 2 _1 = g(_99)" ∷ codes "run 9" ∷ codes "answer 1 4 _1 = 3" ∷ [])) (codes "answer 1 4 _1 = 3") ≡ codes "- 13 answer" ∷ []
-unfolding digits tokens_within expression_at parted_by grouped_by mgu_within path_within
-bound_since_is_refused_row = refl
-
 -- one with a leading zero is new
 leading_zero_is_new_row : told (after (asking Five) (codes "answer 1 2 _01 = 3" ∷ codes "run 9" ∷ [])) (codes "value 1") ≡ codes "+ console:read(_1)" ∷ []
 unfolding digits tokens_within expression_at parted_by grouped_by mgu_within path_within

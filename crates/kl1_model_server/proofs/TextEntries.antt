@@ -202,7 +202,7 @@ abbrev parsed : Rules → List ℕ → Option Entry
 parsed rules line = entry_by rules (before_space line) (behind_space line)
 
 -- a letting go, by rules that have it
-forget_if : (c : Bool) (x y : Option Entry) → c ≡ true → (if c && true then x else y) ≡ x
+forget_if : (c : Bool) (x y : Option Entry) → c ≡ true → (if c then x else y) ≡ x
 forget_if true x y e = refl
 forget_if false x y e = absurd (cc)
 

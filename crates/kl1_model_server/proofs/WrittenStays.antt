@@ -96,8 +96,8 @@ may_start_line rules allowance low high t h =
     (ltb-true allowance NUMBER_LIMIT one.0, omega arith, omega arith, two.1, three.1, four.1, leb-true (length (start_line allowance low high t)) MOST_LINE_BYTES five.1)
 
 -- the goal of a start is one that a text can write
-start_narrow : (allowance low high : ℕ) (t : Term) → may_start allowance low high t ≡ true → is_narrow t ≡ true
-start_narrow allowance low high t h = (and_parts (is_narrow t) (nat_le (depth t) MOST_DEPTH) (may_start_line allowance low high t h).4).0
+start_narrow : (rules : Rules) (allowance low high : ℕ) (t : Term) → may_start allowance low high t ≡ true → is_narrow t ≡ true
+start_narrow rules allowance low high t h = (and_parts (is_narrow t) (nat_le (depth t) MOST_DEPTH) (may_start_line rules allowance low high t h).4).0
 
 start_named : (s : State) (allowance low high : ℕ) (t : Term) → IsNamed s → IsNamed (step s (start allowance low high t)).state
 start_named s allowance low high t h =
@@ -110,7 +110,7 @@ start_named s allowance low high t h =
     let shoen = started_shoen s allowance low high goal (variable (suc count)) (variable (suc (suc count))) in
     named_if (may_start allowance low high t) syntax s (start_by s allowance low high t) (λ may.
     room_named (are_too_many s.rules names) s rest x (λ room.
-    let n : IsNamed u = more_named s.rules s.names (names_of t) h (names_are_texts t (start_narrow allowance low high t may)) room in
+    let n : IsNamed u = more_named s.rules s.names (names_of t) h (names_are_texts t (start_narrow s.rules allowance low high t may)) room in
     same_names u (start_goal s allowance low high t) (open_has shoen goal u) (open_alike shoen goal u) n) h) h
 
 send_by_named : (s : State) (n : ℕ) (m : Message) (h : Shoen) (o : Option Origin) → IsNamed s → IsNamed (send_by s n m h o).state

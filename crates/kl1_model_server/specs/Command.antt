@@ -82,7 +82,7 @@ command_by rules w rest =
     else if bytes_eq w (codes "logout") then alone_command logout rest
     else if bytes_eq w (codes "reset") then alone_command reset rest
     else if bytes_eq w (codes "answer") then answer_command rules rest
-    else if has_forgetting rules && bytes_eq w (codes "forget") then by_two (λ n count. Some (does (forget n count))) rest
+    else if bytes_eq w (codes "forget") && has_forgetting rules then by_two (λ n count. Some (does (forget n count))) rest
     else None
 
 -- the command that a line without its end is by these rules, if it is one and isn't too long; a `load` line without its source is none

@@ -87,7 +87,7 @@ entry_by rules w rest =
     else if bytes_eq w (codes "load") then load_in rest
     else if bytes_eq w (codes "start") then start_in rest
     else if bytes_eq w (codes "answer") then answer_in rules rest
-    else if has_forgetting rules && bytes_eq w (codes "forget") then of_two forgets rest
+    else if bytes_eq w (codes "forget") && has_forgetting rules then of_two forgets rest
     else if bytes_eq w (codes "stop") then option_map (λ n. sends n Stop) (number_in rest)
     else if bytes_eq w (codes "resume") then option_map (λ n. sends n Start) (number_in rest)
     else if bytes_eq w (codes "abort") then option_map (λ n. sends n Abort) (number_in rest)
