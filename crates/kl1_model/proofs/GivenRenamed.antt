@@ -1,10 +1,9 @@
 -- The goal of an answer that tells variables is one of the account with other numbers.
-use Rattle.std.proofs.Common.{◌≡◌, ℕ, ◌+◌, ◌==◌, not, ◌&&◌, ◌||◌, Bool, true, false, if◌then◌else◌, List, [], refl, sym, ap, ap₂, ◌∙◌}
+use Rattle.std.proofs.Common.{◌≡◌, ℕ, ◌+◌, ◌==◌, not, ◌||◌, Bool, true, false, if◌then◌else◌, List, [], refl, sym, ap, ap₂, ◌∙◌}
 use Rattle.std.specs.Prelude.{Option, Some, None, option_map}
 use Rattle.std.proofs.lemmas.Bool.{and_parts, eqb-true, false≢true}
 use Rattle.kl1_model.specs.Term.{Term, variable, integer, atom, structure, Terms, none, more, occurs, occurs_in, substituted, each_substituted}
 use Rattle.kl1_model.specs.Meaning.{variables_of, highest}
-use Rattle.kl1_model.specs.State.{has_told}
 use Rattle.kl1_model.specs.Opening.{with_next_variables}
 use Rattle.kl1_model.specs.Telling.{Asked, Given, stands_at, new_among, place_among, given_variable, given_told}
 use Rattle.kl1_model.specs.Answering.{given}
