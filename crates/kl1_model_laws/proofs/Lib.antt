@@ -18,9 +18,11 @@ pub mod Counts
 pub mod Endings
 pub mod Aborts
 pub mod Idle
+pub mod HoldsTerms
 pub mod Holds
 pub mod GivenPlaces
 pub mod Each
 pub mod Owners
+pub mod TailMoves
 pub mod Tails
 pub mod Charged
