@@ -227,6 +227,11 @@ headings_row : map (λ line. option_map (λ h. h.names) (heading_in line)) (code
 unfolding digits tokens_within expression_at parted_by grouped_by mgu_within path_within
 headings_row = refl
 
+-- a shoen that ends keeps no control stream but that of the console
+ended_controls_row : map (λ rules. map (λ h. h.control) (after (fresh_kept rules (codes "alice")) (codes "start 9 0 9 shoen:execute(true,0,1,1,C,R)" ∷ codes "run 9" ∷ [])).state.shoens) (Four ∷ Five ∷ []) ≡ (variable 3 ∷ variable 1 ∷ []) ∷ (variable 3 ∷ atom (codes "[]") ∷ []) ∷ []
+unfolding digits tokens_within expression_at parted_by grouped_by mgu_within path_within
+ended_controls_row = refl
+
 -- a run whose entry is in no journal goes on as a new entry
 run_after_an_image_row : (stepped (new_journal Five [] 0) 2 1 7).entries ≡ runs 1 ∷ []
 unfolding digits tokens_within expression_at parted_by grouped_by mgu_within path_within
