@@ -58,5 +58,5 @@ given_is_renamed g s a t up on told =
     let new = new_among o [] (variables_of t) in
     let m = made g (given_variable o new (g last)) (λ v. variable_by g a new last v (stands_at o v) on refl) t in
     let is : (given (relabelled g s) o t).goal ≡ (given_told o (g last) t).goal =
-        ap (λ (b : Bool). let x : Given = if b then given_told o (g last) t else record { goal = with_next_variables (g last) t; new = highest t; tells_gone = false } in x.goal) told in
+    ap (λ (b : Bool). let x : Given = if b then given_told o (g last) t else record { goal = with_next_variables (g last) t; new = highest t; tells_gone = false } in x.goal) told in
     (m.0, m.1 ∙ sym is)

@@ -55,6 +55,9 @@ pub mod Renaming
 pub mod RenamedVerdicts
 pub mod RenamedMoves
 pub mod RelabelledStates
+pub mod RelabelledChoices
+pub mod RelabelledEffects
+pub mod RelabelledAnswers
 pub mod RelabelledSteps
 pub mod GivenRenamed
 pub mod WorkOrder

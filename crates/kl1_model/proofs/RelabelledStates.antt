@@ -310,7 +310,7 @@ terminate_is g b w n s fit =
     let first : Becomes g b w (without_monitor n (ended_at n (like g w s))) ended = record { is = ap (without_monitor n) (ended_is g b w n s) ∙ without_monitor_is g b w n (ended_at n s); fits = record { up = fit.up; on = fit.on; work = fit.work } } in
     let told = report n terminated_report ended in
     let second : Becomes g b w (report n terminated_report (without_monitor n (ended_at n (like g w s)))) told =
-        then_does g b w (without_monitor n (ended_at n (like g w s))) ended told (report n terminated_report) first (λ k. report_is g b w n terminated_report ended k) in
+    then_does g b w (without_monitor n (ended_at n (like g w s))) ended told (report n terminated_report) first (λ k. report_is g b w n terminated_report ended k) in
     then_does g b w (report n terminated_report (without_monitor n (ended_at n (like g w s)))) told (close n told) (close n) second (λ k. close_is g b w n told k)
 
 pub terminate_each_is : (g : ℕ → ℕ) (b : Bool) (w : List ℕ) (ns : List ℕ) (s : State) → Fits g b w s → Becomes g b w (terminate_each ns (like g w s)) (terminate_each ns s)

@@ -117,7 +117,7 @@ still_never : (g : ℕ → ℕ) (t u : Term) → ((rs : List Replacement) → re
 still_never g t u never rs e =
     let f = values_of rs in
     let same : substituted (λ v. f (g v)) t ≡ substituted (λ v. f (g v)) u =
-        sym (then_renamed f g t) ∙ sym (replaced_is rs (renamed g t)) ∙ e ∙ replaced_is rs (renamed g u) ∙ then_renamed f g u in
+    sym (then_renamed f g t) ∙ sym (replaced_is rs (renamed g t)) ∙ e ∙ replaced_is rs (renamed g u) ∙ then_renamed f g u in
     failure_leaves_none (equate t u ∷ []) (none_where_none_unify (equate t u ∷ []) (λ qs made. never qs made.0)) (λ v. f (g v)) (same, tt)
 
 -- ---- derivations

@@ -20,7 +20,9 @@ use Rattle.kl1_model.specs.code.Steps.{answer_in, condition_by}
 use Rattle.kl1_model.specs.laws.RelabelLaws.{renamed, each_renamed, task_renamed, goal_renamed, origin_renamed, shoen_renamed, IsBlind, is_reset}
 use Rattle.kl1_model.specs.laws.WorkLaws.{with_work, SameCounts, OrderOfWorkIsNothing, OrderOfWorkIsNotSeen}
 use Rattle.kl1_model.proofs.RelabelledStates.{count_cons, AreAlike, like, Fits, charged_is}
-use Rattle.kl1_model.proofs.RelabelledSteps.{turns, quiet_is, first_is}
+use Rattle.kl1_model.proofs.RelabelledChoices.{quiet_is, first_is}
+use Rattle.kl1_model.proofs.RelabelledEffects.{transition_like, Turns}
+use Rattle.kl1_model.proofs.RelabelledSteps.{turns}
 
 -- ---- the same counts
 
@@ -45,9 +47,9 @@ first_out : (f : ℕ → Bool) (x : ℕ) (w : List ℕ) (c : ℕ) → count_by (
 first_out f x [] c e = absurd (omega (arith, e))
 first_out f x (m ∷ ms) c e = out_by f x m ms (m == x) refl
     (λ h.
-        let front = count_cons (λ k. k == x) m ms ∙ ap (λ b. cond b 1 0 + count_by (λ k. k == x) ms) h in
-        let rest : count_by (λ k. k == x) ms ≡ suc c = omega (arith, front, e) in
-        first_out f x ms c rest)
+    let front = count_cons (λ k. k == x) m ms ∙ ap (λ b. cond b 1 0 + count_by (λ k. k == x) ms) h in
+    let rest : count_by (λ k. k == x) ms ≡ suc c = omega (arith, front, e) in
+    first_out f x ms c rest)
 
 is_empty : (w : List ℕ) → SameCounts [] w → w ≡ []
 is_empty [] a = refl
@@ -65,11 +67,11 @@ counts_all (x ∷ xs) w a =
     let there : count_by (λ m. m == x) w ≡ suc c = omega (arith, all, front) in
     let ws = without_first x w in
     let rest : SameCounts xs ws = λ n.
-        let one = a n in
-        let two = first_out (λ m. m == n) x w c there in
-        let three = count_cons (λ m. m == n) x xs in
-        let four = count_cons (λ m. m == n) x ws in
-        omega (arith, one, two, three, four) in
+    let one = a n in
+    let two = first_out (λ m. m == n) x w c there in
+    let three = count_cons (λ m. m == n) x xs in
+    let four = count_cons (λ m. m == n) x ws in
+    omega (arith, one, two, three, four) in
     λ f. first_out f x w c there ∙ count_cons f x ws ∙ ap (λ k. cond (f x) 1 0 + k) (counts_all xs ws rest f) ∙ sym (count_cons f x xs)
 
 -- ---- numbers as they are
@@ -266,9 +268,13 @@ Says s w e = (v : List ℕ) × (SameCounts (step s e).state.work v × (step (wit
 blind : (s : State) (w : List ℕ) (e : Event) → SameCounts s.work w → IsBlind s e → is_reset e ≡ false → Says s w e
 blind s w e a b r =
     let t = turns as_is false w s e (fits w s a) b r in
-    let x = step s e in
-    (t.0, (λ n. sym (t.1.1.work (λ m. m == n)),
-      sym (ap (λ u. step u e) (state_as_is w s)) ∙ t.1.0 ∙ ap (λ u. let y : Transition = record { state = u; reply = x.reply } in y) (state_as_is t.0 x.state)))
+    let x = step s e in (
+      t.0,
+      (
+        λ n. sym (t.1.1.work (λ m. m == n)),
+        sym (ap (λ u. step u e) (state_as_is w s)) ∙ t.1.0 ∙ ap (λ u. let y : Transition = record { state = u; reply = x.reply } in y) (state_as_is t.0 x.state),
+      ),
+    )
 
 answer_says : (s : State) (w : List ℕ) (n report : ℕ) (t : Term) → SameCounts s.work w → Says s w (answer n report t)
 answer_says s w n report t a =
@@ -283,9 +289,13 @@ order_of_work_is_nothing s w (load text) a = blind s w (load text) a tt refl
 order_of_work_is_nothing s w (start allowance low high t) a = blind s w (start allowance low high t) a tt refl
 order_of_work_is_nothing s w (control n m) a = blind s w (control n m) a tt refl
 order_of_work_is_nothing s w (reduce goal clause) a = blind s w (reduce goal clause) a tt refl
-order_of_work_is_nothing s w (read q) a =
-    (w, (λ n. ap (λ t. count_by (λ m. m == n) t.work) (query_state s q) ∙ a n,
-      query_same s w q a ∙ ap (λ t. let x : Transition = record { state = with_work w t; reply = (reply_to s q).reply } in x) (sym (query_state s q))))
+order_of_work_is_nothing s w (read q) a = (
+  w,
+  (
+    λ n. ap (λ t. count_by (λ m. m == n) t.work) (query_state s q) ∙ a n,
+    query_same s w q a ∙ ap (λ t. let x : Transition = record { state = with_work w t; reply = (reply_to s q).reply } in x) (sym (query_state s q)),
+  ),
+)
 order_of_work_is_nothing s w login a = blind s w login a tt refl
 order_of_work_is_nothing s w logout a = blind s w logout a tt refl
 order_of_work_is_nothing s w reset a = ([], (λ n. refl, refl))

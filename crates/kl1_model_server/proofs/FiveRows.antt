@@ -241,4 +241,3 @@ run_after_an_image_row = refl
 run_goes_on_row : (stepped (record (new_journal Five [] 0) { entries = steps 1 1 ∷ runs 6 ∷ [] }) 2 1 7).entries ≡ steps 1 1 ∷ runs 7 ∷ []
 unfolding digits tokens_within expression_at parted_by grouped_by mgu_within path_within
 run_goes_on_row = refl
-
