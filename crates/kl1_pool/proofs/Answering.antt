@@ -1,6 +1,5 @@
 -- Answers, and what commands leave.
 use Rattle.std.proofs.Common.{◌≡◌, ℕ, ◌≤◌, ◌⊎◌, inl, inr, Bool, true, false, List, [], Some, ap, sym, ◌∙◌, subst, refl}
-use Rattle.std.specs.Prelude.{Option, slice_get}
 use Rattle.kl1_model.specs.declared.rules.Rules.{Rules}
 use Rattle.kl1_model.specs.State.{State}
 use Rattle.kl1_model_server.specs.Command.{Command}
@@ -15,7 +14,6 @@ use Rattle.kl1_command.specs.Room.{PerformsWithin}
 use Rattle.kl1_pool_tickets.specs.declared.serving.TheConstants.{MOST_STEPS}
 use Rattle.kl1_pool_tickets.specs.declared.serving.TimeSlice.{TimeSlice}
 use Rattle.kl1_pool.specs.Answers.{IsAccount, IsGivenBySome, IsGiven}
-use Rattle.kl1_pool.specs.Names.{called_at, is_called}
 use Rattle.kl1_pool.specs.Showing.{IsFound, IsOfSome, IsSeenOfSome, IsCountedBySome, IsDone, IsShownAfter}
 use Rattle.kl1_tally.specs.Seats.{Book}
 use Rattle.kl1_pool.specs.declared.totals_before_reset.TotalsBeforeReset.{TotalsBeforeReset}
@@ -75,12 +73,6 @@ shown_after rules named own c p old new ended P done found called shown =
     let before : IsAccount rules named (kept_of f old) = record { replay = (done.found.kept.replay f (done.before f fits)).is; keeps_to = done.found.keeps_to; called = done.found.called } in
     let after : IsAccount rules named (kept_of f new) = record { replay = (found.kept.replay f fits).is; keeps_to = found.keeps_to; called = called } in
     (done.room, kept_of f old, kept_of f new, ended, before, after, done.does f fits, shown)
-
--- an account is called as the list has it, if it is called by the name that stands there
-pub called_so : (names : List (List ℕ)) (account : ℕ) (name own : List ℕ) → slice_get names account ≡ Some name → is_called name own → called_at names account own
-called_so names account name own at is = λ other there.
-    let same : name ≡ other = let e : Some name ≡ Some other = sym at ∙ there in cc in
-    is ∙ same
 
 -- what an account that was found has counted
 pub counted_by_some : {p : TotalsBeforeReset} {h : Held} {b : Book} (rules : Rules) (name : List ℕ → Type 0) (events steps : ℕ) → IsFound rules name h → IsCounted p h.1 b → (events ≡ b.events) × (steps ≡ b.steps) → IsCountedBySome rules name events steps

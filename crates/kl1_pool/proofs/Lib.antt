@@ -3,7 +3,9 @@ pub mod Tells
 pub mod PoolAccounts
 pub mod Naming
 pub mod Answering
+pub mod Calling
 pub mod FirstSteps
+pub mod GoingOn
 pub mod Pieces
 pub mod ToldEntries
 pub mod RestoredEntries

@@ -61,9 +61,13 @@ impl<'t, R: Wait, K: PoolIds> PoolAccount<'t, R, K> {
     {
         let most = MOST_STEPS.min(self.room());
         let steps = self.steps_within(rt, common, tables, share, most_bytes, most);
-        let may_go_on = steps.done == MOST_STEPS || self.is_over(most_bytes);
-        let again = may_go_on && !self.quiet();
-        Turn { steps, again }
+        let is_whole = steps.done == MOST_STEPS;
+        let is_over = self.is_over(most_bytes);
+        let is_quiet = self.quiet();
+        Turn {
+            steps,
+            again: (is_whole || is_over) && !is_quiet,
+        }
     }
 
     /// First steps until `most` are done, none can step, one is refused, or the account takes more than `most_bytes` bytes, as `turn`.
@@ -134,9 +138,13 @@ impl<'t, R: Wait, K: PoolIds> PoolAccount<'t, R, K> {
     {
         let most = MOST_GRANTED_STEPS.min(self.room());
         let steps = self.first_steps(rt, common, tables, share, most);
-        let may_go_on = more || !self.is_over(most_bytes);
-        let again = may_go_on && steps.done == MOST_GRANTED_STEPS && !self.quiet();
-        Turn { steps, again }
+        let is_whole = steps.done == MOST_GRANTED_STEPS;
+        let is_over = self.is_over(most_bytes);
+        let is_quiet = self.quiet();
+        Turn {
+            steps,
+            again: (more || !is_over) && (is_whole && !is_quiet),
+        }
     }
 
     /// A turn, which is a short one or not.

@@ -4,12 +4,13 @@ use Rattle.std.specs.Prelude.{List, Some, slice_get}
 use Rattle.kl1_journal_entries.specs.Lined.{Rows}
 use Rattle.kl1_model_server.specs.laws.TextLaws.{AreNames}
 use Rattle.kl1_pool_tickets.specs.Counts.{Moved}
-use Rattle.kl1_pool.specs.Names.{is_called, called_at}
+use Rattle.kl1_pool.specs.Names.{is_called}
 use Rattle.kl1_pool.specs.Restoring.{IsRestoredBySome, events_of, steps_of}
+use Rattle.kl1_pool.proofs.Calling.{called_there}
 use Rattle.kl1_pool.proofs.pool.Pool.admitted.Goals as goal
 
 pub settle-requires-clause-name : goal.settle-requires-clause-name
-settle-requires-clause-name g c = subst (λ (k : ℕ). called_at g.K.Names.names k c.args.name) (sym (sym c.account.ensures ∙ c.if-account.false)) c.requires.name
+settle-requires-clause-name g c = called_there g.K.Names.names c.args.account c.args.place c.args.name (sym (sym c.account.ensures ∙ c.if-account.false)) c.requires.name
 
 pub settle-requires-clause-texts : goal.settle-requires-clause-texts
 settle-requires-clause-texts g c = subst AreNames (sym c.names.ensures) c.shows_written.ensures.names

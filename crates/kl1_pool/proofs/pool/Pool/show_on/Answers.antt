@@ -1,7 +1,8 @@
 -- Not run yet.
 use Rattle.kl1_command.specs.Commands.{command_view}
 use Rattle.kl1_pool.specs.Names.{called_at}
-use Rattle.kl1_pool.proofs.Answering.{called_so, shown_after}
+use Rattle.kl1_pool.proofs.Answering.{shown_after}
+use Rattle.kl1_pool.proofs.Calling.{called_so}
 use Rattle.kl1_pool.proofs.pool.Pool.show_on.Goals as goal
 
 pub act_on-requires : goal.act_on-requires
