@@ -1,6 +1,6 @@
 // Turns of an account of a pool.
 
-ghost use Rattle.std.specs.Prelude.{◌≡◌, ◌≤◌, min, if◌then◌else◌, true, false};
+ghost use Rattle.std.specs.Prelude.{◌≡◌, ◌≤◌, ◌&&◌, ◌||◌, not, min, if◌then◌else◌, true, false};
 ghost use Rattle.kl1_command.specs.Told.{told_steps};
 ghost use Rattle.kl1_command.specs.Stepping.{IsEnd, RunsOn};
 ghost use Rattle.kl1_pool_tickets.specs.Counts.{Moved};
@@ -37,6 +37,20 @@ pub const STEPS_A_LOOK: u64 = 8;
 /// one message. If there are more, another such turn reads them; and once the account takes no more bytes than it may, whole turns follow.
 pub const MOST_GRANTED_STEPS: u64 = 2;
 
+/// Whether a whole turn is gone on, all of whose steps were done or not, of an account that takes more bytes than it may then or not.
+fn whole_goes_on(is_whole: bool, is_over: bool, is_quiet: bool) -> bool
+    ensures { result ≡ ((is_whole || is_over) && not is_quiet) }
+{
+    (is_whole || is_over) && !is_quiet
+}
+
+/// Whether a short one is, after which more is to be read or not.
+fn short_goes_on(more: bool, is_over: bool, is_whole: bool, is_quiet: bool) -> bool
+    ensures { result ≡ ((more || not is_over) && (is_whole && not is_quiet)) }
+{
+    (more || !is_over) && (is_whole && !is_quiet)
+}
+
 impl<'t, R: Wait, K: PoolIds> PoolAccount<'t, R, K> {
     /// First steps until `MOST_STEPS` are done, none can step, or one is refused, also for want of memory, as which it ends too once the account
     /// takes more than `most_bytes` bytes, which is looked at after each `STEPS_A_LOOK`. Each is an event and a step in the book and in `share`. No
@@ -63,11 +77,8 @@ impl<'t, R: Wait, K: PoolIds> PoolAccount<'t, R, K> {
         let steps = self.steps_within(rt, common, tables, share, most_bytes, most);
         let is_whole = steps.done == MOST_STEPS;
         let is_over = self.is_over(most_bytes);
-        let is_quiet = self.quiet();
-        Turn {
-            steps,
-            again: (is_whole || is_over) && !is_quiet,
-        }
+        let again = whole_goes_on(is_whole, is_over, self.quiet());
+        Turn { steps, again }
     }
 
     /// First steps until `most` are done, none can step, one is refused, or the account takes more than `most_bytes` bytes, as `turn`.
@@ -140,11 +151,8 @@ impl<'t, R: Wait, K: PoolIds> PoolAccount<'t, R, K> {
         let steps = self.first_steps(rt, common, tables, share, most);
         let is_whole = steps.done == MOST_GRANTED_STEPS;
         let is_over = self.is_over(most_bytes);
-        let is_quiet = self.quiet();
-        Turn {
-            steps,
-            again: (more || !is_over) && (is_whole && !is_quiet),
-        }
+        let again = short_goes_on(more, is_over, is_whole, self.quiet());
+        Turn { steps, again }
     }
 
     /// A turn, which is a short one or not.

@@ -1,4 +1,4 @@
-use Rattle.std.proofs.Common.{◌≤◌, arith}
+use Rattle.std.proofs.Common.{◌≤◌, ◌∙◌, arith}
 use Rattle.kl1_journal.specs.Keeping.{kept_of}
 use Rattle.kl1_command.proofs.Runs.{all_done}
 use Rattle.kl1_pool.specs.declared.turn.TheConstants.{MOST_GRANTED_STEPS}
@@ -12,4 +12,4 @@ returns-clause-steps g c = λ f fits.
 pub returns-clause-again : goal.returns-clause-again
 returns-clause-again g c = λ f fits.
     let few : c.first_steps-steps.result.done ≤ MOST_GRANTED_STEPS = omega (arith, c.first_steps-steps.ensures.few, c.min-most.ensures) in
-    short_on c.args.more MOST_GRANTED_STEPS c.first_steps-steps.result.done _ _ _ _ few (c.is_over-is_over.ensures f) (c.quiet-is_quiet.ensures f fits)
+    c.short_goes_on-again.ensures ∙ short_on c.args.more MOST_GRANTED_STEPS c.first_steps-steps.result.done _ _ _ _ few (c.is_over-is_over.ensures f) (c.quiet.ensures f fits)
