@@ -1,5 +1,5 @@
 -- Answers, and what commands leave.
-use Rattle.std.proofs.Common.{◌≡◌, ℕ, ◌≤◌, ◌⊎◌, inl, inr, Bool, true, false, List, [], Some, ap, sym, ◌∙◌, subst, refl}
+use Rattle.std.proofs.Common.{◌≡◌, ℕ, ◌≤◌, ◌⊎◌, inl, inr, Result, Ok, Err, IfOk, IfErr, Bool, true, false, List, [], Some, ap, sym, ◌∙◌, subst, refl}
 use Rattle.kl1_model.specs.declared.rules.Rules.{Rules}
 use Rattle.kl1_model.specs.State.{State}
 use Rattle.kl1_model_server.specs.Command.{Command}
@@ -73,6 +73,11 @@ shown_after rules named own c p old new ended P done found called shown =
     let before : IsAccount rules named (kept_of f old) = record { replay = (done.found.kept.replay f (done.before f fits)).is; keeps_to = done.found.keeps_to; called = done.found.called } in
     let after : IsAccount rules named (kept_of f new) = record { replay = (found.kept.replay f fits).is; keeps_to = found.keeps_to; called = called } in
     (done.room, kept_of f old, kept_of f new, ended, before, after, done.does f fits, shown)
+
+-- a result of which this holds if it is good, and that if it isn't
+pub either : {A E : Type 0} (P Q : Type 0) (r : Result A E) → IfOk r (λ a. P) → IfErr r (λ e. Q) → Q ⊎ P
+either P Q (Ok a) good bad = inr good
+either P Q (Err e) good bad = inl bad
 
 -- what an account that was found has counted
 pub counted_by_some : {p : TotalsBeforeReset} {h : Held} {b : Book} (rules : Rules) (name : List ℕ → Type 0) (events steps : ℕ) → IsFound rules name h → IsCounted p h.1 b → (events ≡ b.events) × (steps ≡ b.steps) → IsCountedBySome rules name events steps

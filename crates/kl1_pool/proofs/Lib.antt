@@ -4,6 +4,7 @@ pub mod PoolAccounts
 pub mod Naming
 pub mod Answering
 pub mod Calling
+pub mod Coming
 pub mod FirstSteps
 pub mod GoingOn
 pub mod Pieces

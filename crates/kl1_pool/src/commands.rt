@@ -136,8 +136,12 @@ impl<'t, R: Wait, K: PoolIds> Pool<'t, R, K> {
             return (Answer::misnamed(found, account, name, command), None, false);
         }
         let (answer, due, is_done) = self.act_on::<N>(found, account, command, share);
+        if !is_done {
+            return (answer, due, false);
+        }
         // It is called as before, but no clause of `act` says so.
-        if !is_done || !found.is_called(name) {
+        let is_still_called = found.is_called(name);
+        if !is_still_called {
             return (answer, due, false);
         }
         let is_shown = found.look_at(account, reader);

@@ -180,14 +180,23 @@ impl<'t, R: Wait, K: PoolIds> LockedSlot<'t, R, K> {
         }
     }
 
+    /// Whether there is an account of which a goal can step.
+    fn can_step(&self) -> bool {
+        match self.account() {
+            Some(account) => !account.quiet(),
+            None => false,
+        }
+    }
+
     /// Notes that so many steps were done: each reads one, since monitors step before all else; and nothing is unread where no goal can step.
     pub(crate) fn note_steps(&mut self, steps: u64)
         ensures { self.new ≤ self.old - steps }
     {
-        self.unread = match self.account() {
-            Some(account) if !account.quiet() => self.unread.saturating_sub(steps),
-            _ => 0,
-        };
+        if !self.can_step() {
+            self.unread = 0;
+            return;
+        }
+        self.unread = self.unread.saturating_sub(steps);
     }
 }
 

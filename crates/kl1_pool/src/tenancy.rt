@@ -144,9 +144,9 @@ impl<'t, R: Wait, K: PoolIds> Pool<'t, R, K> {
             &*comer,
             comer.journal(),
         );
-        if !matches!(restored.end, RestoreEnd::All) {
+        let RestoreEnd::All = restored.end else {
             return (Err(EmptyPlace::left(found.into_book())), restored, None);
-        }
+        };
         let (stays, due) = found.welcome(&name, comer);
         if !stays {
             return (Err(EmptyPlace::left(found.into_book())), restored, due);

@@ -113,13 +113,15 @@ impl<'t, R: Wait, K: PoolIds> PoolAccount<'t, R, K> {
                 };
             }
             if self.is_over(most_bytes) {
+                if done < most {
+                    return Steps {
+                        done,
+                        last: FirstStep::Memory,
+                    };
+                }
                 return Steps {
                     done,
-                    last: if done < most {
-                        FirstStep::Memory
-                    } else {
-                        FirstStep::Done
-                    },
+                    last: FirstStep::Done,
                 };
             }
         }

@@ -12,8 +12,8 @@ loop-done-init g c = record {
   beside = refl;
 }
 
-pub run_steps-run-requires-in-loop-done : goal.run_steps-run-requires-in-loop-done
-run_steps-run-requires-in-loop-done g c =
+pub run_steps-run-requires : goal.run_steps-run-requires
+run_steps-run-requires g c =
     let few : c.min-piece.result ≤ c.args.most - c.loop-done.done = omega (arith, c.min-piece.ensures) in
     room_enough (c.args.most - c.loop-done.done) c.min-piece.result (g.H.Host.room c.loop-done.host) few c.loop-done.invariant.room
 
@@ -34,3 +34,59 @@ loop-done-preserved g c =
       before = λ f fits. inv.before f (h.before f fits);
       beside = h.beside ∙ inv.beside;
     }
+
+pub returns-then-run-piece-clause-goes : goal.returns-then-run-piece-clause-goes
+returns-then-run-piece-clause-goes g c = λ f fits.
+    let kept = g.H.Host.kept in
+    let old = c.args.host.now in
+    let mid = c.loop-done.host in
+    let new = c.run_steps-run.new.host in
+    let n = c.run_steps-run.result.done in
+    let h = c.run_steps-run.ensures in
+    let inv = c.loop-done.invariant in
+    runs_lead (kept f old) (kept f mid) (kept f new) c.loop-done.done n (inv.goes f (h.before f fits)) (h.goes f fits)
+
+pub returns-then-run-piece-clause-counted : goal.returns-then-run-piece-clause-counted
+returns-then-run-piece-clause-counted g c =
+    let kept = g.H.Host.kept in
+    let old = c.args.host.now in
+    let mid = c.loop-done.host in
+    let new = c.run_steps-run.new.host in
+    let n = c.run_steps-run.result.done in
+    let h = c.run_steps-run.ensures in
+    let inv = c.loop-done.invariant in
+    g.met.H.Host.counted_on old mid new c.loop-done.done n inv.counted h.counted
+
+-- how a piece ended that was cut short
+pub returns-then-run-piece-clause-last : goal.returns-then-run-piece-clause-last
+returns-then-run-piece-clause-last g c = λ f fits.
+    let within : c.loop-done.done + c.min-piece.result ≤ c.args.most = omega (arith, c.min-piece.ensures, c.loop-done-test.true) in
+    end_of_all c.args.most c.loop-done.done c.min-piece.result c.run_steps-run.result.done c.run_steps-run.result.last (g.H.Host.kept f c.run_steps-run.new.host) within c.if-run-piece.true (c.run_steps-run.ensures.last f fits)
+
+pub returns-then-not-goes_on-clause-goes : goal.returns-then-not-goes_on-clause-goes
+returns-then-not-goes_on-clause-goes g c = λ f fits.
+    let kept = g.H.Host.kept in
+    let old = c.args.host.now in
+    let mid = c.loop-done.host in
+    let new = c.run_steps-run.new.host in
+    let n = c.run_steps-run.result.done in
+    let h = c.run_steps-run.ensures in
+    let inv = c.loop-done.invariant in
+    runs_lead (kept f old) (kept f mid) (kept f new) c.loop-done.done n (inv.goes f (h.before f fits)) (h.goes f fits)
+
+pub returns-then-not-goes_on-clause-counted : goal.returns-then-not-goes_on-clause-counted
+returns-then-not-goes_on-clause-counted g c =
+    let kept = g.H.Host.kept in
+    let old = c.args.host.now in
+    let mid = c.loop-done.host in
+    let new = c.run_steps-run.new.host in
+    let n = c.run_steps-run.result.done in
+    let h = c.run_steps-run.ensures in
+    let inv = c.loop-done.invariant in
+    g.met.H.Host.counted_on old mid new c.loop-done.done n inv.counted h.counted
+
+pub returns-then-not-goes_on-clause-last : goal.returns-then-not-goes_on-clause-last
+returns-then-not-goes_on-clause-last g c = λ f fits. c.if-done-most.true
+
+pub returns-clause-last : goal.returns-clause-last
+returns-clause-last g c = λ f fits. let whole : c.loop-done.done ≡ c.args.most = omega (arith, c.loop-done.invariant.few, c.loop-done-test.false) in whole

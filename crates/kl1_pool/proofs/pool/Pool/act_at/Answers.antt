@@ -1,7 +1,6 @@
 -- Not run yet.
-use Rattle.std.proofs.Common.{sym}
 use Rattle.kl1_pool.proofs.Calling.{called_there}
 use Rattle.kl1_pool.proofs.pool.Pool.act_at.Goals as goal
 
-pub act_on-requires : goal.act_on-requires
-act_on-requires g c = record { named = λ here. called_there g.K.Names.names _ _ _ here c.shows_counts.ensures.name }
+pub act_on-answer-requires : goal.act_on-answer-requires
+act_on-answer-requires g c = record { named = λ here. called_there g.K.Names.names _ _ _ here c.shows_counts.ensures.name }

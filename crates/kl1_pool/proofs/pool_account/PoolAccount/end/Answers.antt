@@ -7,7 +7,7 @@ use Rattle.kl1_pool.proofs.Answering.{seen_of_some}
 use Rattle.kl1_pool.proofs.pool_account.PoolAccount.end.Goals as goal
 
 pub last_look-requires : goal.last_look-requires
-last_look-requires g c = λ s is. c.requires s (subst (λ (k : ℕ). slice_get g.K.ShownIds.histories k ≡ Some s.history) (sym c.account.ensures ∙ c.if-account.false) is)
+last_look-requires g c = λ s is. c.requires.takes s (subst (λ (k : ℕ). slice_get g.K.ShownIds.histories k ≡ Some s.history) (sym c.account.ensures ∙ c.if-account.false) is)
 
 pub returns-in-Ok-clause-history : goal.returns-in-Ok-clause-history
 returns-in-Ok-clause-history g c = subst (λ (k : ℕ). slice_get g.K.ShownIds.histories k ≡ Some c.in-Ok.shown.history) (sym c.account.ensures ∙ c.if-account.false) c.in-Ok.ensures.history
