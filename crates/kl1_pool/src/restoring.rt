@@ -291,7 +291,8 @@ fn last_events(entry: &Entry<'_>) -> u64 {
     }
 }
 
-/// Does the entries of a journal, one after another, until one isn't accepted whole, or `meter` says so, which is told as want of memory.
+/// Does the entries of a journal, one after another, until one isn't accepted whole, or `meter` says so before one, which is told as want of
+/// memory.
 pub(crate) fn restore_all<H: RestoringHost, M: Meter>(
     alloc: Global,
     host: &mut H,
@@ -305,6 +306,7 @@ pub(crate) fn restore_all<H: RestoringHost, M: Meter>(
 {
     let mut entries = journal.entries();
     let mut done = 0;
+    let mut events = 0;
     while let Some(entry) = entries.next() {
         if done == u64::MAX {
             return Restored {
@@ -313,7 +315,15 @@ pub(crate) fn restore_all<H: RestoringHost, M: Meter>(
                 end: RestoreEnd::Full,
             };
         }
-        let events = last_events(&entry);
+        // That the entry before is done is told first, so that the meter ends nothing that is done whole.
+        if !meter.goes_on(events) {
+            return Restored {
+                entries: done,
+                steps: 0,
+                end: RestoreEnd::Memory,
+            };
+        }
+        events = last_events(&entry);
         match restore_entry(alloc, host, meter, entry) {
             EntryResult::Whole => done += 1,
             EntryResult::Stopped { steps, end } => {
@@ -324,14 +334,8 @@ pub(crate) fn restore_all<H: RestoringHost, M: Meter>(
                 };
             }
         }
-        if !meter.goes_on(events) {
-            return Restored {
-                entries: done,
-                steps: 0,
-                end: RestoreEnd::Memory,
-            };
-        }
     }
+    let _last = meter.goes_on(events);
     Restored {
         entries: done,
         steps: 0,
