@@ -56,7 +56,7 @@ const STEPS_A_PIECE: u64 = 65_536;
 
 /// Who is told how far a restore is, and may end it.
 pub trait Meter {
-    /// Takes in that so many events more are done; whether the restore goes on.
+    /// Takes in that so many events more are done, none before the first entry; whether the restore goes on, if there is more to do.
     fn goes_on(&self, events: u64) -> bool;
 }
 
