@@ -178,18 +178,39 @@ impl<'t, R: Wait, K: PoolIds> PoolAccount<'t, R, K> {
         ensures seen { IfOk result (λ r. L.reads reader.old reader.new self.entry.held.1 self.entry.past.events × IsLastOf r.1 self.entry.held.1 self.entry.past.events) }
         ensures read { IfOk result (λ r. L.has_read reader.new ≡ true) }
     {
-        let mut found = self;
-        let own = &mut found;
-        let ended = own.past.events;
-        let journal = own.kept.lent_journal();
-        let Some(last) = own.shown.show(journal, ended) else {
-            return Err(found);
+        let PoolAccount {
+            kept,
+            book,
+            past,
+            is_out,
+            mut shown,
+            name,
+            of,
+        } = self;
+        let journal = kept.lent_journal();
+        let Some(last) = shown.show(journal, past.events) else {
+            return Err(PoolAccount {
+                kept,
+                book,
+                past,
+                is_out,
+                shown,
+                name,
+                of,
+            });
         };
-        reader.read(journal, ended, &last);
+        reader.read(journal, past.events, &last);
         if !reader.is_done() {
-            return Err(found);
+            return Err(PoolAccount {
+                kept,
+                book,
+                past,
+                is_out,
+                shown,
+                name,
+                of,
+            });
         }
-        let PoolAccount { book, shown, .. } = found;
         Ok((book, shown))
     }
 }
