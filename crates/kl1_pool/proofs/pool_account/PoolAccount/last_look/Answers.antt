@@ -28,15 +28,14 @@ invariant_of-result-2 g c =
 
 pub returns-clause-history : goal.returns-clause-history
 returns-clause-history g c =
-    let own : slice_get g.K.ShownIds.histories c.self.inside.book.account ≡ Some c.show.new.self.history = subst (λ (h : HistoryId). slice_get g.K.ShownIds.histories c.self.inside.book.account ≡ Some h) (sym (ap (λ (x : ShownValue). x.history) c.in-Some.ensures.shown)) c.self.invariant.7 in
-    subst (λ (x : PoolAccountValue). slice_get g.K.ShownIds.histories x.book.account ≡ Some c.show.new.self.history) c.self.view_is own
+    subst (λ (x : PoolAccountValue). slice_get g.K.ShownIds.histories x.book.account ≡ _) c.self.view_is (c.self.invariant.7 ∙ ap (λ (h : HistoryId). Some h) (sym (ap (λ (x : ShownValue). x.history) c.in-Some.ensures.shown)))
 
 -- what was shown last is the journal
 pub returns-clause-seen : goal.returns-clause-seen
 returns-clause-seen g c =
     let events = c.self.inside.past.events in
     let journal = c.lent_journal-journal.ensures in (
-      subst (λ (x : PoolAccountValue). g.L.JournalReader.reads c.args.reader.now c.read.new.reader x.held.1 x.past.events) c.self.view_is
-          (subst (λ (i : Journal). g.L.JournalReader.reads c.args.reader.now c.read.new.reader i events) journal c.read.ensures),
+      subst (λ (x : PoolAccountValue). g.L.JournalReader.reads c.args.reader.now c.read.new.self x.held.1 x.past.events) c.self.view_is
+          (subst (λ (i : Journal). g.L.JournalReader.reads c.args.reader.now c.read.new.self i events) journal c.read.ensures),
       ap (λ (x : ShownValue). x.last) c.in-Some.ensures.shown ∙ ap (λ (i : Journal). Some (events, i)) journal ∙ ap (λ (x : PoolAccountValue). Some (x.past.events, x.held.1)) c.self.view_is,
     )
