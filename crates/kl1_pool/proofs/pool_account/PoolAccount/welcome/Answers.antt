@@ -19,7 +19,7 @@ returns-clause-seen g c = λ yes.
       keeps_to = counts.rules;
       called = c.is_called.ensures.0 c.if-not-is_called.false ∙ c.as_slice.ensures ∙ c.unpacked-called.ensures.value ∙ c.text.ensures;
     } in
-    seen_of_some g.K.PoolIds.rules named held c.args.self.now.past.events (λ j ended. g.L.JournalReader.reads c.args.comer.now c.look.new.comer j ended) found (c.look.ensures.seen c.if-not-look.false)
+    seen_of_some g.K.PoolIds.rules named held c.args.self.now.past.events (λ j ended. g.L.JournalReader.reads c.args.comer.now c.look.new.reader j ended) found (c.look.ensures.seen c.if-not-look.false)
 
 pub returns-clause-due : goal.returns-clause-due
 returns-clause-due g c = λ yes f fits.
