@@ -1,4 +1,5 @@
 -- Not run yet.
+use Rattle.std.proofs.Common.{◌≡◌, true, false, sym, ◌∙◌}
 use Rattle.kl1_command.specs.Commands.{command_view}
 use Rattle.kl1_pool.specs.Names.{called_at}
 use Rattle.kl1_pool.proofs.Answering.{shown_after}
@@ -7,6 +8,9 @@ use Rattle.kl1_pool.proofs.pool.Pool.show_on.Goals as goal
 
 pub act_on-answer-requires : goal.act_on-answer-requires
 act_on-answer-requires g c = record { named = λ here. called_so g.N.Names.names c.args.account c.args.name.now c.args.found.now.held.0.own_name c.requires.named (c.is_called.ensures.0 c.if-not-is_called.false) }
+
+pub misnamed-requires : goal.misnamed-requires
+misnamed-requires g c = λ yes. let z : true ≡ false = sym (c.is_called.ensures.1 yes) ∙ c.if-not-is_called.true in cc
 
 -- what the reader was shown is the journal just after the answer
 pub returns-clause-shown : goal.returns-clause-shown
