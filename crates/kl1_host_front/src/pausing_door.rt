@@ -50,7 +50,7 @@ fn milliseconds<R: Clock>(rt: &R) -> u64 {
 fn account_of(keys: &[Key], name: &[u8]) -> Option<u128>
     ensures { result ≡ account_from 0 name.now (entries_view keys.now) }
 {
-    let mut number = 0;
+    let mut number = 0usize;
     let mut rest = keys;
     while let [key, others @ ..] = rest {
         if key.name.as_slice() == name {

@@ -1,7 +1,7 @@
 // Who tries a key waits, and the try counts.
 
 ghost use Rattle.std.specs.Prelude.{◌≡◌, ◌*◌, true, false};
-ghost use Rattle.std.specs.Time.{as_nanos};
+ghost use Rattle.std.specs.Duration.{as_nanos};
 ghost use Rattle.kl1_host_front.specs.Pauses.{wrongs_in, pause_for, IsNotedFor, IsForgottenFor, NotesWrong, Forgives};
 
 use crate::wrong_keys::{Pauses, Trier};

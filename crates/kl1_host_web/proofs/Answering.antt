@@ -19,11 +19,11 @@ use Rattle.kl1_host_door.specs.declared.answer.Content.TheVariants.{Json}
 use Rattle.kl1_host_door.specs.declared.answer.Cookie.{Cookie}
 use Rattle.kl1_host_door.specs.declared.answer.Cookie.TheVariants.{Kept, Set}
 use Rattle.kl1_host_door.specs.declared.status.Status.{Status}
-use Rattle.kl1_host_door.specs.declared.status.Status.TheVariants.{Good}
+use Rattle.kl1_host_door.specs.declared.status.Status.TheVariants.{Good, Unavailable}
 use Rattle.kl1_host_door.specs.declared.session.WebSession.{WebSession}
 use Rattle.kl1_user_events.specs.declared.shoen_view.ShoenView.{ShoenView}
 use Rattle.kl1_host_door.specs.declared.limits.TheConstants.{SHOENS_A_PAGE}
-use Rattle.kl1_host_web.specs.Telling.{shown, text_data, lines_data, IsReply, IsLoad, IsSyntax, IsNamed, number_data, IsShoens}
+use Rattle.kl1_host_web.specs.Telling.{shown, text_data, lines_data, IsReply, IsLoad, IsSyntax, IsNamed, number_data, IsShoens, IsView, IsWait}
 use Rattle.kl1_host_web.specs.Beginning.{IsWelcome}
 
 -- ---- bytes as texts
@@ -121,6 +121,18 @@ welcome_is names session v (Err e) built head content text = tt
 pub named_is : (name : List ℕ) (v : Value) (result : Result Answer AllocError) → view v ≡ object (member (codes "name") (string (shown name)) no_members) → IfOk result (λ answer. (answer.status ≡ Good) × (answer.cookie ≡ Kept)) → IfOk result (λ answer. answer.content ≡ Json) → IfOk result (λ answer. has_float (view v) ≡ false → answer.body.items ≡ compact_text (view v)) → IfOk result (IsNamed name)
 named_is name v (Ok answer) built head content text = record { status = head.0; content = content; cookie_is = head.1; text = text (ap has_float built) ∙ ap compact_text built }
 named_is name v (Err e) built head content text = tt
+
+-- ---- views
+
+-- the answer of a value that keeps the cookie
+pub view_is : (status : Status) (result : Result Answer AllocError) → IfOk result (λ answer. (answer.status ≡ status) × (answer.cookie ≡ Kept)) → IfOk result (λ answer. answer.content ≡ Json) → IfOk result IsView
+view_is status (Ok answer) head content = (content, head.1)
+view_is status (Err e) head content = tt
+
+-- one that says to try again
+pub wait_is : (result : Result Answer AllocError) → IfOk result (λ answer. (answer.status ≡ Unavailable) × (answer.cookie ≡ Kept)) → IfOk result (λ answer. answer.content ≡ Json) → IfOk result IsWait
+wait_is (Ok answer) head content = (head.0, content, head.1)
+wait_is (Err e) head content = tt
 
 -- ---- reasons, of which none has a float
 

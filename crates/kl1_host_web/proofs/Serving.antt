@@ -22,7 +22,7 @@ use Rattle.kl1_host_web.specs.Wishes.{wish_view, IsWish}
 use Rattle.kl1_host_web.specs.Telling.{Grants, IsRefusal, KeepsCookie}
 use Rattle.kl1_host_web.specs.Beginning.{IsDrawn, IsWelcome, Begun}
 use Rattle.kl1_host_web.proofs.Wanting.{refusal_keeps}
-use Rattle.kl1_host_web.specs.Serving.{Admits, LooksAt, KeepsOut, Ends, Performs, AnswersWithin, Answers, Attends, Exchange, Exchanges, Steps, HasHead, HasNoBody, HasBody}
+use Rattle.kl1_host_web.specs.Serving.{Admits, LooksAt, KeepsOut, Ends, Performs, AnswersWithin, Answers, Attends, Exchange, Exchanges, AsksNoMore, Steps, HasHead, HasNoBody, HasBody}
 use Rattle.kl1_host_web.specs.declared.serve.Served.{Served}
 use Rattle.kl1_host_web.specs.declared.wish.Wish.{Wish}
 use Rattle.kl1_host_web.specs.declared.outcome.Outcome.{Outcome}
@@ -130,6 +130,15 @@ kept_out tells idle house sites is_local head n why o old middle before after co
   told = told;
   looks = subst (λ w. LooksAt tells house idle sites is_local head n before after w) refused looks;
 }
+
+-- nothing more came after a head whose body is read
+pub no_more : (tells : ℕ → Type 0) (house : House) (idle : ℕ) (sites : List Site) (is_local : Bool) (head : Head) (n : ℕ) (is_in : Bool) (o : Result Bool Refusal) (before after : List Asked) → o ≡ Ok is_in → LooksAt tells house idle sites is_local head n before after o → AsksNoMore tells house idle sites is_local before after
+no_more tells house idle sites is_local head n is_in o before after sent looks = inr (head, n, is_in, subst (λ w. LooksAt tells house idle sites is_local head n before after w) sent looks)
+
+-- memory was refused before a request was read whole
+pub failed_before : (tells : ℕ → Type 0) (gives : List ℕ → Type 0) (idle : ℕ) (house : House) (sites : List Site) (is_local : Bool) (old new : Option (List ℕ)) (before after : List Asked) (r : Result Served AllocError) → IsErr r → AsksNoMore tells house idle sites is_local before after → Steps tells gives idle house sites is_local old new before after r
+failed_before tells gives idle house sites is_local old new before after (Ok s) h k = absurd h
+failed_before tells gives idle house sites is_local old new before after (Err e) h k = inl k
 
 -- memory was refused for the answer to a request that was attended to
 pub failed : (tells : ℕ → Type 0) (gives : List ℕ → Type 0) (idle : ℕ) (house : House) (sites : List Site) (is_local : Bool) (old new : Option (List ℕ)) (before after : List Asked) (head : Head) (body : List ℕ) (e : AllocError) (r : Result Served AllocError) → IsErrAnd r (λ f. f ≡ e) → Exchanges tells gives idle house sites is_local (record { head = head; body = body; answer = Err e }) old new before after → Steps tells gives idle house sites is_local old new before after r

@@ -47,7 +47,7 @@ fn is_bye(performed: &Performed) -> bool
 }
 
 /// Lets in by a name and a key.
-#[tactic(auto, using(crate::proofs::Wanting::told_opens, crate::proofs::Wanting::tells_opens, crate::proofs::Wanting::refused_opens))]
+#[tactic(auto, using(crate::proofs::Wanting::told_opens, crate::proofs::Wanting::tells_opens, crate::proofs::Wanting::refused_opens, crate::proofs::Wanting::enters_refused, crate::proofs::Wanting::enters_later))]
 fn enter<A: Accounts>(
     alloc: Global,
     accounts: &mut A,

@@ -162,12 +162,7 @@ impl<'p, R: Wait, M: Machine, K: LoginKeys> Service<'p, R, M, K> {
 
     /// Looks up whether a request is let in to an account, whose body of `count` bytes is read, by the sessions that are open now; or why that isn't
     /// read.
-    fn look<A: Accounts>(
-        &self,
-        accounts: &mut A,
-        head: &Head,
-        count: u64,
-    ) -> Result<bool, Refusal>
+    fn look<A: Accounts>(&self, accounts: &mut A, head: &Head, count: u64) -> Result<bool, Refusal>
         ensures house { A.house accounts.new ≡ A.house accounts.old }
         ensures looks { LooksUp (M.tells self.now.machine.now) (A.house accounts.old) self.now.page.idle self.now.page.sites.now self.now.is_local head.now count (A.asked accounts.old) (A.asked accounts.new) result }
     {
