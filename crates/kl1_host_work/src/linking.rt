@@ -3,7 +3,6 @@
 ghost use Rattle.std.specs.Prelude.{◌≡◌, IfOk};
 ghost use Rattle.kl1_journal_stamps.specs.Stamps.{IsStampOf};
 ghost use Rattle.kl1_host_work.specs.Linkages.{IsOwnOf, IsRead, Takes};
-ghost use Rattle.kl1_host_work.specs.declared.linking.Linkage.TheVariants.{Linked};
 
 use crate::account_place::AccountPlace;
 use crate::histories::OwnHistory;
@@ -112,7 +111,7 @@ impl<'p, D: Disk + Drop, J: Naming> Linking<'p, D, J> {
 
     /// The file, with what waits for it.
     pub(crate) fn into_linked(self) -> Result<Linked<D, J>, LinkFault>
-        ensures { IfOk result (λ l. self.entry.linkage ≡ Linked l) }
+        ensures { IfOk result (λ l. self.entry.linkage ≡ Linkage.Linked l) }
     {
         let Linking { linkage, .. } = self;
         match linkage {
