@@ -163,17 +163,15 @@ where
         visit: Some(visit),
     };
     let answers = desk.board.answers();
-    let mut source = FailureCounter::new(VisitReader::new(rt, visit, desk.host.live.limits(), answers));
+    let mut source = FailureCounter::new(VisitReader::new(
+        rt,
+        visit,
+        desk.host.live.limits(),
+        answers,
+    ));
     let writer = SyncedWriter::new(visit.stream(), rt, desk.host.keepers, &outgoing);
     let mut sink = FailureCounter::new(writer);
-    desk.front.serve_pages(
-        address,
-        keys,
-        &mut source,
-        &mut sink,
-        &mut performer,
-        &view,
-    );
+    desk.front.serve_pages(address, keys, &mut source, &mut sink, &mut performer, &view);
     visit.end_answer(rt, answers);
     let HostHandler { exchange, .. } = performer;
     let (share, _) = exchange.into_parts();
@@ -197,7 +195,5 @@ pub(crate) fn serve_pages<'p, 't, F: Front, W: Wait + Clock, R: Wait, K: PoolIds
         return share;
     }
     let connection = FreshConnection::new();
-    serve_pages_of::<F, W, R, K, Brand>(
-        rt, desk, edition, keys, visit, address, share, connection,
-    )
+    serve_pages_of::<F, W, R, K, Brand>(rt, desk, edition, keys, visit, address, share, connection)
 }

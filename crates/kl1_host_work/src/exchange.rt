@@ -140,13 +140,14 @@ impl<K: PoolIds + Naming, C: Connecting + Names> Exchange<K, C> {
             .history
             .act_shown(rt, pool, account, name, command, &mut noting);
         let Noting { outgoing, .. } = noting;
-        let (leave, waiting) = if matches!(&performed, Performed::Memory) {
-            (outgoing, Waiting::Nothing)
-        } else {
-            let leave = if_held(outgoing, account, is_shown);
-            let waiting = Waiting::Noted(Snapshot::of(&leave), Snapshot::of(&self.history));
-            (leave, waiting)
-        };
+        if let Performed::Memory = &performed {
+            self.notice = Notice {
+                waiting: Waiting::Nothing,
+            };
+            return (Performed::Memory, outgoing);
+        }
+        let leave = if_held(outgoing, account, is_shown);
+        let waiting = Waiting::Noted(Snapshot::of(&leave), Snapshot::of(&self.history));
         self.notice = Notice { waiting };
         (performed, leave)
     }

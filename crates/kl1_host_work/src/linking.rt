@@ -54,7 +54,21 @@ fn linked<D: Disk + Drop, J: Naming>(
                 Err(fault) => Linkage::Failed(fault),
             }
         }
-        linkage => linkage,
+        Linkage::Linked(linked) => Linkage::Linked(linked),
+        Linkage::Failed(fault) => Linkage::Failed(fault),
+    }
+}
+
+/// How far it is with a file of this history, if there is one.
+fn unlinked<D: Disk + Drop, J: Naming>(
+    file: Option<RestingFile<D>>,
+    own: OwnHistory<J>,
+) -> Linkage<D, J>
+    ensures { IsOwnOf own.account result }
+{
+    match file {
+        Some(file) => Linkage::Unlinked(file, own),
+        None => Linkage::Failed(LinkFault::Memory),
     }
 }
 
@@ -97,15 +111,12 @@ impl<'p, D: Disk + Drop, J: Naming> Linking<'p, D, J> {
         ensures journal { result.opened.journal ≡ opened.journal }
     {
         let mut opened = opened;
-        let linkage = match opened.take_file() {
-            Some(file) => Linkage::Unlinked(file, own),
-            None => Linkage::Failed(LinkFault::Memory),
-        };
+        let file = opened.take_file();
         Linking {
             alloc,
             place,
             opened,
-            linkage,
+            linkage: unlinked(file, own),
         }
     }
 
