@@ -1,11 +1,11 @@
 -- What a host is asked at its socket.
-use Rattle.std.specs.Prelude.{ℕ, ◌-◌, ◌==◌, ◌&&◌, nat_le, Bool, if◌then◌else◌, List, length, take, slice_index, codes, bytes_eq}
+use Rattle.std.specs.Prelude.{ℕ, ◌-◌, ◌==◌, ◌&&◌, nat_le, Bool, if◌then◌else◌, List, length, take, slice_get, Some, None, codes, bytes_eq}
 use Rattle.kl1_host.specs.declared.control.Ask.{Ask}
 use Rattle.kl1_host.specs.declared.control.Ask.TheVariants.{Status, Stop, Accounts, Reload, Close, Unknown}
 
 -- bytes without a line feed at their end
 abbrev pub line_in : List ℕ → List ℕ
-line_in bytes = if slice_index bytes (length bytes - 1) == 10 then take (length bytes - 1) bytes else bytes
+line_in bytes = elim (slice_get bytes (length bytes - 1)) [ None ↦ bytes | Some b ↦ if b == 10 then take (length bytes - 1) bytes else bytes ]
 
 -- whether a line asks that an account leaves, whose name stands after that
 abbrev pub is_close : List ℕ → Bool

@@ -1,7 +1,7 @@
 // What a host that runs is asked by its socket.
 
 ghost use Rattle.std.specs.Prelude.{◌≡◌};
-ghost use Rattle.kl1_host.specs.Asks.{line_in, is_close, asked_in};
+ghost use Rattle.kl1_host.specs.Asks.{line_in, is_close, line_asks, asked_in};
 
 use kl1_lines::is_same;
 use std::alloc::{AllocError, Global};
@@ -41,15 +41,11 @@ const CLOSE: &[u8] = b"close ";
 fn line_in(bytes: &[u8]) -> &[u8]
     ensures { result.now ≡ line_in bytes.now }
 {
-    if bytes.is_empty() {
+    let end = bytes.len().saturating_sub(1);
+    let Some(last) = bytes.last() else {
         return bytes;
-    }
-    let last = bytes.len() - 1;
-    if bytes[last] == b'\n' {
-        &bytes[..last]
-    } else {
-        bytes
-    }
+    };
+    if *last == b'\n' { &bytes[..end] } else { bytes }
 }
 
 /// Whether a line asks that an account leaves.
@@ -59,11 +55,10 @@ fn is_close(line: &[u8]) -> bool
     line.len() >= CLOSE.len() && is_same(&line[..CLOSE.len()], CLOSE)
 }
 
-/// What these bytes ask, of which the last may be a line feed.
-fn ask_in(bytes: &[u8]) -> Ask
-    ensures { result ≡ asked_in bytes.now }
+/// What a line asks.
+fn ask_of(line: &[u8]) -> Ask
+    ensures { result ≡ line_asks line.now }
 {
-    let line = line_in(bytes);
     if is_same(line, b"status") {
         Ask::Status
     } else if is_same(line, b"stop") {
@@ -77,6 +72,13 @@ fn ask_in(bytes: &[u8]) -> Ask
     } else {
         Ask::Unknown
     }
+}
+
+/// What these bytes ask, of which the last may be a line feed.
+fn ask_in(bytes: &[u8]) -> Ask
+    ensures { result ≡ asked_in bytes.now }
+{
+    ask_of(line_in(bytes))
 }
 
 /// What is asked over a stream: what comes in one read, which stands in `bytes` then.
