@@ -7,7 +7,7 @@ use Rattle.std.proofs.lemmas.List.Elements.{filter-append}
 use Rattle.kl1_session.specs.Files.{Entry}
 use Rattle.kl1_session.specs.Views.{entry_view, entries_view}
 use Rattle.kl1_session.specs.declared.key.Key.{Key}
-use Rattle.kl1_host.specs.NextKeys.{named, next_at, is_rekeyed, is_removed, newcomers, places_where, put_if, entry_if, IsTakenOver, IsAdded, AreBrought}
+use Rattle.kl1_host.specs.NextKeys.{named, next_at, is_rekeyed, is_removed, newcomers, places_where, put_if, entry_if, IsTakenOver, IsAdded, IsAddedIf, AreBrought}
 use Rattle.kl1_host.specs.declared.next_keys.NextKeys.{NextKeys}
 
 -- the entries up to the next key, and that of the key
@@ -16,7 +16,7 @@ view_more ks i k within is =
     ap entries_view (take_more ks i k within ∙ ap (λ (x : Key). take i ks ++ x ∷ []) (sym is))
     ∙ map-append entry_view (take i ks) (k ∷ [])
 
-cons_if : Bool → ℕ → List ℕ → List ℕ
+abbrev cons_if : Bool → ℕ → List ℕ → List ℕ
 cons_if b n ns = if b then n ∷ ns else ns
 
 cons_one : (b : Bool) (n m : ℕ) → n ≡ m → cons_if b n [] ≡ put_if b m []
@@ -101,7 +101,7 @@ module _ (now wanted : List Entry) where
       ∙ ap (λ (c : Bool). newcomers now ws ++ (if c then w ∷ [] else [])) is
 
   -- one that is wanted and has no place
-  pub one_comes : (places : ℕ) (ws after : List Entry) (w : Entry) (old new : NextKeys) → after ≡ ws ++ w ∷ [] → not (is_some (named now w.name)) ≡ true → AreBrought now wanted (take (places - length now) (newcomers now ws)) old → IsAdded places w old new → AreBrought now wanted (take (places - length now) (newcomers now after)) new
+  one_comes : (places : ℕ) (ws after : List Entry) (w : Entry) (old new : NextKeys) → after ≡ ws ++ w ∷ [] → not (is_some (named now w.name)) ≡ true → AreBrought now wanted (take (places - length now) (newcomers now ws)) old → IsAdded places w old new → AreBrought now wanted (take (places - length now) (newcomers now after)) new
   one_comes places ws after w old new is none so added =
       let m = places - length now in
       let more : newcomers now after ≡ newcomers now ws ++ w ∷ [] = ap (newcomers now) is ∙ comers_more ws w true none in
@@ -109,9 +109,16 @@ module _ (now wanted : List Entry) where
       subst Q (sym more) (come_by places (newcomers now ws) w old new (nat_lt (length (newcomers now ws)) m) refl so added)
 
   -- one that is wanted and has one
-  pub one_stays : (places : ℕ) (ws after : List Entry) (w : Entry) (n : NextKeys) → after ≡ ws ++ w ∷ [] → not (is_some (named now w.name)) ≡ false → AreBrought now wanted (take (places - length now) (newcomers now ws)) n → AreBrought now wanted (take (places - length now) (newcomers now after)) n
+  one_stays : (places : ℕ) (ws after : List Entry) (w : Entry) (n : NextKeys) → after ≡ ws ++ w ∷ [] → not (is_some (named now w.name)) ≡ false → AreBrought now wanted (take (places - length now) (newcomers now ws)) n → AreBrought now wanted (take (places - length now) (newcomers now after)) n
   one_stays places ws after w n is some so =
       let m = places - length now in
       let same : newcomers now after ≡ newcomers now ws = ap (newcomers now) is ∙ comers_more ws w false some ∙ append-nil (newcomers now ws) in
       let Q : List Entry → Type 0 = λ (x : List Entry). AreBrought now wanted (take m x) n in
       subst Q (sym same) so
+
+  -- one that is wanted
+  pub one_more : (places : ℕ) (ws after : List Entry) (w : Entry) (old new : NextKeys) (comes : Bool) → after ≡ ws ++ w ∷ [] → comes ≡ not (is_some (named now w.name)) → AreBrought now wanted (take (places - length now) (newcomers now ws)) old → IsAddedIf comes places w old new → AreBrought now wanted (take (places - length now) (newcomers now after)) new
+  one_more places ws after w old new true is none so added = one_comes places ws after w old new is (sym none) so added
+  one_more places ws after w old new false is some so same =
+      let P : NextKeys → Type 0 = λ (x : NextKeys). AreBrought now wanted (take (places - length now) (newcomers now after)) x in
+      subst P (sym same) (one_stays places ws after w old is (sym some) so)

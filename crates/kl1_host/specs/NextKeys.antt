@@ -59,6 +59,11 @@ pub record IsAdded (places : ℕ) (e : Entry) (old new : NextKeys) : Type 0 wher
   pub removed : new.removed.items ≡ old.removed.items
   pub added : new.added.items ≡ put_if (nat_lt (length old.keys.items) places) (length old.keys.items) old.added.items
 
+-- one that is wanted comes, or has its place already
+abbrev pub IsAddedIf : Bool → ℕ → Entry → NextKeys → NextKeys → Type 0
+IsAddedIf true places e old new = IsAdded places e old new
+IsAddedIf false places e old new = new ≡ old
+
 -- each account that stays has its place, those that come have the places after them, and nobody has the place of another
 pub record AreBrought (now wanted come : List Entry) (next : NextKeys) : Type 0 where
   pub keys : entries_view next.keys.items ≡ map (next_at wanted) now ++ come

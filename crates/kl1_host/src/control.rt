@@ -1,7 +1,7 @@
 // What a host that runs is asked by its socket.
 
 ghost use Rattle.std.specs.Prelude.{◌≡◌};
-ghost use Rattle.kl1_host.specs.Asks.{asked_in};
+ghost use Rattle.kl1_host.specs.Asks.{line_in, is_close, line_asks, asked_in};
 
 use kl1_lines::is_same;
 use std::alloc::{AllocError, Global};
@@ -37,29 +37,48 @@ enum Ask {
 /// How it is asked that an account leaves.
 const CLOSE: &[u8] = b"close ";
 
-/// Whether bytes are a word, after which a line feed may come.
-fn is_word(bytes: &[u8], word: &[u8]) -> bool {
-    is_same(bytes.strip_suffix(b"\n").unwrap_or(bytes), word)
+/// Bytes without a line feed at their end.
+fn line_in(bytes: &[u8]) -> &[u8]
+    ensures { result.now ≡ line_in bytes.now }
+{
+    let end = bytes.len().saturating_sub(1);
+    let Some(last) = bytes.last() else {
+        return bytes;
+    };
+    if *last == b'\n' { &bytes[..end] } else { bytes }
+}
+
+/// Whether a line asks that an account leaves.
+fn is_close(line: &[u8]) -> bool
+    ensures { result ≡ is_close line.now }
+{
+    line.len() >= CLOSE.len() && is_same(&line[..CLOSE.len()], CLOSE)
+}
+
+/// What a line asks.
+fn ask_of(line: &[u8]) -> Ask
+    ensures { result ≡ line_asks line.now }
+{
+    if is_same(line, b"status") {
+        Ask::Status
+    } else if is_same(line, b"stop") {
+        Ask::Stop
+    } else if is_same(line, b"accounts") {
+        Ask::Accounts
+    } else if is_same(line, b"reload") {
+        Ask::Reload
+    } else if is_close(line) {
+        Ask::Close(CLOSE.len(), line.len())
+    } else {
+        Ask::Unknown
+    }
 }
 
 /// What these bytes ask, of which the last may be a line feed.
 fn ask_in(bytes: &[u8]) -> Ask
     ensures { result ≡ asked_in bytes.now }
 {
-    if is_word(bytes, b"status") {
-        Ask::Status
-    } else if is_word(bytes, b"stop") {
-        Ask::Stop
-    } else if is_word(bytes, b"accounts") {
-        Ask::Accounts
-    } else if is_word(bytes, b"reload") {
-        Ask::Reload
-    } else if bytes.starts_with(CLOSE) {
-        let line = bytes.strip_suffix(b"\n").unwrap_or(bytes);
-        Ask::Close(CLOSE.len(), line.len())
-    } else {
-        Ask::Unknown
-    }
+    ask_of(line_in(bytes))
 }
 
 /// What is asked over a stream: what comes in one read, which stands in `bytes` then.

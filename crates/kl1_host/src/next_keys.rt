@@ -2,7 +2,7 @@
 
 ghost use Rattle.std.specs.Prelude.{◌≡◌, [], not, is_some, IfOk, option_map};
 ghost use Rattle.kl1_session.specs.Views.{entry_view, entries_view};
-ghost use Rattle.kl1_host.specs.NextKeys.{nobody, named, is_there, next_at, is_rekeyed, is_removed, IsTakenOver, IsAdded, IsNext};
+ghost use Rattle.kl1_host.specs.NextKeys.{nobody, named, is_there, next_at, is_rekeyed, is_removed, IsTakenOver, IsAdded, IsAddedIf, IsNext};
 
 use kl1_session::Key;
 use std::alloc::{AllocError, Global};
@@ -141,6 +141,23 @@ impl NextKeys {
         self.keys.push(copy_of(alloc, key)?)?;
         Ok(())
     }
+
+    /// Takes in one that is wanted, if it comes.
+    fn add_if(
+        &mut self,
+        alloc: Global,
+        comes: bool,
+        key: &Key,
+        places: usize,
+    ) -> Result<(), AllocError>
+        ensures { IfOk result (λ _. IsAddedIf comes places (entry_view key.now) self.old self.new) }
+    {
+        if comes {
+            self.add(alloc, key, places)
+        } else {
+            Ok(())
+        }
+    }
 }
 
 /// The next edition after `now`, if accounts with these keys are wanted and there are so many places.
@@ -157,9 +174,7 @@ pub fn next_keys(
         next.take_over(alloc, key, wanted)?;
     }
     for key in wanted {
-        if is_newcomer(now, key) {
-            next.add(alloc, key, places)?;
-        }
+        next.add_if(alloc, is_newcomer(now, key), key, places)?;
     }
     Ok(next)
 }

@@ -1,4 +1,4 @@
--- A file that comes with an account, and is linked with its journal. Not run yet.
+-- A file that comes with an account, and is linked with its journal.
 use Rattle.std.proofs.Common.{◌≡◌, ◌⊎◌, ◌×◌, ℕ, List, sym, ap, subst, ◌∙◌, inl, inr}
 use Rattle.std.specs.Prelude.{Some, slice_get}
 use Rattle.kl1_model.specs.declared.rules.Rules.{Rules}

@@ -33,6 +33,11 @@ pub record Adds (account : ℕ) (c : Command) (p : Performed) (old new : Exchang
   pub replies_wait : new.replies_wait ≡ old.replies_wait
 
 module _ {K C : Type 0} {g : naming.Ghosts K} {shown : shown_ids.Ghosts K} {h : connecting.Ghosts C} where
+  -- an answer waits for a note: the leave was this, and all of this had been done
+  abbrev pub IsNoticeOf : HistoryValue → Outgoing K C g shown h → Waiting K C shown g h → Type 0
+  IsNoticeOf v o Nothing = ⊥
+  IsNoticeOf v o (Noted leave after) = (leave.value ≡ o) × (after.value ≡ v)
+
   -- The answer to the last of what was done waits for its account's note, which has it: the leave to write was held for that, or is lost. Or it
   -- waits for nothing, if memory was refused, or if it tells nothing that is to be on disk before
   abbrev pub IsCared : Rules → List (List ℕ) → Bool → List Done → Done → Waiting K C shown g h → Type 0

@@ -19,7 +19,7 @@ use crate::visit::{Visit, VisitReader, WatchedDoor};
 use kl1_host_journals::{Connecting, FreshConnection, Naming, Outgoing, SyncedWriter};
 use kl1_lines::{FailureCounter, Sink, Source};
 use kl1_pool::{Names, Pool, PoolIds, Share};
-use kl1_session::{Disconnect, Door};
+use kl1_session::{Disconnect, Door, Key};
 use std::alloc::Global;
 use std::cell::Cell;
 use std::marker::Brand;
@@ -134,7 +134,8 @@ where
 fn serve_pages_of<'p, 't, F: Front, W: Wait + Clock, R: Wait, K, C: Connecting + Names>(
     rt: &'p W,
     desk: &'p Desk<'p, 't, F, R, K>,
-    host: Host<'p, K>,
+    edition: u64,
+    keys: &'p [Key],
     visit: &'p Visit,
     address: SocketAddr,
     share: Share<K>,
@@ -142,37 +143,35 @@ fn serve_pages_of<'p, 't, F: Front, W: Wait + Clock, R: Wait, K, C: Connecting +
 ) -> Share<K>
 where
     K: PoolIds + Naming,
-    requires few { length host.keys.now ≤ K.accounts }
-    requires named { names_in (entries_view host.keys.now) ≡ C.names }
+    requires few { length keys.now ≤ K.accounts }
+    requires named { names_in (entries_view keys.now) ≡ C.names }
     requires connection { connection.pen.book ≡ C.connection }
 {
     let outgoing = Cell::new(Outgoing::<K, C>::new(connection));
     let mut performer = HostHandler {
         rt,
         pool: desk.pool,
-        host,
+        host: desk.host.with_keys(edition, keys),
         outgoing: &outgoing,
-        exchange: Exchange::new(share, host.syncing.replies_wait),
+        exchange: Exchange::new(share, desk.host.syncing.replies_wait),
     };
     let view = View {
         rt,
         desk,
-        edition: host.edition,
+        edition,
         outgoing: Some(&outgoing),
         visit: Some(visit),
     };
     let answers = desk.board.answers();
-    let mut source = FailureCounter::new(VisitReader::new(rt, visit, host.live.limits(), answers));
-    let writer = SyncedWriter::new(visit.stream(), rt, host.keepers, &outgoing);
+    let mut source = FailureCounter::new(VisitReader::new(
+        rt,
+        visit,
+        desk.host.live.limits(),
+        answers,
+    ));
+    let writer = SyncedWriter::new(visit.stream(), rt, desk.host.keepers, &outgoing);
     let mut sink = FailureCounter::new(writer);
-    desk.front.serve_pages(
-        address,
-        host.keys,
-        &mut source,
-        &mut sink,
-        &mut performer,
-        &view,
-    );
+    desk.front.serve_pages(address, keys, &mut source, &mut sink, &mut performer, &view);
     visit.end_answer(rt, answers);
     let HostHandler { exchange, .. } = performer;
     let (share, _) = exchange.into_parts();
@@ -195,7 +194,6 @@ pub(crate) fn serve_pages<'p, 't, F: Front, W: Wait + Clock, R: Wait, K: PoolIds
     if keys.len() > desk.pool.accounts() {
         return share;
     }
-    let host = desk.host.with_keys(edition, keys);
     let connection = FreshConnection::new();
-    serve_pages_of::<F, W, R, K, Brand>(rt, desk, host, visit, address, share, connection)
+    serve_pages_of::<F, W, R, K, Brand>(rt, desk, edition, keys, visit, address, share, connection)
 }

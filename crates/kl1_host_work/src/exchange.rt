@@ -6,7 +6,7 @@ ghost use Rattle.kl1_command.specs.declared.performed.Performed.TheVariants.{Mem
 ghost use Rattle.kl1_pool.specs.Names.{called_at};
 ghost use Rattle.kl1_pool_history.specs.Histories.{AreAnswered};
 ghost use Rattle.kl1_host_work.specs.Noted.{is_lost, IsNotedAfter};
-ghost use Rattle.kl1_host_work.specs.Notices.{tells_nothing, Adds, IsTold};
+ghost use Rattle.kl1_host_work.specs.Notices.{tells_nothing, Adds, IsNoticeOf, IsTold};
 
 use crate::filling::is_of_sessions;
 use crate::noting::{NoReader, Noting, if_held};
@@ -32,6 +32,17 @@ enum Waiting<K: PoolIds + Naming, C: Connecting + Names> {
 #[derive(Drop)]
 pub struct Notice<K: PoolIds + Naming, C: Connecting + Names> {
     waiting: Waiting<K, C>,
+}
+
+/// An answer waits for a note: the leave to write is this, and this was done.
+fn noted<K: PoolIds + Naming, C: Connecting + Names>(
+    history: &History<K, C>,
+    leave: &Outgoing<K, C>,
+) -> Notice<K, C>
+    ensures { IsNoticeOf history.now leave.now result.waiting }
+{
+    let waiting = Waiting::Noted(Snapshot::of(leave), Snapshot::of(history));
+    Notice { waiting }
 }
 
 /// What was done for one connection, in order, and for what the last answer waits.
@@ -140,14 +151,14 @@ impl<K: PoolIds + Naming, C: Connecting + Names> Exchange<K, C> {
             .history
             .act_shown(rt, pool, account, name, command, &mut noting);
         let Noting { outgoing, .. } = noting;
-        let (leave, waiting) = if matches!(&performed, Performed::Memory) {
-            (outgoing, Waiting::Nothing)
-        } else {
-            let leave = if_held(outgoing, account, is_shown);
-            let waiting = Waiting::Noted(Snapshot::of(&leave), Snapshot::of(&self.history));
-            (leave, waiting)
-        };
-        self.notice = Notice { waiting };
+        if let Performed::Memory = &performed {
+            self.notice = Notice {
+                waiting: Waiting::Nothing,
+            };
+            return (Performed::Memory, outgoing);
+        }
+        let leave = if_held(outgoing, account, is_shown);
+        self.notice = noted(&self.history, &leave);
         (performed, leave)
     }
 

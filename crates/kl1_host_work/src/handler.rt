@@ -144,7 +144,8 @@ impl<'p, 't, W: Wait, R: Wait, K: PoolIds + Naming, C: Connecting + Names> HostH
         requires within { account < K.accounts }
         requires named { slice_get C.names account ≡ Some name.now }
         requires nothing { tells_nothing (command_view command.now) self.old.exchange.replies_wait ≡ true }
-        ensures { Adds account (command_view command.now) result self.old.exchange self.new.exchange }
+        ensures done { Adds account (command_view command.now) result self.old.exchange self.new.exchange }
+        ensures accounts { length self.new.host.keys.now ≡ length self.old.host.keys.now }
     {
         let performed = self
             .exchange
@@ -162,7 +163,8 @@ impl<'p, 't, W: Wait, R: Wait, K: PoolIds + Naming, C: Connecting + Names> HostH
     fn act_noted(&mut self, account: usize, name: &[u8], command: &Command) -> Performed
         requires within { account < K.accounts }
         requires named { slice_get C.names account ≡ Some name.now }
-        ensures { Adds account (command_view command.now) result self.old.exchange self.new.exchange }
+        ensures done { Adds account (command_view command.now) result self.old.exchange self.new.exchange }
+        ensures accounts { length self.new.host.keys.now ≡ length self.old.host.keys.now }
     {
         let host = self.host;
         let leave = take_leave(self.rt, host, self.outgoing, account);

@@ -18,7 +18,10 @@ impl<'k, W: Wait, J: Naming, C: Connecting> LastReader for Noting<'k, W, J, C> {
     ghost has_read = { λ n. waits n.outgoing };
 
     fn is_done(&self) -> bool {
-        matches!(&self.outgoing, Outgoing::Waits(_))
+        match &self.outgoing {
+            Outgoing::Waits(_) => true,
+            Outgoing::Free(_) | Outgoing::Lost => false,
+        }
     }
 }
 

@@ -3,7 +3,6 @@
 ghost use Rattle.std.specs.Prelude.{◌≡◌, IfOk};
 ghost use Rattle.kl1_journal_stamps.specs.Stamps.{IsStampOf};
 ghost use Rattle.kl1_host_work.specs.Linkages.{IsOwnOf, IsRead, Takes};
-ghost use Rattle.kl1_host_work.specs.declared.linking.Linkage.TheVariants.{Linked};
 
 use crate::account_place::AccountPlace;
 use crate::histories::OwnHistory;
@@ -55,7 +54,21 @@ fn linked<D: Disk + Drop, J: Naming>(
                 Err(fault) => Linkage::Failed(fault),
             }
         }
-        linkage => linkage,
+        Linkage::Linked(linked) => Linkage::Linked(linked),
+        Linkage::Failed(fault) => Linkage::Failed(fault),
+    }
+}
+
+/// How far it is with a file of this history, if there is one.
+fn unlinked<D: Disk + Drop, J: Naming>(
+    file: Option<RestingFile<D>>,
+    own: OwnHistory<J>,
+) -> Linkage<D, J>
+    ensures { IsOwnOf own.account result }
+{
+    match file {
+        Some(file) => Linkage::Unlinked(file, own),
+        None => Linkage::Failed(LinkFault::Memory),
     }
 }
 
@@ -98,21 +111,18 @@ impl<'p, D: Disk + Drop, J: Naming> Linking<'p, D, J> {
         ensures journal { result.opened.journal ≡ opened.journal }
     {
         let mut opened = opened;
-        let linkage = match opened.take_file() {
-            Some(file) => Linkage::Unlinked(file, own),
-            None => Linkage::Failed(LinkFault::Memory),
-        };
+        let file = opened.take_file();
         Linking {
             alloc,
             place,
             opened,
-            linkage,
+            linkage: unlinked(file, own),
         }
     }
 
     /// The file, with what waits for it.
     pub(crate) fn into_linked(self) -> Result<Linked<D, J>, LinkFault>
-        ensures { IfOk result (λ l. self.entry.linkage ≡ Linked l) }
+        ensures { IfOk result (λ l. self.entry.linkage ≡ Linkage.Linked l) }
     {
         let Linking { linkage, .. } = self;
         match linkage {

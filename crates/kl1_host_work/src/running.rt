@@ -18,6 +18,7 @@ use crate::watching::{tell_waits, watch};
 use kl1_host_journals::{Bell, Connecting, FaultTeller, FreshConnection, Naming, Outgoing};
 use kl1_log::{Disk, LogError, LogFile};
 use kl1_pool::{Gate, Names, Pool, PoolIds, Share, worker};
+use kl1_session::Key;
 use std::cell::Cell;
 use std::marker::Brand;
 use std::net::{Net, TcpListener, TcpStream};
@@ -116,32 +117,33 @@ fn wake<N: Net<Listener = TcpListener, Stream = TcpStream> + Clock>(
 fn attend_as<'p, 't, F: Front, N: Wait + Clock, R: Wait, K, C: Connecting + Names>(
     rt: &'p N,
     desk: &'p Desk<'p, 't, F, R, K>,
-    host: Host<'p, K>,
+    edition: u64,
+    keys: &'p [Key],
     share: Share<K>,
     connection: FreshConnection,
 ) -> (bool, Share<K>)
 where
     K: PoolIds + Naming,
-    requires few { length host.keys.now ≤ K.accounts }
-    requires named { names_in (entries_view host.keys.now) ≡ C.names }
+    requires few { length keys.now ≤ K.accounts }
+    requires named { names_in (entries_view keys.now) ≡ C.names }
     requires connection { connection.pen.book ≡ C.connection }
 {
     let outgoing = Cell::new(Outgoing::<K, C>::new(connection));
     let mut performer = HostHandler {
         rt,
         pool: desk.pool,
-        host,
+        host: desk.host.with_keys(edition, keys),
         outgoing: &outgoing,
-        exchange: Exchange::new(share, host.syncing.replies_wait),
+        exchange: Exchange::new(share, desk.host.syncing.replies_wait),
     };
     let view = View::<F, N, R, K, C> {
         rt,
         desk,
-        edition: host.edition,
+        edition,
         outgoing: None,
         visit: None,
     };
-    let again = desk.front.attend(host.keys, &mut performer, &view);
+    let again = desk.front.attend(keys, &mut performer, &view);
     let HostHandler { exchange, .. } = performer;
     let (share, _) = exchange.into_parts();
     (again, share)
@@ -159,9 +161,8 @@ fn attend_once<'p, 't, F: Front, N: Wait + Clock, R: Wait, K: PoolIds + Naming>(
     if keys.len() > desk.pool.accounts() {
         return (false, share);
     }
-    let host = desk.host.with_keys(edition, keys);
     let connection = FreshConnection::new();
-    attend_as::<F, N, R, K, Brand>(rt, desk, host, share, connection)
+    attend_as::<F, N, R, K, Brand>(rt, desk, edition, keys, share, connection)
 }
 
 /// Lets the program attend to a host if all its threads are there, with a share for the commands that it does.

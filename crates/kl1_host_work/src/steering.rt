@@ -40,18 +40,21 @@ pub trait Steering {
 impl<F: Front, N: Wait + Clock, R: Wait, K: PoolIds + Naming, C: Connecting> Steering
     for View<'_, '_, '_, F, N, R, K, C> {
     fn places(&self) -> usize {
-        self.desk.host.places.len()
+        let host = self.desk.host;
+        host.places.len()
     }
 
     fn standing(&self, account: usize) -> PlaceState {
-        match self.desk.host.places.get(account) {
+        let host = self.desk.host;
+        match host.places.get(account) {
             Some(place) => place.standing(self.rt),
             None => PlaceState::Left,
         }
     }
 
     fn bring(&self, account: usize) -> bool {
-        match self.desk.host.places.get(account) {
+        let host = self.desk.host;
+        match host.places.get(account) {
             Some(place) => place.order(self.rt),
             None => false,
         }

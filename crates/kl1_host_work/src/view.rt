@@ -121,7 +121,8 @@ impl<F: Front, N: Wait + Clock, R: Wait, K: PoolIds + Naming, C: Connecting> Hos
     }
 
     fn restoring(&self, account: usize) -> Option<(u64, u64)> {
-        match self.desk.host.places.get(account)?.standing(self.rt) {
+        let host = self.desk.host;
+        match host.places.get(account)?.standing(self.rt) {
             PlaceState::Restores { done, all } => Some((done, all)),
             _ => None,
         }

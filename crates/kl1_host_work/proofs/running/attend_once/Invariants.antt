@@ -6,4 +6,4 @@ abbrev pub ghosts-attend_as-C-Connecting : goal.ghosts-attend_as-C-Connecting
 ghosts-attend_as-C-Connecting g a = record { connection = a.connection.pen.book }
 
 abbrev pub ghosts-attend_as-C-Names : goal.ghosts-attend_as-C-Names
-ghosts-attend_as-C-Names g a = record { names = names_in (entries_view a.host.keys.now) }
+ghosts-attend_as-C-Names g a = record { names = names_in (entries_view a.keys.now) }

@@ -9,18 +9,14 @@ either_quiet : {D : Type 0} (b : Bool) → Quiet (if_kept b (unseen {D = D}) (un
 either_quiet true x w = tt
 either_quiet false x w = tt
 
--- the front has no more accounts than the pool, and what may be sent and shared here may be so in the closure, whose parameters have other
--- places
-pub write_while-requires-after_bounds : goal.write_while-requires-after_bounds
-write_while-requires-after_bounds g c κs within =
+-- what may be sent and shared here may be so in the closure, whose parameters have other places
+pub keep_while-requires-after_bounds : goal.keep_while-requires-after_bounds
+keep_while-requires-after_bounds g c κs within =
     let t = c.type_bounds in
     λ there. (
-      c.requires,
-      (
-        record { owned = t.send-K.owned; leaving = λ k. either_quiet (k (of_param 2)) },
-        record { owned = t.send-F-Entrance.owned; leaving = λ k. either_quiet (k (of_param 3)) },
-        record { shared = t.sync-F.shared },
-        record { shared = t.sync-R.shared },
-        record { shared = t.sync-K.shared },
-      ),
+      record { owned = t.send-K.owned; leaving = λ k. either_quiet (k (of_param 2)) },
+      record { owned = t.send-F-Entrance.owned; leaving = λ k. either_quiet (k (of_param 3)) },
+      record { shared = t.sync-F.shared },
+      record { shared = t.sync-R.shared },
+      record { shared = t.sync-K.shared },
     )
