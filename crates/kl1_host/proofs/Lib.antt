@@ -1,3 +1,5 @@
 pub mod Cutting
 pub mod Doors
 pub mod FilesOfKeys
+pub mod Browsing
+mod SentFiles

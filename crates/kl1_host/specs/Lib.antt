@@ -1,4 +1,5 @@
 pub mod Asks
+pub mod Browsers
 pub mod Ends
 pub mod Repairs
 pub mod Setups

@@ -64,8 +64,8 @@ fn text_with(
     }
 }
 
-/// Writes the file of accounts anew: a crash leaves the old one or the new one.
-fn write_accounts(rt: &HostRuntime, folder: &str, text: &[u8]) -> Result<(), Fault> {
+/// Writes the new file of accounts beside the old one.
+fn prepare_accounts(rt: &HostRuntime, folder: &str, text: &[u8]) -> Result<(), Fault> {
     let alloc = rt.alloc();
     let new = path_in(alloc, folder, NEW_ACCOUNTS)?;
     match fs::remove_file(rt, new.as_str()) {
@@ -74,14 +74,21 @@ fn write_accounts(rt: &HostRuntime, folder: &str, text: &[u8]) -> Result<(), Fau
         }
         _ => {}
     }
-    write_new(rt, alloc, new.as_str(), text)?;
+    write_new(rt, alloc, new.as_str(), text)
+}
+
+/// Gives the new file of accounts its name: a crash leaves the old one or the new one.
+fn rename_accounts(rt: &HostRuntime, folder: &str) -> Result<(), Fault> {
+    let alloc = rt.alloc();
+    let new = path_in(alloc, folder, NEW_ACCOUNTS)?;
     let path = path_in(alloc, folder, ACCOUNTS)?;
     let renamed = fs::rename(rt, new.as_str(), path.as_str());
     at_path(alloc, path.as_str(), renamed)?;
     sync_folder(rt, alloc, folder)
 }
 
-/// Adds an account, writes its key to standard output, and answers the program's status. The key is nowhere else.
+/// Adds an account, writes its key to standard output, and answers the program's status. The key is nowhere else, and comes before the
+/// account: whenever this ends, there is no account whose key nobody has.
 pub fn add_account(rt: &HostRuntime, folder: &str, name: &str) -> Result<u8, Fault> {
     let _lock = lock_folder(
         rt,
@@ -92,13 +99,13 @@ pub fn add_account(rt: &HostRuntime, folder: &str, name: &str) -> Result<u8, Fau
     let accounts = accounts_in(rt, folder)?;
     refuse_used(rt, &accounts, name)?;
     let key = new_key(rt)?;
-    let before = accounts.text.len();
     let text = text_with(rt, accounts, name, key.as_str())?;
-    write_accounts(rt, folder, text.as_slice())?;
+    prepare_accounts(rt, folder, text.as_slice())?;
     if let Err(error) = println!(rt; "{key}") {
-        // Nobody has the key, so the account goes again.
-        write_accounts(rt, folder, text.get(..before).unwrap_or(text.as_slice()))?;
+        let new = path_in(rt.alloc(), folder, NEW_ACCOUNTS)?;
+        let _ = fs::remove_file(rt, new.as_str());
         return Err(error.into());
     }
+    rename_accounts(rt, folder)?;
     Ok(0)
 }

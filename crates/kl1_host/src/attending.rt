@@ -1,10 +1,12 @@
 // What the program does while its host runs.
 
+ghost use Rattle.std.specs.Prelude.{◌≤◌, length};
+
 use crate::control::Attendant;
 use crate::program::Program;
 use crate::web::disk_of;
 use kl1_host_front::{Number, put_account_status, put_host};
-use kl1_host_web::Machine;
+use kl1_host_web::{LoginKeys, Machine};
 use kl1_host_work::{HostView, Performer};
 use kl1_session::Key;
 use std::alloc::AllocError;
@@ -15,15 +17,16 @@ use std::time::Clock;
 
 /// The program with what can be seen of its host, and what does commands for it.
 #[derive(Drop)]
-pub struct Attending<'p, 'f, R, P: Performer, V: HostView>
+pub struct Attending<'s, 'p, 'v, 'f, R, K: LoginKeys, P: Performer, V: HostView>
 where
     R: Wait + Clock + Eprint + Files + RandomSource,
 {
-    pub program: &'p Program<'f, R>,
+    pub program: &'s Program<'f, R, K>,
     pub performer: &'p mut P,
-    pub host: &'p V,
+    pub host: &'v V,
     /// The second in which sessions of browsers were looked at last.
     pub last: u64,
+    pub ghost counts: { length program.now.keys.now ≤ P.accounts },
 }
 
 /// A number with its name.
@@ -31,7 +34,7 @@ fn number(name: &'static [u8], number: u64) -> Number<'static> {
     Number { name, number }
 }
 
-impl<R, P: Performer, V: HostView> Attending<'_, '_, R, P, V>
+impl<R, K: LoginKeys, P: Performer, V: HostView> Attending<'_, '_, '_, '_, R, K, P, V>
 where
     R: Wait + Clock + Eprint + Files + RandomSource,
 {
@@ -39,26 +42,35 @@ where
     fn put_account(&self, out: &mut Vec<u8>, account: usize, key: &Key) -> Result<(), AllocError> {
         let program = self.program;
         let name = key.name.as_slice();
-        let usage = self.host.usage(account)?;
-        let counted = self.host.counted(account)?;
+        let (sight, age) = self.host.sight(account);
+        let Some(sight) = sight else {
+            // It was in the midst of a reduction since the start.
+            let numbers = [number(b"age", age)];
+            return put_account_status(out, name, &numbers, self.host.is_stopped(account));
+        };
+        let usage = sight.usage;
         let disk = disk_of(program.rt, program.alloc, program.folder, name)?;
+        let out_of_codes = u64::from(self.host.is_out_of_codes(account));
         let numbers = [
-            number(b"sessions", self.host.sessions(account)?),
+            number(b"age", age),
+            number(b"sessions", sight.sessions),
             number(b"entries", usage.entries.count),
-            number(b"events", counted.events),
-            number(b"steps", counted.steps),
+            number(b"events", sight.counted.events),
+            number(b"steps", sight.counted.steps),
             number(b"disk", disk),
-            number(b"memory", self.host.bytes(account)?),
+            number(b"memory", sight.bytes),
             number(b"goals", usage.goals.count),
             number(b"shoens", usage.shoens.count),
             number(b"variables", usage.variables.count),
             number(b"structures", usage.structures.count),
+            number(b"codes_left", self.host.codes_left(account)),
+            number(b"codes_full", out_of_codes),
         ];
         put_account_status(out, name, &numbers, self.host.is_stopped(account))
     }
 }
 
-impl<R, P: Performer, V: HostView> Attendant for Attending<'_, '_, R, P, V>
+impl<R, K: LoginKeys, P: Performer, V: HostView> Attendant for Attending<'_, '_, '_, '_, R, K, P, V>
 where
     R: Wait + Clock + Eprint + Files + RandomSource,
 {
@@ -72,6 +84,7 @@ where
             number(b"connections", self.host.connections() as u64),
         ];
         put_host(out, &numbers)?;
+        self.host.ask_all();
         for (account, key) in self.program.keys.iter().enumerate() {
             self.put_account(out, account, key)?;
         }
@@ -83,7 +96,13 @@ where
         let second = self.program.machine.seconds();
         if second != self.last {
             self.last = second;
-            self.program.end_idle(self.performer, self.host);
+            self.host.ask_all();
+            for account in 0..self.program.keys.len() {
+                // A logout waits for its account, and who asks isn't to wait for that: its sessions are ended later.
+                if !self.host.is_busy(account) {
+                    self.program.end_idle(self.performer, self.host, account);
+                }
+            }
         }
     }
 }

@@ -6,6 +6,7 @@ use crate::faulty_line::{LineFault, fault_in};
 use crate::folder::{journal_in, read_file};
 use crate::last_line::LastLine;
 use crate::settings::settings_of;
+use crate::started::{is_lost, names_in};
 use kl1_codes::PlainCodes;
 use kl1_journal_entries::{Entry, Journal};
 use kl1_lines::{FailureCounter, ScriptFault};
@@ -138,10 +139,18 @@ fn check_journal(rt: &HostRuntime, folder: &str, name: &str) -> Result<bool, Fau
 pub fn check_folder(rt: &HostRuntime, folder: &str) -> Result<u8, Fault> {
     let _settings = settings_of(rt, folder)?;
     let accounts = accounts_in(rt, folder)?;
+    let started = names_in(rt, folder)?;
     let mut are_sound = true;
     for key in &accounts.keys {
         let name = format!(in rt.alloc(); "{}", key.name.escape_ascii())?;
-        are_sound = check_journal(rt, folder, name.as_str())? && are_sound;
+        if is_lost(rt, folder, started.as_slice(), key.name.as_slice())? {
+            println!(rt;
+                "{name}: fault: it is missing or empty, and the account has started before"
+            )?;
+            are_sound = false;
+        } else {
+            are_sound = check_journal(rt, folder, name.as_str())? && are_sound;
+        }
     }
     Ok(if are_sound { 0 } else { REFUSED })
 }

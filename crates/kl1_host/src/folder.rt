@@ -14,6 +14,12 @@ pub const ACCOUNTS: &str = "accounts";
 /// Its accounts while they are written anew.
 pub const NEW_ACCOUNTS: &str = "accounts.new";
 
+/// The names of the accounts that have started before, so that a journal that is missing is told.
+pub const STARTED: &str = "started";
+
+/// These names while they are written anew.
+pub const NEW_STARTED: &str = "started.new";
+
 /// The folder of the journals.
 pub const JOURNALS: &str = "journals";
 

@@ -9,7 +9,7 @@ use std::fs::{self, DirBuilder, Permissions};
 use std::io::ErrorKind;
 use std::os::unix::fs::{DirBuilderExt, PermissionsExt};
 
-/// The files of a folder that was just made, and what is in them.
+/// The files of a folder that was just made, and what is in them. The lock is the last: a folder that has it is whole.
 const FIRST_FILES: [(&str, &str); 3] = [(SETTINGS, FIRST_SETTINGS), (ACCOUNTS, ""), (LOCK, "")];
 
 /// Whether nothing is in a folder.
@@ -18,14 +18,60 @@ fn is_empty(rt: &HostRuntime, folder: &str) -> Result<bool, Fault> {
     Ok(names.next().is_none())
 }
 
-/// Makes a folder for its owner alone, and tells whether it is new: one that is there already is taken if nothing is in it.
+/// Whether a file has nothing but the first bytes of this text, or isn't there.
+fn is_begun(rt: &HostRuntime, path: &str, text: &[u8]) -> Result<bool, Fault> {
+    match fs::read(rt, path) {
+        Ok(bytes) => Ok(text.starts_with(bytes.as_slice())),
+        Err(error) if error.kind() == ErrorKind::NotFound => Ok(true),
+        Err(error) => Err(fault_at(rt.alloc(), path, &error)),
+    }
+}
+
+/// Whether in a folder there is nothing but what a call has left that was ended in the midst of making it: the lock comes last.
+fn is_left(rt: &HostRuntime, folder: &str) -> Result<bool, Fault> {
+    let alloc = rt.alloc();
+    for entry in at_path(alloc, folder, fs::read_dir(rt, folder))? {
+        let entry = at_path(alloc, folder, entry)?;
+        let name = entry.file_name();
+        if name != SETTINGS && name != ACCOUNTS && name != JOURNALS {
+            return Ok(false);
+        }
+    }
+    let journals = path_in(alloc, folder, JOURNALS)?;
+    if !(fs::exists(rt, journals.as_str())? && is_empty(rt, journals.as_str())?) {
+        return Ok(false);
+    }
+    for (name, text) in &FIRST_FILES {
+        if !is_begun(rt, path_in(alloc, folder, name)?.as_str(), text.as_bytes())? {
+            return Ok(false);
+        }
+    }
+    Ok(true)
+}
+
+/// Removes what a call has left that was ended in the midst of making a folder.
+fn remove_left(rt: &HostRuntime, folder: &str) -> Result<(), Fault> {
+    let alloc = rt.alloc();
+    remove_files(rt, folder, FIRST_FILES.len())?;
+    let journals = path_in(alloc, folder, JOURNALS)?;
+    let removed = fs::remove_dir(rt, journals.as_str());
+    at_path(alloc, journals.as_str(), removed)
+}
+
+/// Makes a folder for its owner alone, and tells whether it is new: one that is there already is taken if nothing is in it, or what a call
+/// like this has left.
 fn make_folder(rt: &HostRuntime, folder: &str) -> Result<bool, Fault> {
     match DirBuilder::new().mode(FOLDER_MODE).create(rt, folder) {
         Ok(()) => Ok(true),
         Err(error) if error.kind() == ErrorKind::AlreadyExists => {
             if !is_empty(rt, folder)? {
-                let words = format!(in rt.alloc(); "{folder}: there is something in it already")?;
-                return Err(Fault::Words(REFUSED, words));
+                if !is_left(rt, folder)? {
+                    let words = format!(in rt.alloc();
+                        "{folder}: there is something in it already"
+                    )?;
+                    return Err(Fault::Words(REFUSED, words));
+                }
+                remove_left(rt, folder)?;
             }
             let mode = Permissions::from_mode(FOLDER_MODE);
             at_path(rt.alloc(), folder, fs::set_permissions(rt, folder, mode))?;

@@ -17,24 +17,17 @@ use kl1_model::limits::MOST_ACCOUNTS;
 use kl1_pool::{AccountName, Rules};
 use kl1_session::Key;
 use std::alloc::{AllocError, Global};
-use std::fs::File;
+use std::fs::{self, File};
 use std::rt::Files;
 use std::thread;
 use std::thread::Threads;
 use std::time::Clock;
 
-/// The file of an account that was opened, and the line of the fault if its journal was repaired.
-#[derive(Drop)]
-struct OpenedFile<D: Disk> {
-    file: AccountFile<D>,
-    repaired: Option<u64>,
-}
-
 /// An account whose file is to be opened, and then what became of that.
 #[derive(Drop)]
 struct Opening<'k, D: Disk> {
     key: &'k Key,
-    opened: Option<Result<OpenedFile<D>, Fault>>,
+    opened: Option<Result<AccountFile<D>, Fault>>,
 }
 
 /// Why the file on this path isn't opened, if that is a line of it.
@@ -58,7 +51,7 @@ fn file_of<'r, R: Files<File = File> + Clock + Eprint>(
     folder: &str,
     key: &Key,
     repair: Option<&str>,
-) -> Result<OpenedFile<FolderFile<&'r R>>, Fault> {
+) -> Result<AccountFile<FolderFile<&'r R>>, Fault> {
     let alloc = log.alloc;
     let journals = path_in(alloc, folder, JOURNALS)?;
     let text = format!(in alloc; "{}", key.name.escape_ascii())?;
@@ -80,14 +73,7 @@ fn file_of<'r, R: Files<File = File> + Clock + Eprint>(
         repair,
     );
     match opened {
-        Ok((file, opened)) => Ok(OpenedFile {
-            file: AccountFile {
-                name,
-                file,
-                journal: opened.journal,
-            },
-            repaired: opened.repaired,
-        }),
+        Ok(opened) => Ok(AccountFile { name, opened }),
         Err(fault) => {
             let why = why_of(log.rt, alloc, path, &fault)?;
             Err(open_fault(alloc, path, &fault, why)?)
@@ -107,21 +93,31 @@ fn openings_of<'k, D: Disk + Drop>(
     Ok(openings)
 }
 
-/// Opens the file of the journal of an account.
-fn open_one<'r, R: Files<File = File> + Clock + Eprint>(
-    log: &Log<'r, R>,
-    folder: &str,
-    repair: Option<&str>,
-    opening: &mut Opening<'_, FolderFile<&'r R>>,
-) {
-    opening.opened = Some(file_of(log, folder, opening.key, repair));
+/// Opens the files of accounts.
+trait Opener<D: Disk> {
+    fn open(&self, opening: &mut Opening<'_, D>);
+}
+
+/// Opens files of a folder, and with a word for the names of files in which what is repaired is kept repairs faults.
+#[derive(Drop)]
+struct FolderOpener<'l, 'r, R: Clock + Eprint> {
+    log: &'l Log<'r, R>,
+    folder: &'l str,
+    repair: Option<&'l str>,
+}
+
+impl<'r, R: Files<File = File> + Clock + Eprint> Opener<FolderFile<&'r R>>
+    for FolderOpener<'_, 'r, R> {
+    fn open(&self, opening: &mut Opening<'_, FolderFile<&'r R>>) {
+        opening.opened = Some(file_of(self.log, self.folder, opening.key, self.repair));
+    }
 }
 
 /// Tells which journals were repaired, in the order of accounts.
 fn tell_repairs<R: Clock + Eprint, D: Disk>(log: &Log<'_, R>, openings: &[Opening<'_, D>]) {
     for opening in openings {
-        if let Some(Ok(opened)) = &opening.opened
-            && let Some(line) = opened.repaired
+        if let Some(Ok(found)) = &opening.opened
+            && let Some(line) = found.opened.repaired()
         {
             log.tell_repaired(opening.key.name.as_slice(), line);
         }
@@ -154,7 +150,7 @@ fn gathered<D: Disk + Drop>(
         let Some(opened) = opened else {
             return Err(Fault::Memory);
         };
-        let file = opened?.file;
+        let file = opened?;
         // It always is; no clause says so of what threads have opened.
         if !is_of(&file, &keys[account]) {
             return Err(Fault::Memory);
@@ -162,6 +158,21 @@ fn gathered<D: Disk + Drop>(
         files.push(file)?;
     }
     Ok(files)
+}
+
+/// Opens files side by side.
+fn open_each<D: Disk + Drop + Send, N: Threads + Sync, O: Opener<D> + Sync>(
+    rt: &N,
+    openings: &mut [Opening<'_, D>],
+    opener: &O,
+) {
+    // Each account gets a thread: they are few, and their journals of unequal length.
+    thread::for_each_mut(
+        rt,
+        openings,
+        MOST_ACCOUNTS,
+        &|_place: usize, opening: &mut Opening<'_, D>| opener.open(opening),
+    );
 }
 
 /// Opens the files of the journals of accounts side by side. If some can't be opened, the fault of the first of them is told.
@@ -177,15 +188,27 @@ where
     ensures { IfOk result (λ files. names_of files.items ≡ names_in (entries_view keys.now)) }
 {
     let mut openings = openings_of(log.alloc, keys)?;
-    // Each account gets a thread: they are few, and their journals of unequal length.
-    thread::for_each_mut(
-        log.rt,
-        openings.as_mut_slice(),
-        MOST_ACCOUNTS,
-        &|_place: usize, opening: &mut Opening<'_, FolderFile<&R>>| open_one(
-            log, folder, repair, opening,
-        ),
-    );
+    let opener = FolderOpener {
+        log,
+        folder,
+        repair,
+    };
+    open_each(log.rt, openings.as_mut_slice(), &opener);
     tell_repairs(log, openings.as_slice());
     gathered(log.alloc, keys, openings)
+}
+
+/// Removes the new files that are kept beside the journals of accounts for resets.
+pub fn remove_spares<'r, R: Files<File = File> + Clock + Eprint>(
+    log: &Log<'r, R>,
+    folder: &str,
+    keys: &[Key],
+) {
+    for key in keys {
+        if let Ok(path) = journal_in(log.alloc, folder, key.name.as_slice())
+            && let Ok(path) = format!(in log.alloc; "{path}.new")
+        {
+            let _ = fs::remove_file(log.rt, path.as_str());
+        }
+    }
 }

@@ -78,6 +78,23 @@ impl<R: Eprint + Clock> Log<'_, R> {
         }
     }
 
+    /// Puts numbers after the fields of a line.
+    fn add_numbers(
+        &self,
+        line: &mut Vec<u8>,
+        numbers: &[Number<'static>],
+    ) -> Result<(), AllocError> {
+        for number in numbers {
+            let text = format!(in self.alloc; "{}", number.number)?;
+            let field = Field {
+                name: number.name,
+                value: text.as_bytes(),
+            };
+            add_fields(line, &[field])?;
+        }
+        Ok(())
+    }
+
     /// The line of an event of the account of this name, with numbers.
     fn line_of_account(
         &self,
@@ -91,15 +108,17 @@ impl<R: Eprint + Clock> Log<'_, R> {
             value: name,
         };
         add_fields(&mut line, &[account])?;
-        for number in numbers {
-            let text = format!(in self.alloc; "{}", number.number)?;
-            let field = Field {
-                name: number.name,
-                value: text.as_bytes(),
-            };
-            add_fields(&mut line, &[field])?;
-        }
+        self.add_numbers(&mut line, numbers)?;
         Ok(line)
+    }
+
+    /// Tells an event with numbers.
+    pub fn tell_numbers(&self, event: &[u8], numbers: &[Number<'static>]) {
+        if let Ok(mut line) = self.line_of(event)
+            && self.add_numbers(&mut line, numbers).is_ok()
+        {
+            self.write(line.as_slice());
+        }
     }
 
     /// Tells an event of the account of this name, with numbers.

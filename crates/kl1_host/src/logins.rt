@@ -2,6 +2,7 @@
 
 use crate::log::Log;
 use kl1_host_front::{Field, LoginTeller};
+use kl1_session::Key;
 use std::net::SocketAddr;
 use std::time::Clock;
 
@@ -9,6 +10,8 @@ use std::time::Clock;
 #[derive(Drop)]
 pub struct LoginLog<'f, R: Eprint + Clock> {
     pub log: &'f Log<'f, R>,
+    /// The accounts: no other name is told, since it may be a key that stands in its place.
+    pub accounts: &'f [Key],
     pub address: SocketAddr,
 }
 
@@ -25,13 +28,15 @@ impl<R: Eprint + Clock> LoginTeller for LoginLog<'_, R> {
     }
 
     fn kept_out(&self, name: &[u8]) {
-        self.log.tell_of(
-            b"refused",
-            self.address,
-            &[Field {
-                name: b"account",
-                value: name,
-            }],
-        );
+        let account = Field {
+            name: b"account",
+            value: name,
+        };
+        for key in self.accounts {
+            if key.name.as_slice() == name {
+                return self.log.tell_of(b"refused", self.address, &[account]);
+            }
+        }
+        self.log.tell_of(b"refused", self.address, &[]);
     }
 }

@@ -18,12 +18,15 @@ mod log;
 mod logins;
 mod machine;
 mod new_file;
+mod open_files;
+mod paces;
 mod program;
 mod repair;
 mod run;
 mod settings;
 mod sockets;
 mod start_words;
+mod started;
 mod web;
 mod words;
 

@@ -1,8 +1,11 @@
 // What a host asks of this program.
 
-ghost use Rattle.std.specs.Prelude.{◌≡◌};
+ghost use Rattle.std.specs.Prelude.{◌≡◌, ◌≤◌, [], length};
 ghost use Rattle.kl1_session.specs.Views.{entries_view};
+ghost use Rattle.kl1_host_front.specs.Sums.{opened_by_sum};
 ghost use Rattle.kl1_host_work.specs.Fronts.{names_in};
+ghost use Rattle.kl1_host_web.specs.Records.{asked_in};
+ghost use Rattle.kl1_host.specs.Browsers.{IsServed};
 ghost use Rattle.kl1_host.specs.Ends.{end_word};
 
 use crate::attending::Attending;
@@ -10,38 +13,45 @@ use crate::control::answer_until_stop;
 use crate::log::Log;
 use crate::logins::LoginLog;
 use crate::machine::ThisMachine;
-use crate::web::{WebAccounts, is_local};
+use crate::paces::{PacedLine, Paces};
+use crate::started::note_started;
+use crate::web::{LentPerformer, WebAccounts, is_local};
 use kl1_host_front::{Field, Number, Pauses, PausingDoor, address_number};
-use kl1_host_web::{AskedRecord, Page, Service, SessionBook, Site};
+use kl1_host_web::{AskedRecord, LoginKeys, Page, Service, SessionBook, Site};
 use kl1_host_work::{Front, HostEvent, HostView, Listeners, Performer};
 use kl1_lines::{Sink, Source};
 use kl1_log::LogError;
 use kl1_session::{Disconnect, Key};
 use std::alloc::{AllocError, Global};
+use std::io::Write;
 use std::net::{Ipv4Addr, SocketAddr, SocketAddrV4, TcpListener};
 use std::os::unix::net::{UnixListener, UnixStream};
 use std::random::RandomSource;
 use std::rt::Files;
+use std::snapshot::Snapshot;
 use std::sync::{Mutex, Wait};
 use std::time::{Clock, Instant};
 
 /// The program around a host.
 #[derive(Drop)]
-pub struct Program<'f, R: Wait + Clock + Eprint + Files + RandomSource> {
+pub struct Program<'f, R: Wait + Clock + Eprint + Files + RandomSource, K: LoginKeys> {
     pub rt: &'f R,
     pub alloc: Global,
     pub folder: &'f str,
     pub keys: &'f [Key],
-    /// How many bytes an account may take.
+    /// How many bytes an account may take in memory, its journal may have on disk, and its sources may have.
     pub memory_each: u64,
+    pub disk_each: u64,
+    pub codes_each: u64,
     pub pauses: &'f Mutex<Pauses>,
     /// The sessions of browsers.
-    pub sessions: &'f Mutex<SessionBook>,
+    pub sessions: &'f Mutex<SessionBook<K>>,
     /// The names by which browsers know the host.
     pub sites: &'f [Site],
     /// After how many seconds without a request a browser's session ends.
     pub idle: u64,
     pub machine: ThisMachine<'f, R>,
+    pub paces: &'f Paces,
     pub log: &'f Log<'f, R>,
     pub listeners: Listeners<'f>,
     /// Where it is asked how it goes, and to stop.
@@ -49,6 +59,8 @@ pub struct Program<'f, R: Wait + Clock + Eprint + Files + RandomSource> {
     pub begun: Instant,
     /// Who asked it to stop, and waits for its end.
     pub asker: &'f Mutex<Option<UnixStream>>,
+    /// The sessions are opened by these keys.
+    pub ghost are_keys: { opened_by_sum (entries_view keys.now) ≡ K.opens },
 }
 
 /// The word for how a connection ended.
@@ -62,44 +74,60 @@ fn end_of(ended: Disconnect) -> &'static [u8]
     }
 }
 
-impl<'f, R: Wait + Clock + Eprint + Files + RandomSource> Program<'f, R> {
+impl<'f, R: Wait + Clock + Eprint + Files + RandomSource, K: LoginKeys> Program<'f, R, K> {
     /// Who lets in whoever connects from this address.
     fn door_of(&self, address: SocketAddr) -> PausingDoor<'f, R, LoginLog<'f, R>>
         ensures { result.keys.now ≡ self.now.keys.now }
     {
+        let keys = self.keys;
         PausingDoor {
             rt: self.rt,
-            keys: self.keys,
+            keys,
             pauses: self.pauses,
             address: address_number(address.ip()),
             teller: LoginLog {
                 log: self.log,
+                accounts: keys,
                 address,
             },
         }
     }
 
     /// The accounts of a host, for whoever asks from this address.
-    pub fn accounts_of<'p, 'w, P: Performer, V: HostView>(
+    #[tactic(auto, using(kl1_host_web::proofs::Doing::none_done))]
+    fn accounts_of<'w, P: Performer + Drop, V: HostView>(
         &self,
         address: SocketAddr,
-        performer: &'p mut P,
+        performer: P,
         host: &'w V,
-    ) -> WebAccounts<'p, 'w, 'f, R, P, V> {
+    ) -> WebAccounts<'w, 'f, R, P, V>
+        requires { length self.now.keys.now ≤ P.accounts }
+        ensures door { result.door.keys.now ≡ self.now.keys.now }
+        ensures keys { result.keys.now ≡ self.now.keys.now }
+        ensures performer { P.done result.begun.value ≡ P.done performer }
+        ensures asked { asked_in result.noted ≡ [] }
+    {
+        let begun = Snapshot::of(&performer);
         WebAccounts {
             rt: self.rt,
             alloc: self.alloc,
             folder: self.folder,
             most_bytes: self.memory_each,
+            keys: self.keys,
             door: self.door_of(address),
             performer,
+            begun,
             host,
-            record: AskedRecord::new(),
+            noted: AskedRecord::new(),
         }
     }
 
     /// What browsers are served by.
-    pub fn service(&self, is_local: bool) -> Service<'_, R, ThisMachine<'f, R>> {
+    pub fn service(&self, is_local: bool) -> Service<'_, R, ThisMachine<'f, R>, K>
+        ensures idle { result.page.idle ≡ self.now.idle }
+        ensures sites { result.page.sites.now ≡ self.now.sites.now }
+        ensures is_local { result.is_local ≡ is_local }
+    {
         Service {
             rt: self.rt,
             alloc: self.alloc,
@@ -113,12 +141,33 @@ impl<'f, R: Wait + Clock + Eprint + Files + RandomSource> Program<'f, R> {
         }
     }
 
-    /// Ends the sessions of browsers that made no request for too long.
-    pub fn end_idle<P: Performer, V: HostView>(&self, performer: &mut P, host: &V) {
+    /// Ends the sessions of an account whose browsers made no request for too long.
+    pub fn end_idle<P: Performer, V: HostView>(&self, performer: &mut P, host: &V, account: usize)
+        requires { length self.now.keys.now ≤ P.accounts }
+    {
         // No key is tried, so it counts for no address.
         let address = SocketAddr::V4(SocketAddrV4::new(Ipv4Addr::LOCALHOST, 0));
+        let performer = LentPerformer { performer };
         let mut accounts = self.accounts_of(address, performer, host);
-        self.service(true).end_idle(&mut accounts);
+        self.service(true).end_idle(&mut accounts, account);
+    }
+
+    /// Serves a connection of a browser from this address, which begins with these accounts. What is asked of them is what its requests may
+    /// have, and just that is done by their performer, each command once, unless it is answered as if memory was refused.
+    fn serve_browser<S: Source, T: Sink, P: Performer + Drop, V: HostView>(
+        &self,
+        address: SocketAddr,
+        source: &mut S,
+        sink: &mut T,
+        accounts: &mut WebAccounts<'_, 'f, R, P, V>,
+    )
+        requires door { accounts.old.door.keys.now ≡ self.now.keys.now }
+        requires keys { accounts.old.keys.now ≡ self.now.keys.now }
+        requires fresh { asked_in accounts.old.noted ≡ [] }
+        ensures { ∥ IsServed (entries_view self.now.keys.now) (length self.now.keys.now) self.now.idle self.now.sites.now (S.remaining source.old) (P.done accounts.old.begun.value) (P.done accounts.new.performer) ∥₁ }
+    {
+        self.service(is_local(address))
+            .serve(source, sink, accounts);
     }
 
     /// The name of an account, by its number.
@@ -172,6 +221,60 @@ impl<'f, R: Wait + Clock + Eprint + Files + RandomSource> Program<'f, R> {
             .tell_account(event, self.name_of(account), &[taken, most]);
     }
 
+    /// Tells an event of who connects from this address, once a second at most, with how many like it were left out before.
+    fn tell_paced(&self, line: PacedLine, event: &[u8], address: SocketAddr) {
+        let Some(left_out) = self.paces.told(self.rt, line) else {
+            return;
+        };
+        // Without memory the line has its address alone.
+        match format!(in self.alloc; "{left_out}") {
+            Ok(words) => {
+                let others = Field {
+                    name: b"left_out",
+                    value: words.as_bytes(),
+                };
+                self.log.tell_of(event, address, &[others]);
+            }
+            Err(_) => self.log.tell_of(event, address, &[]),
+        }
+    }
+
+    /// Tells an event of an account.
+    fn tell_of(&self, event: &[u8], account: usize) {
+        self.log.tell_account(event, self.name_of(account), &[]);
+    }
+
+    /// Tells that the file of an account has as many bytes as it may, or fewer again.
+    fn tell_disk(&self, event: &[u8], account: usize) {
+        let most = Number {
+            name: b"disk_each",
+            number: self.disk_each,
+        };
+        self.log.tell_account(event, self.name_of(account), &[most]);
+    }
+
+    /// Tells that an account was refused a source.
+    fn tell_codes(&self, account: usize) {
+        let most = Number {
+            name: b"codes_each",
+            number: self.codes_each,
+        };
+        self.log
+            .tell_account(b"codes_full", self.name_of(account), &[most]);
+    }
+
+    /// Tells for which account a host waits that was asked to stop: also who asked.
+    fn tell_awaited(&self, account: usize) {
+        self.tell_of(b"stop_waits", account);
+        let mut guard = self.asker.lock(self.rt);
+        if let Some(asker) = &mut *guard {
+            let name = self.name_of(account);
+            let _ = asker.write_all(b"waits for ");
+            let _ = asker.write_all(name);
+            let _ = asker.write_all(b", which is in the midst of a reduction\n");
+        }
+    }
+
     /// Tells that a host is ready, and where.
     fn tell_ready(&self) -> Result<(), AllocError> {
         let listen = local_of(self.alloc, self.listeners.clients)?;
@@ -212,7 +315,11 @@ fn local_of(alloc: Global, listener: &TcpListener) -> Result<String, AllocError>
     }
 }
 
-impl<'f, R: Wait + Clock + Eprint + Files + RandomSource + Sync> Front for Program<'f, R> {
+impl<'f, R, K> Front for Program<'f, R, K>
+where
+    R: Wait + Clock + Eprint + Files + RandomSource + Sync,
+    K: LoginKeys + Send + Sync,
+{
     type Entrance = PausingDoor<'f, R, LoginLog<'f, R>>;
 
     ghost names = { λ p. names_in (entries_view p.keys.now) };
@@ -226,7 +333,15 @@ impl<'f, R: Wait + Clock + Eprint + Files + RandomSource + Sync> Front for Progr
         match event {
             HostEvent::Restored { account, entries } => self.tell_restored(account, entries),
             HostEvent::Opened(_) => {}
-            HostEvent::TurnedAway(address) => self.log.tell_of(b"turned_away", address, &[]),
+            HostEvent::TurnedAway(address) => {
+                self.tell_paced(PacedLine::TurnedAway, b"turned_away", address)
+            }
+            HostEvent::Unserved(address) => {
+                self.tell_paced(PacedLine::Unserved, b"no_thread", address)
+            }
+            HostEvent::GaveWay(address) => {
+                self.tell_paced(PacedLine::GaveWay, b"gave_way", address)
+            }
             HostEvent::Closed(address, ended) => {
                 let how = Field {
                     name: b"by",
@@ -241,9 +356,16 @@ impl<'f, R: Wait + Clock + Eprint + Files + RandomSource + Sync> Front for Progr
             HostEvent::Freed { account, bytes } => {
                 self.tell_memory(b"memory_free", account, bytes)
             }
+            HostEvent::Waits { account } => self.tell_of(b"no_room", account),
+            HostEvent::Written { account } => self.tell_of(b"room", account),
+            HostEvent::DiskFull { account } => self.tell_disk(b"disk_full", account),
+            HostEvent::DiskFreed { account } => self.tell_disk(b"disk_free", account),
+            HostEvent::CodesFull { account } => self.tell_codes(account),
+            HostEvent::AwaitsEnd { account } => self.tell_awaited(account),
         }
     }
 
+    #[tactic(auto, using(kl1_host_work::proofs::NamesInOrder::length_names))]
     fn serve_pages<S: Source, T: Sink, P: Performer, V: HostView>(
         &self,
         address: SocketAddr,
@@ -252,12 +374,15 @@ impl<'f, R: Wait + Clock + Eprint + Files + RandomSource + Sync> Front for Progr
         performer: &mut P,
         host: &V,
     ) {
+        let performer = LentPerformer { performer };
         let mut accounts = self.accounts_of(address, performer, host);
-        self.service(is_local(address))
-            .serve(source, sink, &mut accounts);
+        self.serve_browser(address, source, sink, &mut accounts);
     }
 
+    #[tactic(auto, using(kl1_host_work::proofs::NamesInOrder::length_names))]
     fn attend<P: Performer, V: HostView>(&self, performer: &mut P, host: &V) {
+        // Each has a journal on the disk now, if only its heading. If that can't be noted, a later start doesn't miss one.
+        let _ = note_started(self.rt, self.alloc, self.folder, self.keys);
         let _ = self.tell_ready();
         let mut attending = Attending {
             program: self,

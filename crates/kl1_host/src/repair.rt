@@ -42,7 +42,7 @@ pub(crate) fn bytes_before(text: &[u8], line: u64) -> usize
 
 /// Keeps what the file of the journal of an account holds in a new file beside it, and then cuts it to the lines before this one, the first
 /// being 1.
-pub fn cut_journal<R: Files<File = File>>(
+pub fn cut_journal<R: Files<File = File> + Clock>(
     rt: &R,
     alloc: Global,
     folder: &str,

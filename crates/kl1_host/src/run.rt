@@ -1,25 +1,32 @@
 // A host runs.
 
+ghost use Rattle.std.specs.Prelude.{◌≡◌, true};
+ghost use Rattle.kl1_session.specs.Views.{entries_view};
+ghost use Rattle.kl1_host_front.specs.Sums.{opened_by_sum};
 ghost use Rattle.kl1_host.specs.Setups.{IsSynced, IsSetUp};
 
 use crate::accounts::{Accounts, accounts_in};
 use crate::fault::Fault;
 use crate::folder::{SOCKET, path_in};
-use crate::journals::files_of;
+use crate::journals::{files_of, remove_spares};
 use crate::lock::lock_folder;
 use crate::log::Log;
 use crate::machine::ThisMachine;
+use crate::open_files::fit_connections;
+use crate::paces::Paces;
 use crate::program::Program;
 use crate::repair::{cut_journal, word_of_now};
 use crate::settings::settings_of;
 use crate::sockets::{bind, socket_of};
 use crate::start_words::start_fault;
+use crate::started::refuse_missing;
 use crate::web::sites_of;
 use kl1_host_front::{Field, Pauses, Settings, Sync as Syncs};
-use kl1_host_web::SessionBook;
+use kl1_host_web::{LoginKeys, SessionBook};
 use kl1_host_work::{Limits, Listeners, Setup, StartFault, Syncing, run_host};
 use std::alloc::Global;
 use std::fs::{self, File};
+use std::marker::Brand;
 use std::net::{Net, TcpListener, TcpStream};
 use std::os::unix::net::{UnixListener, UnixStream};
 use std::random::RandomSource;
@@ -28,7 +35,7 @@ use std::sync::{Mutex, Wait};
 use std::thread::Threads;
 use std::time::{Clock, Duration, Instant};
 
-/// How long after a change it is written if no reply waits for it, in milliseconds.
+/// How long after a change it is written at the latest, in milliseconds: who ends a host by a signal loses no more.
 const WRITTEN_AFTER: u64 = 100;
 
 /// When journals are written, and whether replies wait for it.
@@ -42,11 +49,11 @@ fn syncing_of(sync: Syncs) -> Syncing
         },
         Syncs::Every(period) => Syncing {
             replies_wait: false,
-            period: Duration::from_millis(period),
+            period: Duration::from_millis(period.min(WRITTEN_AFTER)),
         },
         Syncs::Never => Syncing {
             replies_wait: false,
-            period: Duration::from_secs(1),
+            period: Duration::from_millis(WRITTEN_AFTER),
         },
     }
 }
@@ -63,16 +70,23 @@ fn setup_of(settings: &Settings, accounts: usize) -> Setup
         connections: settings.connections as usize,
         limits: Limits {
             each: settings.connections_each as usize,
+            waiting_each: settings.waiting_each as usize,
             idle: Duration::from_millis(settings.idle),
+            idle_login: Duration::from_millis(settings.idle_login),
         },
         syncing: syncing_of(settings.sync),
         codes_each: settings.codes_each,
         memory_each: settings.memory_each,
+        disk_each: settings.disk_each,
     }
 }
 
 /// Runs a host until it is asked to stop. With `repairs` a journal with a fault goes on from what is before it.
-fn serve<R>(program: &Program<'_, R>, settings: &Settings, repairs: bool) -> Result<(), Fault>
+fn serve<R, K: LoginKeys + Send + Sync + 'static>(
+    program: &Program<'_, R, K>,
+    settings: &Settings,
+    repairs: bool,
+) -> Result<(), Fault>
 where
     R: Net<Listener = TcpListener, Stream = TcpStream>
         + Files<File = File>
@@ -92,7 +106,11 @@ where
     for _ in 0..keys.len().saturating_add(1) {
         let files = files_of(program.log, program.folder, keys, repair)?;
         match run_host(rt, alloc, program.listeners, program, files, setup) {
-            Ok(_files) => return Ok(()),
+            Ok(files) => {
+                drop(files);
+                remove_spares(program.log, program.folder, keys);
+                return Ok(());
+            }
             Err(StartFault::Unaccepted { account, line }) if repairs => {
                 let name = program.name_of(account);
                 cut_journal(rt, alloc, program.folder, name, line, word.as_str())?;
@@ -104,9 +122,10 @@ where
     Err(Fault::Memory)
 }
 
-/// What a host needs of its folder, and where it listens.
+/// What a host needs of its folder, which lies on a path, and where it listens.
 #[derive(Drop)]
-struct HostFolder {
+struct HostFolder<'f> {
+    path: &'f str,
     settings: Settings,
     accounts: Accounts,
     clients: TcpListener,
@@ -115,12 +134,13 @@ struct HostFolder {
 }
 
 /// Looks at the settings and the accounts of a folder, and then listens.
-fn opened<R>(rt: &R, alloc: Global, folder: &str) -> Result<HostFolder, Fault>
+fn opened<'f, R>(rt: &R, alloc: Global, folder: &'f str) -> Result<HostFolder<'f>, Fault>
 where
     R: Net<Listener = TcpListener, Stream = TcpStream> + Files<File = File> + AllocGlobal,
 {
     let settings = settings_of(rt, folder)?;
     let accounts = accounts_in(rt, folder)?;
+    refuse_missing(rt, folder, accounts.keys.as_slice())?;
     let clients = bind(rt, alloc, settings.listen.as_str())?;
     let browsers = match &settings.web {
         Some(address) => Some(bind(rt, alloc, address.as_str())?),
@@ -128,6 +148,7 @@ where
     };
     let socket = socket_of(rt, alloc, folder)?;
     Ok(HostFolder {
+        path: folder,
         settings,
         accounts,
         clients,
@@ -136,11 +157,10 @@ where
     })
 }
 
-/// Runs a host with what is opened until it is asked to stop.
-fn run_opened<R>(
+/// Runs a host with what is opened until it is asked to stop. `K` stands for the keys of its accounts, by which sessions of browsers are opened.
+fn run_opened<R, K: LoginKeys + Send + Sync + 'static>(
     log: &Log<'_, R>,
-    folder: &str,
-    opened: &HostFolder,
+    opened: &HostFolder<'_>,
     repairs: bool,
     asker: &Mutex<Option<UnixStream>>,
 ) -> Result<(), Fault>
@@ -154,22 +174,28 @@ where
         + Eprint
         + Sync,
     R::Dir: Send + Sync,
+    requires keys { opened_by_sum (entries_view opened.now.accounts.keys.items) ≡ K.opens }
+    requires begins { K.begins ≡ true }
 {
     let (rt, alloc, settings) = (log.rt, log.alloc, &opened.settings);
     let pauses = Mutex::new(Pauses::new(alloc)?);
-    let sessions = Mutex::new(SessionBook::new(alloc)?);
+    let sessions = Mutex::new(SessionBook::<K>::new(alloc)?);
+    let paces = Paces::new();
     let sites = sites_of(alloc, settings, opened.browsers.as_ref())?;
     let program = Program {
         rt,
         alloc,
-        folder,
+        folder: opened.path,
         keys: opened.accounts.keys.as_slice(),
         memory_each: settings.memory_each,
+        disk_each: settings.disk_each,
+        codes_each: opened.settings.codes_each,
         pauses: &pauses,
         sessions: &sessions,
         sites: sites.as_slice(),
         idle: settings.idle.div_ceil(1_000),
         machine: ThisMachine { rt },
+        paces: &paces,
         log,
         listeners: Listeners {
             clients: &opened.clients,
@@ -203,14 +229,19 @@ where
 {
     let alloc = rt.alloc();
     let _lock = lock_folder(rt, alloc, folder, "one host at a time")?;
-    let opened = opened(rt, alloc, folder)?;
+    let mut opened = opened(rt, alloc, folder)?;
     let log = Log { rt, alloc };
     let folder_field = Field {
         name: b"folder",
         value: folder.as_bytes(),
     };
     log.tell(b"start", &[folder_field]);
-    let ended = run_opened(&log, folder, &opened, repairs, asker);
+    let accounts = opened.accounts.keys.len();
+    let fitted = fit_connections(&log, &mut opened.settings, accounts);
+    let ended = match fitted {
+        Ok(()) => run_opened::<R, Brand>(&log, &opened, repairs, asker),
+        Err(fault) => Err(fault),
+    };
     let _ = fs::remove_file(rt, path_in(alloc, folder, SOCKET)?.as_str());
     if ended.is_ok() {
         log.tell(b"end", &[]);

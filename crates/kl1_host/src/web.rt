@@ -1,15 +1,20 @@
 // The accounts of a host, as browsers use them.
 
+ghost use Rattle.std.specs.Prelude.{◌≡◌, ◌<◌, ◌≤◌, ◌++◌, ◌∷◌, [], length};
+ghost use Rattle.kl1_command.specs.Commands.{command_view};
+ghost use Rattle.kl1_host_web.specs.Asking.{did, HasDone};
 ghost use Rattle.kl1_host_web.specs.Records.{asked_in};
 
 use crate::folder::journal_in;
 use crate::logins::LoginLog;
 use kl1_command::{Command, Performed};
 use kl1_host_front::{PausingDoor, Settings, host_of};
-use kl1_host_web::{Accounts, AskedRecord, Measures, SessionBook, Site, Stop, Sums, Viewer};
+use kl1_host_web::{
+    Accounts, AskedRecord, BookChange, LoginKeys, Measures, Site, Stop, Sums, Viewer,
+};
 use kl1_host_work::{HostView, Performer};
-use kl1_session::Door;
-use kl1_user_events::{Extent, GoalNo, GoalView, Presence, ShoenNo, ShoenView, Usage};
+use kl1_session::{Door, Key};
+use kl1_user_events::{Event, Extent, GoalNo, GoalView, Presence, ShoenNo, ShoenView, Usage};
 use std::alloc::{AllocError, Global};
 use std::fs;
 use std::net::{SocketAddr, TcpListener};
@@ -57,8 +62,20 @@ pub fn sites_of(
     if let Some(page) = &settings.page
         && let Some(host) = host_of(page.as_bytes())
     {
+        let port: &[u8] = if page.as_bytes().starts_with(b"https:") {
+            b":443"
+        } else {
+            b":80"
+        };
+        let mut with_port = Vec::from_slice(alloc, host)?;
+        with_port.extend_from_slice(port)?;
         sites.push(Site {
             host: Vec::from_slice(alloc, host)?,
+            origin: Vec::from_slice(alloc, page.as_bytes())?,
+        })?;
+        // A proxy may tell the port that browsers leave out.
+        sites.push(Site {
+            host: with_port,
             origin: Vec::from_slice(alloc, page.as_bytes())?,
         })?;
     }
@@ -76,30 +93,51 @@ pub struct AccountViewer<'w, V: HostView> {
     host: &'w V,
     account: usize,
     most_bytes: u64,
+    /// Whether an answer may be made.
+    may_answer: bool,
+}
+
+impl<V: HostView> AccountViewer<'_, V> {
+    /// Refuses memory if no answer may be made.
+    fn refuse_more(&self) -> Result<(), AllocError> {
+        if self.may_answer {
+            Ok(())
+        } else {
+            Err(AllocError)
+        }
+    }
 }
 
 impl<V: HostView> Viewer for AccountViewer<'_, V> {
+    ghost account = { λ v. v.account };
+
     fn shoens_from(&mut self, from: ShoenNo, count: usize) -> Result<Vec<ShoenView>, AllocError> {
+        self.refuse_more()?;
         self.host.shoens_from(self.account, from, count)
     }
 
     fn goals_from(&mut self, from: GoalNo, count: usize) -> Result<Vec<GoalView>, AllocError> {
+        self.refuse_more()?;
         self.host.goals_from(self.account, from, count)
     }
 
     fn goal_text(&mut self, goal: GoalNo, extent: Extent) -> Result<Option<Vec<u8>>, AllocError> {
+        self.refuse_more()?;
         self.host.goal_text(self.account, goal, extent)
     }
 
     fn awaited(&mut self, goal: GoalNo) -> Result<Option<Vec<u32>>, AllocError> {
+        self.refuse_more()?;
         self.host.awaited(self.account, goal)
     }
 
     fn presence(&mut self, goal: GoalNo, variable: u64, most: u64) -> Result<Presence, AllocError> {
+        self.refuse_more()?;
         self.host.presence(self.account, goal, variable, most)
     }
 
     fn usage(&mut self) -> Result<Usage, AllocError> {
+        self.refuse_more()?;
         self.host.usage(self.account)
     }
 
@@ -128,65 +166,142 @@ pub fn disk_of<R: Files>(
     })
 }
 
-/// The accounts of a host, for one connection of a browser.
+/// Whether a command closes a session.
+fn is_logout(command: &Command) -> bool {
+    matches!(command, Command::Does(Event::Logout))
+}
+
+/// What does commands, lent for a connection.
 #[derive(Drop)]
-pub struct WebAccounts<'p, 'w, 'f, R: Wait + Clock + Eprint + Files, P: Performer, V: HostView> {
+pub struct LentPerformer<'p, P: Performer> {
+    pub performer: &'p mut P,
+}
+
+impl<P: Performer> Performer for LentPerformer<'_, P> {
+    ghost accounts = { P.accounts };
+
+    ghost done = { λ l. P.done l.performer.now };
+
+    fn perform(&mut self, account: usize, command: &Command) -> Performed {
+        self.performer.perform(account, command)
+    }
+}
+
+/// The accounts of a host, for one connection of a browser. Each command that is told as done was done by `performer`, once, and no other was.
+#[derive(Drop)]
+pub struct WebAccounts<'w, 'f, R: Wait + Clock + Eprint + Files, P: Performer + Drop, V: HostView> {
     pub rt: &'f R,
     pub alloc: Global,
     pub folder: &'f str,
     pub most_bytes: u64,
+    pub keys: &'f [Key],
     pub door: PausingDoor<'f, R, LoginLog<'f, R>>,
-    pub performer: &'p mut P,
+    pub performer: P,
+    /// What does the commands, as it was when the connection began.
+    pub begun: Snapshot<P>,
     pub host: &'w V,
-    pub record: AskedRecord,
+    pub noted: AskedRecord,
+    pub ghost counts: { length door.keys.now ≤ P.accounts },
+    pub ghost is_done: { ∥ HasDone (P.done begun.value) (P.done performer) (asked_in noted) ∥₁ },
 }
 
-impl<'w, R: Wait + Clock + Eprint + Files, P: Performer, V: HostView> Accounts
-    for WebAccounts<'_, 'w, '_, R, P, V> {
+impl<R: Wait + Clock + Eprint + Files, P: Performer + Drop, V: HostView> WebAccounts<
+    '_,
+    '_,
+    R,
+    P,
+    V,
+> {
+    /// Has a command done to an account, and notes it.
+    fn done(&mut self, account: usize, command: &Command) -> Performed
+        requires { account < length self.old.door.keys.now }
+        ensures door { self.new.door.keys.now ≡ self.old.door.keys.now }
+        ensures keys { self.new.keys.now ≡ self.old.keys.now }
+        ensures begun { self.new.begun.value ≡ self.old.begun.value }
+        ensures asked { asked_in self.new.noted ≡ asked_in self.old.noted ++ did account (command_view command.now) result ∷ [] }
+    {
+        let performed = self.performer.perform(account, command);
+        self.noted
+            .did(Snapshot::of(&account), Snapshot::of(command), &performed);
+        performed
+    }
+
+    /// Notes a command that is answered as if memory was refused.
+    #[tactic(auto, using(kl1_host_web::proofs::Doing::refused_more))]
+    fn refused(&mut self, account: usize, command: &Command) -> Performed
+        ensures door { self.new.door.keys.now ≡ self.old.door.keys.now }
+        ensures keys { self.new.keys.now ≡ self.old.keys.now }
+        ensures begun { self.new.begun.value ≡ self.old.begun.value }
+        ensures asked { asked_in self.new.noted ≡ asked_in self.old.noted ++ did account (command_view command.now) result ∷ [] }
+    {
+        let performed = Performed::Memory;
+        self.noted
+            .did(Snapshot::of(&account), Snapshot::of(command), &performed);
+        performed
+    }
+}
+
+impl<'w, R: Wait + Clock + Eprint + Files, P: Performer + Drop, V: HostView> Accounts
+    for WebAccounts<'w, '_, R, P, V> {
     type Viewer = AccountViewer<'w, V>;
 
     ghost use Rattle.std.specs.Prelude.{length};
     ghost use Rattle.kl1_session.specs.Views.{entries_view};
     ghost use Rattle.kl1_host_front.specs.Sums.{opened_by_sum};
+    ghost use Rattle.kl1_host.specs.Browsers.{name_at};
     ghost use Rattle.kl1_host_web.specs.Records.{asked_in};
 
-    ghost house = { λ w. record { accounts = length w.door.keys.now; opens = opened_by_sum (entries_view w.door.keys.now) } };
+    ghost house = { λ w. record { accounts = length w.door.keys.now; names = name_at (entries_view w.keys.now); opens = opened_by_sum (entries_view w.door.keys.now); before = P.done w.begun.value } };
 
-    ghost asked = { λ w. asked_in w.record };
+    ghost asked = { λ w. asked_in w.noted };
 
     fn count(&self) -> usize {
         self.door.keys.len()
     }
 
     fn open(&mut self, name: &[u8], key: &[u8]) -> Option<usize> {
-        self.door.open(name, key)
+        let found = self.door.open(name, key);
+        if found.is_some() {
+            self.host.let_in();
+        }
+        found
     }
 
     fn put_name(&self, account: usize, out: &mut Vec<u8>) -> Result<(), AllocError> {
-        match self.door.keys.get(account) {
+        match self.keys.get(account) {
             Some(key) => out.extend_from_slice(key.name.as_slice()),
             None => Ok(()),
         }
     }
 
-    fn act(&mut self, account: usize, command: &Command) -> Performed {
-        let performed = self.performer.perform(account, command);
-        self.record
-            .did(Snapshot::of(&account), Snapshot::of(command), &performed);
-        performed
+    fn let_in(&self) {
+        // So the connection isn't ended as a stranger's while its body is read.
+        self.host.let_in();
     }
 
+    fn act(&mut self, account: usize, command: &Command) -> Performed {
+        // A session is closed whoever reads.
+        if is_logout(command) || self.host.begin_answer(account) {
+            self.done(account, command)
+        } else {
+            self.refused(account, command)
+        }
+    }
+
+    #[tactic(auto, using(kl1_host_web::proofs::Doing::looked_more))]
     fn look(&mut self, account: usize) -> AccountViewer<'w, V> {
-        self.record.looked(account);
+        self.noted.looked(account);
         AccountViewer {
             host: self.host,
             account,
             most_bytes: self.most_bytes,
+            may_answer: self.host.begin_answer(account),
         }
     }
 
-    fn note_search(&mut self, before: Snapshot<u64>, book: Snapshot<SessionBook>) {
-        self.record.sought(before, book);
+    #[tactic(auto, using(kl1_host_web::proofs::Doing::changed_more))]
+    fn note_change<K: LoginKeys>(&mut self, change: BookChange<K>) {
+        self.noted.changed(change);
     }
 
     fn measures(&self, account: usize) -> Measures {
@@ -195,9 +310,9 @@ impl<'w, R: Wait + Clock + Eprint + Files, P: Performer, V: HostView> Accounts
             None => Ok(0),
         };
         Measures {
-            entries: match self.host.usage(account) {
-                Ok(usage) => usage.entries.count,
-                Err(_) => 0,
+            entries: match self.host.sight(account) {
+                (Some(sight), _) => sight.usage.entries.count,
+                (None, _) => 0,
             },
             bytes: bytes.unwrap_or(0),
         }
@@ -210,12 +325,12 @@ impl<'w, R: Wait + Clock + Eprint + Files, P: Performer, V: HostView> Accounts
             events: 0,
             steps: 0,
         };
+        self.host.ask_all();
         for account in 0..self.door.keys.len() {
-            let sessions = self.host.sessions(account).unwrap_or(0);
-            sums.sessions = sums.sessions.saturating_add(sessions);
-            if let Ok(counted) = self.host.counted(account) {
-                sums.events = sums.events.saturating_add(counted.events);
-                sums.steps = sums.steps.saturating_add(counted.steps);
+            if let (Some(sight), _) = self.host.sight(account) {
+                sums.sessions = sums.sessions.saturating_add(sight.sessions);
+                sums.events = sums.events.saturating_add(sight.counted.events);
+                sums.steps = sums.steps.saturating_add(sight.counted.steps);
             }
         }
         sums

@@ -27,23 +27,31 @@ guards =
     ++ line_end ++ codes "x-content-type-options: nosniff" ++ line_end ++ codes "referrer-policy: no-referrer" ++ line_end
     ++ codes "cache-control: no-store" ++ line_end
 
--- what a browser is told of the cookie of its session: no script may read it, no request from the page of another host carries it, and
--- it is for all of this host's page
-abbrev pub cookie_text : Cookie → List ℕ
-cookie_text cookie.Kept = []
-cookie_text (cookie.Set id) = codes "set-cookie: kl1=" ++ id ++ (codes "; HttpOnly; SameSite=Strict; Path=/" ++ line_end)
-cookie_text cookie.Cleared = codes "set-cookie: kl1=; Max-Age=0; HttpOnly; SameSite=Strict; Path=/" ++ line_end
+-- how the line begins by which a browser is told of its cookie, by whether its page came by https
+abbrev pub cookie_front : Bool → List ℕ
+cookie_front secure = if secure then codes "set-cookie: __Host-kl1=" else codes "set-cookie: kl1="
+
+-- how it ends: no script may read the cookie, no request from the page of another host carries it, and it is for all of this host's page; and if
+-- that came by https, it goes by https alone
+abbrev pub cookie_end : Bool → List ℕ
+cookie_end secure = (if secure then codes "; Secure; HttpOnly; SameSite=Strict; Path=/" else codes "; HttpOnly; SameSite=Strict; Path=/") ++ line_end
+
+-- what a browser is told of the cookie of its session
+abbrev pub cookie_text : Bool → Cookie → List ℕ
+cookie_text secure cookie.Kept = []
+cookie_text secure (cookie.Set id) = cookie_front secure ++ id ++ cookie_end secure
+cookie_text secure cookie.Cleared = cookie_front secure ++ codes "; Max-Age=0" ++ cookie_end secure
 
 -- whether the connection goes on, as it is told in the last line of a head
 abbrev pub connection_of : Bool → List ℕ
 connection_of goes_on = (if goes_on then codes "connection: keep-alive" else codes "connection: close") ++ line_end ++ line_end
 
 -- the head of an answer up to its last line
-abbrev pub head_text : Answer → List ℕ
-head_text a =
+abbrev pub head_text : Answer → Bool → List ℕ
+head_text a secure =
     codes "HTTP/1.1 " ++ text_of a.status ++ (line_end ++ codes "content-type: ") ++ kind_of a.content
-    ++ (line_end ++ codes "content-length: ") ++ decimal (length a.body.items) ++ guards ++ cookie_text a.cookie
+    ++ (line_end ++ codes "content-length: ") ++ decimal (length a.body.items) ++ guards ++ cookie_text secure a.cookie
 
--- an answer
-abbrev pub answer_text : Answer → Bool → List ℕ
-answer_text a goes_on = head_text a ++ connection_of goes_on ++ a.body.items
+-- an answer, by whether the browser's page came by https, and whether the connection goes on
+abbrev pub answer_text : Answer → Bool → Bool → List ℕ
+answer_text a secure goes_on = head_text a secure ++ connection_of goes_on ++ a.body.items

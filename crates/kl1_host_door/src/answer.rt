@@ -1,7 +1,7 @@
 // The bytes of an answer.
 
 ghost use Rattle.std.specs.Prelude.{◌≡◌, ◌++◌, OnOk, OnErr};
-ghost use Rattle.kl1_host_door.specs.Answers.{kind_of, cookie_text, connection_of, head_text, answer_text};
+ghost use Rattle.kl1_host_door.specs.Answers.{kind_of, cookie_front, cookie_end, cookie_text, connection_of, head_text, answer_text};
 
 use crate::limits::SECRET_BYTES;
 use crate::status::{Status, text_of};
@@ -69,27 +69,52 @@ fn connection_of(goes_on: bool) -> &'static [u8]
     }
 }
 
-/// Puts the line by which a browser is told of its cookie, if one is.
-fn put_cookie(out: &mut Vec<u8>, cookie: &Cookie) -> Result<(), AllocError>
-    ensures { OnOk result (out.new.items ≡ out.old.items ++ cookie_text cookie.now) }
+/// How the line begins by which a browser is told of its cookie. One that came by https has a name that browsers let no page but one by https
+/// set, and for this host alone.
+fn cookie_front(secure: bool) -> &'static [u8]
+    ensures { result.now ≡ cookie_front secure }
+{
+    if secure {
+        b"set-cookie: __Host-kl1="
+    } else {
+        b"set-cookie: kl1="
+    }
+}
+
+/// How that line ends: by which requests the cookie goes, and that no script reads it.
+fn cookie_end(secure: bool) -> &'static [u8]
+    ensures { result.now ≡ cookie_end secure }
+{
+    if secure {
+        b"; Secure; HttpOnly; SameSite=Strict; Path=/\r\n"
+    } else {
+        b"; HttpOnly; SameSite=Strict; Path=/\r\n"
+    }
+}
+
+/// Puts the line by which a browser is told of its cookie, if one is; `secure` tells whether its page came by https.
+fn put_cookie(out: &mut Vec<u8>, cookie: &Cookie, secure: bool) -> Result<(), AllocError>
+    ensures { OnOk result (out.new.items ≡ out.old.items ++ cookie_text secure cookie.now) }
 {
     match cookie {
         Cookie::Kept => {}
         Cookie::Set(id) => {
-            out.extend_from_slice(b"set-cookie: kl1=")?;
+            out.extend_from_slice(cookie_front(secure))?;
             out.extend_from_slice(id.as_slice())?;
-            out.extend_from_slice(b"; HttpOnly; SameSite=Strict; Path=/\r\n")?;
+            out.extend_from_slice(cookie_end(secure))?;
         }
-        Cookie::Cleared => out.extend_from_slice(
-            b"set-cookie: kl1=; Max-Age=0; HttpOnly; SameSite=Strict; Path=/\r\n",
-        )?,
+        Cookie::Cleared => {
+            out.extend_from_slice(cookie_front(secure))?;
+            out.extend_from_slice(b"; Max-Age=0")?;
+            out.extend_from_slice(cookie_end(secure))?;
+        }
     }
     Ok(())
 }
 
 /// Puts the head of an answer.
-fn put_head(out: &mut Vec<u8>, answer: &Answer) -> Result<(), AllocError>
-    ensures { OnOk result (out.new.items ≡ out.old.items ++ head_text answer.now) }
+fn put_head(out: &mut Vec<u8>, answer: &Answer, secure: bool) -> Result<(), AllocError>
+    ensures { OnOk result (out.new.items ≡ out.old.items ++ head_text answer.now secure) }
 {
     out.extend_from_slice(VERSION)?;
     out.extend_from_slice(text_of(answer.status))?;
@@ -98,15 +123,21 @@ fn put_head(out: &mut Vec<u8>, answer: &Answer) -> Result<(), AllocError>
     out.extend_from_slice(b"\r\ncontent-length: ")?;
     put_decimal(out, answer.body.as_slice().len() as u64)?;
     out.extend_from_slice(GUARDS)?;
-    put_cookie(out, &answer.cookie)?;
+    put_cookie(out, &answer.cookie, secure)?;
     Ok(())
 }
 
-/// Puts an answer after the bytes, and whether the connection goes on. After an `Err` some of it may be there.
-pub fn put_answer(out: &mut Vec<u8>, answer: &Answer, goes_on: bool) -> Result<(), AllocError>
-    ensures { OnOk result (out.new.items ≡ out.old.items ++ answer_text answer.now goes_on) }
+/// Puts an answer after the bytes, and whether the connection goes on; `secure` tells whether the browser's page came by https. After an `Err`
+/// some of it may be there.
+pub fn put_answer(
+    out: &mut Vec<u8>,
+    answer: &Answer,
+    secure: bool,
+    goes_on: bool,
+) -> Result<(), AllocError>
+    ensures { OnOk result (out.new.items ≡ out.old.items ++ answer_text answer.now secure goes_on) }
 {
-    put_head(out, answer)?;
+    put_head(out, answer, secure)?;
     out.extend_from_slice(connection_of(goes_on))?;
     out.extend_from_slice(answer.body.as_slice())?;
     Ok(())

@@ -2,14 +2,14 @@
 
 ghost use Rattle.std.specs.Prelude.{◌≡◌};
 ghost use Rattle.kl1_host_door.specs.Fields.{are_single};
-ghost use Rattle.kl1_host_door.specs.Doors.{is_host, is_origin, site_refusal, right_of, by_owner, admitted, ask_in, authorized};
+ghost use Rattle.kl1_host_door.specs.Doors.{is_host, is_origin, is_by_https, is_secure, site_refusal, right_of, by_session, by_owner, admitted, ask_in, authorized};
 
 use crate::ask::{Ask, ask_of, method_in};
 use crate::field::{Field, is_single, value_of};
 use crate::head::Head;
 use crate::limits::SECRET_BYTES;
 use crate::refusal::Refusal;
-use crate::session::{WebSession, has_token, session_of};
+use crate::session::{WebSession, owner_of, session_of};
 
 /// A name by which a host is known, as a browser tells it, and where its page comes from: as `localhost:7480` and
 /// `http://localhost:7480`.
@@ -56,6 +56,27 @@ fn is_origin(sites: &[Site], host: &[u8], origin: &[u8]) -> bool
     sites.iter().any(|site| site.host.as_slice() == host && site.origin.as_slice() == origin)
 }
 
+/// How the origin of a page begins that comes by https.
+const HTTPS: &[u8] = b"https:";
+
+/// Whether a page of this name comes by https.
+fn is_by_https(sites: &[Site], host: &[u8]) -> bool
+    ensures { result ≡ is_by_https sites.now host.now }
+{
+    sites.iter().any(|site| site.host.as_slice() == host
+        && site.origin.as_slice().starts_with(HTTPS))
+}
+
+/// Whether a request is of a page that comes by https.
+pub fn is_secure(head: &Head, sites: &[Site]) -> bool
+    ensures { result ≡ is_secure head.now sites.now }
+{
+    match value_of(head.fields.as_slice(), b"host") {
+        None => false,
+        Some(host) => is_by_https(sites, host),
+    }
+}
+
 /// Why a request isn't one to the host from its own page, or from none; `None` if it is.
 fn site_refusal(fields: &[Field], sites: &[Site]) -> Option<Refusal>
     ensures { result ≡ site_refusal fields.now sites.now }
@@ -97,21 +118,37 @@ fn right_of(ask: Ask) -> Right
     }
 }
 
-/// Lets in who has the cookie of a session and its token.
-fn by_owner(ask: Ask, fields: &[Field], sessions: &[WebSession]) -> Result<Allowed, Refusal>
-    ensures { result ≡ by_owner ask fields.now sessions.now }
+/// Lets in to the account of a session, unless its last request was before the second `since`.
+fn by_session(ask: Ask, session: WebSession, since: u64) -> Result<Allowed, Refusal>
+    ensures { result ≡ by_session ask session since }
 {
-    let Some(session) = session_of(fields, sessions) else {
+    if session.last < since {
         return Err(Refusal::Nobody);
-    };
-    if !has_token(fields, &session) {
-        return Err(Refusal::Token);
     }
+    let id = session.id;
     Ok(Allowed::Owner {
-        id: session.id,
+        id,
         account: session.account,
         ask,
     })
+}
+
+/// Lets in who has the cookie of a session and its token.
+fn by_owner(
+    ask: Ask,
+    fields: &[Field],
+    sessions: &[WebSession],
+    since: u64,
+) -> Result<Allowed, Refusal>
+    ensures { result ≡ by_owner ask fields.now sessions.now since }
+{
+    match owner_of(fields, sessions) {
+        Some(session) => by_session(ask, session, since),
+        None => match session_of(fields, sessions) {
+            None => Err(Refusal::Nobody),
+            Some(_) => Err(Refusal::Token),
+        },
+    }
 }
 
 /// Lets in who may have what is asked for.
@@ -120,8 +157,9 @@ fn admitted(
     fields: &[Field],
     sessions: &[WebSession],
     is_local: bool,
+    since: u64,
 ) -> Result<Allowed, Refusal>
-    ensures { result ≡ admitted ask fields.now sessions.now is_local }
+    ensures { result ≡ admitted ask fields.now sessions.now is_local since }
 {
     match right_of(ask) {
         Right::Anyone => Ok(Allowed::Anyone(ask)),
@@ -132,7 +170,7 @@ fn admitted(
                 Err(Refusal::NotLocal)
             }
         }
-        Right::Owner => by_owner(ask, fields, sessions),
+        Right::Owner => by_owner(ask, fields, sessions, since),
     }
 }
 
@@ -159,14 +197,15 @@ fn are_single(fields: &[Field]) -> bool
 }
 
 /// What a request may have, of a host that is known by these names and has these sessions open; `is_local` tells whether it comes from
-/// the machine of the host.
+/// the machine of the host. A session whose last request was before the second `since` lets in nobody.
 pub fn authorize(
     head: &Head,
     sessions: &[WebSession],
     sites: &[Site],
     is_local: bool,
+    since: u64,
 ) -> Result<Allowed, Refusal>
-    ensures { result ≡ authorized head.now sessions.now sites.now is_local }
+    ensures { result ≡ authorized head.now sessions.now sites.now is_local since }
 {
     let fields = head.fields.as_slice();
     if !are_single(fields) {
@@ -177,6 +216,6 @@ pub fn authorize(
     }
     match ask_in(head) {
         Err(refusal) => Err(refusal),
-        Ok(ask) => admitted(ask, fields, sessions, is_local),
+        Ok(ask) => admitted(ask, fields, sessions, is_local, since),
     }
 }

@@ -9,6 +9,9 @@ pub const MOST_FIELDS: usize = 64;
 /// The most bytes of a request's body.
 pub const MOST_BODY_BYTES: u64 = 1_048_576;
 
+/// The most bytes of the body of a request that isn't let in to an account: of a login.
+pub const MOST_STRANGER_BYTES: u64 = 4_096;
+
 /// The most sessions that are open at once.
 pub const MOST_SESSIONS: usize = 128;
 

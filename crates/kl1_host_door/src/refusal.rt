@@ -97,7 +97,7 @@ pub fn words_of(refusal: Refusal) -> &'static str
         Refusal::Chunked => "The body has to come in one piece.",
         Refusal::NoLength => "The request doesn't tell the length of its body.",
         Refusal::BadLength => "The length of the body is no number.",
-        Refusal::LargeBody => "The body has more than 1,048,576 bytes.",
+        Refusal::LargeBody => "The body has too many bytes.",
         Refusal::BadBody => "The body isn't what is asked for.",
         Refusal::NoPage => "There is no such page.",
         Refusal::WrongKey => "The name or the key is wrong.",

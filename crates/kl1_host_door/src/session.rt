@@ -1,7 +1,7 @@
 // Sessions of browsers.
 
-ghost use Rattle.std.specs.Prelude.{◌≡◌, true, option_map};
-ghost use Rattle.kl1_host_door.specs.Sessions.{cookie_from, is_end, is_of, session_at, session_of, has_token};
+ghost use Rattle.std.specs.Prelude.{◌≡◌, true};
+ghost use Rattle.kl1_host_door.specs.Sessions.{is_end, is_of, session_at, is_sought, sought_at, bare, sought_here, sought_from, sought, session_of, owner_of, has_token};
 
 use crate::field::{Field, value_of};
 use crate::limits::SECRET_BYTES;
@@ -20,21 +20,8 @@ pub struct WebSession {
 /// How the cookie of a session begins.
 const COOKIE: &[u8] = b"kl1=";
 
-/// What stands after the name of the first cookie `kl1` of a header.
-pub(crate) fn cookie_in(header: &[u8]) -> Option<&[u8]>
-    ensures { option_map (λ text. text.now) result ≡ cookie_from true header.now }
-{
-    let mut begins = true;
-    let mut rest = header;
-    while let [first, others @ ..] = rest {
-        if begins && rest.starts_with(COOKIE) {
-            return Some(&rest[COOKIE.len()..]);
-        }
-        begins = *first == b';' || (begins && *first == b' ');
-        rest = others;
-    }
-    None
-}
+/// What stands before that if the page came by https.
+const BY_HTTPS: &[u8] = b"__Host-";
 
 /// Whether a cookie ends before this.
 fn is_end(text: &[u8]) -> bool
@@ -54,19 +41,6 @@ fn is_of(text: &[u8], session: &WebSession) -> bool
         return false;
     }
     is_same_key(&text[..SECRET_BYTES], &session.id) && is_end(&text[SECRET_BYTES..])
-}
-
-/// The session whose name the cookie tells.
-pub(crate) fn session_of(fields: &[Field], sessions: &[WebSession]) -> Option<WebSession>
-    ensures { result ≡ session_of fields.now sessions.now }
-{
-    match value_of(fields, b"cookie") {
-        None => None,
-        Some(header) => match cookie_in(header) {
-            None => None,
-            Some(text) => session_at(text, sessions),
-        },
-    }
 }
 
 /// The session whose name this is.
@@ -91,4 +65,108 @@ pub(crate) fn has_token(fields: &[Field], session: &WebSession) -> bool
         None => false,
         Some(token) => is_same_key(token, &session.token),
     }
+}
+
+/// What is looked for among the sessions that cookies tell: whether one is there, or, if `owned`, one whose token a request has.
+fn is_sought(owned: bool, fields: &[Field], session: &WebSession) -> bool
+    ensures { result ≡ is_sought owned fields.now session.now }
+{
+    if owned {
+        has_token(fields, session)
+    } else {
+        true
+    }
+}
+
+/// The session that is sought, if it is the one of which this is the name.
+fn sought_at(
+    owned: bool,
+    fields: &[Field],
+    sessions: &[WebSession],
+    text: &[u8],
+) -> Option<WebSession>
+    ensures { result ≡ sought_at owned fields.now sessions.now text.now }
+{
+    let session = session_at(text, sessions)?;
+    if is_sought(owned, fields, &session) {
+        Some(session)
+    } else {
+        None
+    }
+}
+
+/// A cookie without what stands before its name if the page came by https.
+#[tactic(auto, using(crate::proofs::Texts::rest_of))]
+fn bare(text: &[u8]) -> &[u8]
+    ensures { result.now ≡ bare text.now }
+{
+    if text.starts_with(BY_HTTPS) {
+        &text[BY_HTTPS.len()..]
+    } else {
+        text
+    }
+}
+
+/// The session that is sought, if its cookie stands in front of a text, where one may begin or not.
+fn sought_here(
+    owned: bool,
+    fields: &[Field],
+    sessions: &[WebSession],
+    begins: bool,
+    text: &[u8],
+) -> Option<WebSession>
+    ensures { result ≡ sought_here owned fields.now sessions.now begins text.now }
+{
+    let text = bare(text);
+    if begins && text.starts_with(COOKIE) {
+        let cookie = &text[COOKIE.len()..];
+        sought_at(owned, fields, sessions, cookie)
+    } else {
+        None
+    }
+}
+
+/// The session that is sought by a header of cookies, of which each is looked at.
+fn sought_in(
+    owned: bool,
+    fields: &[Field],
+    sessions: &[WebSession],
+    header: &[u8],
+) -> Option<WebSession>
+    ensures { result ≡ sought_from owned fields.now sessions.now true header.now }
+{
+    let mut begins = true;
+    let mut rest = header;
+    while let [first, others @ ..] = rest {
+        if let Some(session) = sought_here(owned, fields, sessions, begins, rest) {
+            return Some(session);
+        }
+        begins = *first == b';' || (begins && *first == b' ');
+        rest = others;
+    }
+    None
+}
+
+/// The session that is sought by the cookies of a request.
+fn sought(owned: bool, fields: &[Field], sessions: &[WebSession]) -> Option<WebSession>
+    ensures { result ≡ sought owned fields.now sessions.now }
+{
+    match value_of(fields, b"cookie") {
+        None => None,
+        Some(header) => sought_in(owned, fields, sessions, header),
+    }
+}
+
+/// The first session whose name a cookie of a request tells.
+pub(crate) fn session_of(fields: &[Field], sessions: &[WebSession]) -> Option<WebSession>
+    ensures { result ≡ session_of fields.now sessions.now }
+{
+    sought(false, fields, sessions)
+}
+
+/// The first session whose name a cookie of a request tells and whose token the request has.
+pub(crate) fn owner_of(fields: &[Field], sessions: &[WebSession]) -> Option<WebSession>
+    ensures { result ≡ owner_of fields.now sessions.now }
+{
+    sought(true, fields, sessions)
 }

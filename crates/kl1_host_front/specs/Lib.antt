@@ -5,4 +5,6 @@ pub mod Origins
 pub mod Sums
 pub mod Pauses
 pub mod LogLines
+pub mod OpenFiles
+pub mod Paces
 pub mod StatusLines

@@ -23,14 +23,20 @@ pub struct Settings {
     pub sync: Sync,
     /// After how many milliseconds a silent connection is ended.
     pub idle: u64,
+    /// After how many milliseconds a connection is ended that has shown no key.
+    pub idle_login: u64,
     /// How many connections are open at once.
     pub connections: u32,
     /// How many of them from one address.
     pub connections_each: u32,
+    /// How many of those that have shown no key.
+    pub waiting_each: u32,
     /// How many bytes an account may take in memory.
     pub memory_each: u64,
     /// How many bytes of sources an account may load.
     pub codes_each: u64,
+    /// How many bytes the journal of an account may have on disk.
+    pub disk_each: u64,
 }
 
 /// The most workers.
@@ -157,10 +163,13 @@ impl Settings {
             workers: None,
             sync: Sync::Always,
             idle: 600_000,
+            idle_login: 10_000,
             connections: 1_000,
             connections_each: 100,
+            waiting_each: 64,
             memory_each: 256_000_000,
             codes_each: 64_000_000,
+            disk_each: 1_000_000_000,
         })
     }
 
@@ -173,10 +182,13 @@ impl Settings {
             "workers" => self.workers = Some(number_of(value, MOST_WORKERS)?),
             "sync" => self.sync = sync_of(value)?,
             "idle" => self.idle = time_of(value)?,
+            "idle_login" => self.idle_login = time_of(value)?,
             "connections" => self.connections = number_of(value, MOST_CONNECTIONS)?,
             "connections_each" => self.connections_each = number_of(value, MOST_CONNECTIONS)?,
+            "waiting_each" => self.waiting_each = number_of(value, MOST_CONNECTIONS)?,
             "memory_each" => self.memory_each = size_of(value)?,
             "codes_each" => self.codes_each = size_of(value)?,
+            "disk_each" => self.disk_each = size_of(value)?,
             _ => return Err(BadSetting::Unknown),
         }
         Ok(())

@@ -138,18 +138,23 @@ pub const FIRST_SETTINGS: &str = "\
 # How many threads go on with accounts, 1 to 64; without this one for each account.
 # workers = 4
 
-# When a journal is on the disk: \"always\" before a reply that tells of it; a time, as \"100ms\": no reply waits, and it is there about
-# twice that time later; \"never\": no reply waits, and the program chooses the time, a second today.
+# When a journal is on the disk: \"always\": before a reply that tells of it. A time, as \"100ms\": no reply waits, and it is there about
+# twice that time later; a longer time is as that one. \"never\": no reply waits; today it is as \"100ms\".
 # sync = \"always\"
 
 # After which time a silent connection is ended.
 # idle = \"10m\"
 
-# How many connections are open at once, and how many from one address.
+# After which time a connection is ended that has shown no key.
+# idle_login = \"10s\"
+
+# How many connections are open at once, how many from one address, and how many of these that have shown no key.
 # connections = 1000
 # connections_each = 100
+# waiting_each = 64
 
-# How much memory an account may take, and how much source it may load.
+# How much memory an account may take, how much source it may load, and how much its journal may have on the disk.
 # memory_each = \"256 MB\"
 # codes_each = \"64 MB\"
+# disk_each = \"1 GB\"
 ";

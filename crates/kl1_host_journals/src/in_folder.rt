@@ -1,7 +1,7 @@
 // The file of a journal in a folder, when a host starts.
 
-use crate::opening::{OpenFault, Opened, open_file};
-use crate::resting_file::RestingFile;
+use crate::opened_file::{OpenedFile, open_file};
+use crate::opening::OpenFault;
 use kl1_log::FolderFile;
 use kl1_model::Rules;
 use std::alloc::Global;
@@ -9,6 +9,7 @@ use std::fs::{self, File, OpenFile, OpenOptions};
 use std::io::{self, Read, Write};
 use std::os::unix::fs::OpenOptionsExt;
 use std::rt::Files;
+use std::time::Clock;
 
 /// A new file is for its owner alone.
 const FILE_MODE: u32 = 0o600;
@@ -37,20 +38,20 @@ fn keep_aside<R: Files>(
 
 /// Opens the file of the journal of `name` in a folder. A fault is repaired if `repair` is a word for the name of the file in which what
 /// was there is kept: it is written before anything is changed.
-pub fn open_in_folder<'r, R: Files>(
+pub fn open_in_folder<'r, R: Files + Clock>(
     rt: &'r R,
     alloc: Global,
     folder: &str,
     name: &str,
     rules: Rules,
     repair: Option<&str>,
-) -> Result<(RestingFile<FolderFile<&'r R>>, Opened), OpenFault> {
+) -> Result<OpenedFile<FolderFile<&'r R>>, OpenFault> {
     let disk = match FolderFile::open(rt, alloc, folder, name) {
         Ok(disk) => disk,
         Err(error) => return Err(OpenFault::Failed(error)),
     };
     let opened = open_file(alloc, disk, rules, repair.is_some())?;
-    if let (Some(_), Some(word)) = (opened.1.repaired, repair)
+    if let (Some(_), Some(word)) = (opened.repaired(), repair)
         && let Err(error) = keep_aside(rt, alloc, folder, name, word)
     {
         return Err(OpenFault::Failed(error));

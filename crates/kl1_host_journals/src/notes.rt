@@ -1,21 +1,21 @@
-// What of an account's journal was noted for its file.
+// What of an account's journal waits for its file, with its generation.
 
-ghost use Rattle.std.specs.Prelude.{◌≡◌, OnOk, OnErr};
-ghost use Rattle.kl1_log.specs.Waits.{IsTaken};
-ghost use Rattle.kl1_host_journals.specs.Notes.{waiting_of, generation_of, TakesIn, KeepsAll};
-ghost use Rattle.kl1_host_journals.specs.Outgoings.{IsHeld, IsNotedFor};
+ghost use Rattle.std.specs.Prelude.{◌≡◌, ℕ, List, OnOk, OnErr};
+ghost use Rattle.kl1_model_server.specs.Journal as model;
+ghost use Rattle.kl1_log.specs.Batches.{text_after};
+ghost use Rattle.kl1_log.specs.Waits.{IsTaken, IsUpTo, mark_of};
+ghost use Rattle.kl1_host_journals.specs.Notes.{waiting_of, generation_of, change_of, TakesIn, KeepsAll};
 
-use crate::outgoing::{Outgoing, SendPermit};
 use kl1_journal_entries::Journal;
-use kl1_log::{Batch, Unsent, Waiting};
+use kl1_log::{Batch, Waiting};
 use std::alloc::AllocError;
 
 /// What of an account's journal waits for its file; and the generation of the journal that was noted last, which is how many events the
 /// journals had that resets ended.
 #[derive(Drop)]
 pub struct Notes {
-    waiting: Waiting,
-    generation: u64,
+    pub(crate) waiting: Waiting,
+    pub(crate) generation: u64,
 }
 
 impl Notes {
@@ -44,45 +44,19 @@ impl Notes {
         Ok(())
     }
 
+    /// How many bytes wait.
+    pub fn bytes(&self) -> usize {
+        self.waiting.bytes()
+    }
+
     /// Takes what waits, after which nothing does.
     pub fn take(&mut self) -> Batch
         ensures taken { IsTaken (waiting_of self.old) (waiting_of self.new) result }
+        ensures file { (text : List ℕ) (j : model.Journal) → IsUpTo (waiting_of self.old) text j → IsUpTo (waiting_of self.new) (text_after text result.change) j }
+        ensures none { (text : List ℕ) → text_after text (change_of self.new) ≡ text }
+        ensures mark { mark_of (waiting_of self.new) ≡ mark_of (waiting_of self.old) }
         ensures generation { generation_of self.new ≡ generation_of self.old }
     {
         self.waiting.take()
-    }
-
-    /// Lets the leave to write wait until all is on disk that was noted. It is lost if it waits for another account.
-    fn hold(&self, number: usize, outgoing: Outgoing) -> Outgoing
-        ensures { IsHeld (waiting_of self.now) result }
-    {
-        match outgoing {
-            Outgoing::Free(permit) => {
-                Outgoing::Waits(number, Unsent::new(permit, &self.waiting))
-            }
-            Outgoing::Waits(_, unsent) => match unsent.renewed(&self.waiting) {
-                Ok(unsent) => Outgoing::Waits(number, unsent),
-                Err(_) => Outgoing::Lost,
-            },
-            Outgoing::Lost => Outgoing::Lost,
-        }
-    }
-
-    /// Notes a journal of the account of this number, and lets the leave to write wait until all is on disk that was noted. If memory is
-    /// refused, the leave is lost.
-    #[tactic(auto, using(crate::proofs::Noting::noted_for))]
-    pub fn note_for(
-        &mut self,
-        journal: &Journal,
-        generation: u64,
-        number: usize,
-        outgoing: Outgoing,
-    ) -> Outgoing
-        ensures { IsNotedFor self.old self.new journal.now.journal generation result }
-    {
-        match self.take_in(journal, generation) {
-            Ok(()) => self.hold(number, outgoing),
-            Err(_) => Outgoing::Lost,
-        }
     }
 }

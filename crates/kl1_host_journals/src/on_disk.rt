@@ -1,56 +1,60 @@
 // How far the journal of an account is on disk.
 
-ghost use Rattle.std.specs.Prelude.{IfSome};
+ghost use Rattle.std.specs.Prelude.{◌≡◌, true, IfSome};
 ghost use Rattle.kl1_log.specs.Receipts.{Covers};
+ghost use Rattle.kl1_host_journals.specs.StoredPlaces.{receipt_of};
+ghost use Rattle.kl1_host_journals.specs.HeldLeaves.{unsent_of};
+ghost use Rattle.kl1_host_journals.specs.Tellings.{receipt_told, is_last};
 
-use kl1_log::{Receipt, Unsent};
+use crate::held::Held;
+use crate::history::Naming;
+use crate::leave::Connecting;
+use crate::stored::Stored;
+use crate::written::{Told, Written};
 use std::sync::atomic::{AtomicBool, Ordering};
 use std::sync::{Condvar, Mutex, Wait};
 
-/// The last receipt, and whether no other will come.
-#[derive(Clone, Copy)]
-struct Written {
-    receipt: Receipt,
-    is_stopped: bool,
-}
-
 /// How far the journal of an account is on disk, for those who wait for it.
 #[derive(Drop)]
-pub struct OnDisk {
-    written: Mutex<Written>,
+pub struct OnDisk<J: Naming> {
+    written: Mutex<Written<J>>,
     changed: Condvar,
     /// The same as under the lock, for a look without it.
     is_stopped: AtomicBool,
 }
 
-impl OnDisk {
-    /// As far as this receipt tells.
-    pub fn new(receipt: Receipt) -> Self {
+impl<J: Naming> OnDisk<J> {
+    /// As far as this tells.
+    pub fn new(written: Written<J>) -> Self {
+        let is_stopped = written.is_stopped;
         OnDisk {
-            written: Mutex::new(Written {
-                receipt,
-                is_stopped: false,
-            }),
+            written: Mutex::new(written),
             changed: Condvar::new(),
-            is_stopped: AtomicBool::new(false),
+            is_stopped: AtomicBool::new(is_stopped),
         }
     }
 
     /// Tells those who wait that more is on disk.
-    pub fn publish<W: Wait>(&self, rt: &W, receipt: Receipt) {
-        let mut written = self.written.lock(rt);
-        written.receipt = receipt;
-        drop(written);
+    pub fn publish<W: Wait>(&self, rt: &W, stored: Stored<J>) -> Told
+        ensures { receipt_told result ≡ receipt_of stored }
+    {
+        let mut guard = self.written.lock(rt);
+        let told = guard.tell(stored);
+        drop(guard);
         self.changed.notify_all();
+        told
     }
 
     /// Tells those who wait that no more will be on disk.
-    pub fn stop<W: Wait>(&self, rt: &W) {
+    pub fn stop<W: Wait>(&self, rt: &W) -> Told
+        ensures { is_last result ≡ true }
+    {
         self.is_stopped.store(true, Ordering::SeqCst);
-        let mut written = self.written.lock(rt);
-        written.is_stopped = true;
-        drop(written);
+        let mut guard = self.written.lock(rt);
+        let told = guard.stop();
+        drop(guard);
         self.changed.notify_all();
+        told
     }
 
     /// Whether no more will be on disk.
@@ -58,26 +62,26 @@ impl OnDisk {
         self.is_stopped.load(Ordering::SeqCst)
     }
 
-    /// Waits until all is on disk that this tells. `None` if that won't be.
-    pub fn wait_for<W: Wait, T>(&self, rt: &W, reply: &Unsent<T>) -> Option<Receipt>
-        ensures { IfSome result (λ receipt. Covers receipt reply.now) }
+    /// Waits until all is on disk for which a leave waits. `None` if that won't be.
+    pub fn wait_for<W: Wait, C: Connecting>(&self, rt: &W, held: &Held<J, C>) -> Option<Stored<J>>
+        ensures { IfSome result (λ stored. Covers (receipt_of stored) (unsent_of held.now)) }
     {
         let written = self
             .changed
             .wait_while(rt, self.written.lock(rt), |written| {
-                !written.is_stopped && !reply.is_covered(written.receipt)
+                !written.is_stopped && !held.is_covered(&written.stored)
             });
-        let receipt = written.receipt;
-        if reply.is_covered(receipt) {
-            Some(receipt)
+        let stored = written.stored.again();
+        if held.is_covered(&stored) {
+            Some(stored)
         } else {
             None
         }
     }
 
-    /// Whether there is nothing to wait for: all is on disk that this tells, or no more will be.
-    pub fn is_done<W: Wait, T>(&self, rt: &W, reply: &Unsent<T>) -> bool {
+    /// Whether there is nothing to wait for: all is on disk for which a leave waits, or no more will be.
+    pub fn is_done<W: Wait, C: Connecting>(&self, rt: &W, held: &Held<J, C>) -> bool {
         let written = self.written.lock(rt);
-        written.is_stopped || reply.is_covered(written.receipt)
+        written.is_stopped || held.is_covered(&written.stored)
     }
 }

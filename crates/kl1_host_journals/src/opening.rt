@@ -110,22 +110,3 @@ fn unopened<D: Disk>(
     }
     repaired(disk, repair, 1, journal)
 }
-
-/// Like `open_journal`, of a file that is given by value.
-pub fn open_file<D: Disk + Drop>(
-    alloc: Global,
-    disk: D,
-    rules: Rules,
-    repair: bool,
-) -> Result<(RestingFile<D>, Opened), OpenFault>
-    requires usable { IsTrue (D.is_usable disk) }
-    requires before { IfKnown (D.known disk) (λ s. s.before ≡ None) }
-    ensures opened { IfOk result (λ o. IfKnown (D.known disk) (λ s. IsOpened (content s.now) rules repair o.1.journal.journal o.1.repaired)) }
-    ensures fault { IfErr result (λ fault. IfKnown (D.known disk) (λ s. IsToldOf (content s.now) fault)) }
-{
-    let mut disk = disk;
-    match open_journal(alloc, &mut disk, rules, repair) {
-        Ok(opened) => Ok((RestingFile::new(disk), opened)),
-        Err(fault) => Err(fault),
-    }
-}

@@ -1,88 +1,51 @@
-// The leave to write to a connection.
+// Where the leave to write to a connection is.
 
-ghost use Rattle.std.specs.Prelude.{◌≡◌, ◌⊎◌};
-ghost use Rattle.std.specs.Io.{WritesAtMost};
-ghost use Rattle.std.specs.Io.KnownBytes.{Keeps, WriteAppends};
-ghost use Rattle.kl1_log.specs.Receipts.{reply_of};
-ghost use Rattle.kl1_host_journals.specs.Gates.{writer_behind};
-ghost use Rattle.kl1_host_journals.specs.Outgoings.{IsFreed};
+ghost use Rattle.std.specs.Prelude.{◌≡◌};
+ghost use Rattle.kl1_host_journals.specs.Outgoings.{is_waiting_for_another, IsFreed, IsHandedOut};
 
+use crate::held::Held;
+use crate::history::Naming;
 use crate::keeper::Keeper;
-use kl1_log::Unsent;
-use std::io::{Result, Write};
+use crate::leave::{Connecting, FreshConnection, SendPermit};
 use std::sync::Wait;
-
-/// The leave to write to a connection. Each connection has one, which is made with it.
-#[derive(Drop)]
-pub struct SendPermit {
-    /// What it is no contract says: so a leave that is made anew isn't one that waits.
-    mark: u64,
-}
-
-/// A writer to which bytes go only by a leave to write.
-#[derive(Drop)]
-pub(crate) struct Gate<T: Write> {
-    writer: T,
-}
-
-impl<T: Write> Gate<T> {
-    /// A gate before this writer.
-    pub(crate) fn new(writer: T) -> Self
-        ensures { writer_behind result ≡ writer }
-    {
-        Gate { writer }
-    }
-
-    /// Writes some of the bytes.
-    pub(crate) fn write(&mut self, permit: &SendPermit, bytes: &[u8]) -> Result<usize>
-        ensures bound { WritesAtMost result bytes.now }
-        ensures bytes { WriteAppends (T.contents (writer_behind self.old)) (T.contents (writer_behind self.new)) result bytes.now }
-    {
-        let _permit = permit;
-        self.writer.write(bytes)
-    }
-
-    /// Sees that what was written goes on its way.
-    pub(crate) fn flush(&mut self) -> Result<()>
-        ensures { Keeps (T.contents (writer_behind self.old)) (T.contents (writer_behind self.new)) }
-    {
-        self.writer.flush()
-    }
-}
 
 /// Where the leave to write to a connection is.
 #[derive(Drop)]
-pub enum Outgoing {
+pub enum Outgoing<J: Naming, C: Connecting> {
     /// It is here: all that the connection may tell is on disk.
-    Free(SendPermit),
-    /// It waits until all is on disk that was noted of the account of this number.
-    Waits(usize, Unsent<SendPermit>),
+    Free(SendPermit<C>),
+    /// It waits until all is on disk that was noted of an account.
+    Waits(Held<J, C>),
     /// It is lost: what the connection would tell won't be on disk.
     Lost,
 }
 
-impl Outgoing {
+impl<J: Naming, C: Connecting> Outgoing<J, C> {
     /// That of a new connection.
-    pub fn new() -> Self {
-        Outgoing::Free(SendPermit { mark: 0 })
+    pub fn new(fresh: FreshConnection) -> Self
+        requires { fresh.pen.book ≡ C.connection }
+    {
+        Outgoing::Free(SendPermit::new(fresh))
     }
 
     /// Whether it waits for another account.
-    pub fn is_of_another(&self, account: usize) -> bool {
+    pub fn is_of_another(&self, account: usize) -> bool
+        ensures { result ≡ is_waiting_for_another self.now account }
+    {
         match self {
-            Outgoing::Waits(number, _) => *number != account,
+            Outgoing::Waits(held) => held.account() as usize != account,
             _ => false,
         }
     }
 
     /// Waits until the leave is here; `Lost` if it won't be. It rings for the account's scribe if not all is on disk yet.
-    pub fn freed<W: Wait>(self, rt: &W, keepers: &[Keeper]) -> Outgoing
+    pub fn freed<W: Wait>(self, rt: &W, keepers: &[Keeper<J>]) -> Outgoing<J, C>
         ensures { IsFreed self result }
     {
         match self {
             Outgoing::Free(permit) => Outgoing::Free(permit),
-            Outgoing::Waits(account, unsent) => match keepers.get(account) {
-                Some(keeper) => handed_out(rt, keeper, unsent),
+            Outgoing::Waits(held) => match keepers.get(held.account() as usize) {
+                Some(keeper) => handed_out(rt, keeper, held),
                 None => Outgoing::Lost,
             },
             Outgoing::Lost => Outgoing::Lost,
@@ -91,14 +54,18 @@ impl Outgoing {
 }
 
 /// A leave that waits, once all is on disk for which it does; `Lost` if that won't be.
-fn handed_out<W: Wait>(rt: &W, keeper: &Keeper, unsent: Unsent<SendPermit>) -> Outgoing
-    ensures { (result ≡ Outgoing.Free (reply_of unsent)) ⊎ (result ≡ Outgoing.Lost) }
+fn handed_out<W: Wait, J: Naming, C: Connecting>(
+    rt: &W,
+    keeper: &Keeper<J>,
+    held: Held<J, C>,
+) -> Outgoing<J, C>
+    ensures { IsHandedOut held result }
 {
-    if !keeper.on_disk().is_done(rt, &unsent) {
+    if !keeper.on_disk().is_done(rt, &held) {
         keeper.bell().ring(rt);
     }
-    match keeper.on_disk().wait_for(rt, &unsent) {
-        Some(receipt) => Outgoing::Free(unsent.hand_out(receipt)),
+    match keeper.on_disk().wait_for(rt, &held) {
+        Some(stored) => Outgoing::Free(held.hand_out(&stored)),
         None => Outgoing::Lost,
     }
 }

@@ -17,18 +17,18 @@ pub no_logout : (n account : ℕ) (a : List Asked) → nat_lt account n ≡ fals
 no_logout n account a e = (performed.Memory, rw e (sym (append-nil a)))
 
 -- one more session was found and ended
-pub one_more_ends : (tells : ℕ → Type 0) (idle n : ℕ) (ended : List Ending) (before middle found after : List Asked) (o : Option WebSession) (session : WebSession) (note : Asked) (answer : Performed) → EndsEach tells idle n ended before middle → o ≡ Some session → Seeks tells idle o note → found ≡ middle ++ note ∷ [] → after ≡ found ++ logout_of n session.account answer → (all : List Ending) × EndsEach tells idle n all before after
-one_more_ends tells idle n ended before middle found after o session note answer each is seeks noted asked =
+pub one_more_ends : (tells : ℕ → Type 0) (idle account n : ℕ) (ended : List Ending) (before middle found after : List Asked) (o : Option WebSession) (session : WebSession) (note : Asked) (answer : Performed) → EndsEach tells idle account n ended before middle → o ≡ Some session → Seeks tells idle account o note → found ≡ middle ++ note ∷ [] → after ≡ found ++ logout_of n session.account answer → (all : List Ending) × EndsEach tells idle account n all before after
+one_more_ends tells idle account n ended before middle found after o session note answer each is seeks noted asked =
     let e : Ending = record { session = session; note = note; answer = answer } in
-    (e ∷ ended, (middle, each, subst (λ x. Seeks tells idle x note) is seeks, asked ∙ ap (λ l. l ++ logout_of n session.account answer) noted ∙ append_assoc middle (note ∷ []) (logout_of n session.account answer)))
+    (e ∷ ended, (middle, each, subst (λ x. Seeks tells idle account x note) is seeks, asked ∙ ap (λ l. l ++ logout_of n session.account answer) noted ∙ append_assoc middle (note ∷ []) (logout_of n session.account answer)))
 
 -- no more session was found
-pub none_ends : (tells : ℕ → Type 0) (idle n : ℕ) (ended : List Ending) (before middle after : List Asked) (o : Option WebSession) (note : Asked) → EndsEach tells idle n ended before middle → o ≡ None → Seeks tells idle o note → after ≡ middle ++ note ∷ [] → EndsIdle tells idle n before after
-none_ends tells idle n ended before middle after o note each is seeks noted = record {
+pub none_ends : (tells : ℕ → Type 0) (idle account n : ℕ) (ended : List Ending) (before middle after : List Asked) (o : Option WebSession) (note : Asked) → EndsEach tells idle account n ended before middle → o ≡ None → Seeks tells idle account o note → after ≡ middle ++ note ∷ [] → EndsIdle tells idle account n before after
+none_ends tells idle account n ended before middle after o note each is seeks noted = record {
   ended = ended;
   middle = middle;
   each = each;
   note = note;
-  none = subst (λ x. Seeks tells idle x note) is seeks;
+  none = subst (λ x. Seeks tells idle account x note) is seeks;
   rest = noted;
 }

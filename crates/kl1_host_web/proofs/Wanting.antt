@@ -11,7 +11,8 @@ use Rattle.kl1_host_door.specs.declared.answer.Content.{Content}
 use Rattle.kl1_host_door.specs.declared.door.Allowed.{Allowed}
 use Rattle.kl1_host_door.specs.declared.door.Allowed.TheVariants as allowed
 use Rattle.kl1_host_web.specs.Wishes.{Wanted, refuse, syntax, enter, do_to, load_into, wish_view, text_in, is_plain, plain, command_in, owned, anyone, wanted, IsWish}
-use Rattle.kl1_host_web.specs.Telling.{IsOfOne, IsTold, IsOpenedIn, Refuses, IsRefusal, KeepsCookie, IsFile, IsPage, ShowsAll, IsShown}
+use Rattle.kl1_host_web.specs.Asking.{House}
+use Rattle.kl1_host_web.specs.Telling.{IsOfOne, IsTold, Tells, IsOpenedIn, Refuses, IsRefusal, KeepsCookie, IsFile, IsPage, ShowsAll, IsShown}
 use Rattle.kl1_host_web.specs.Serving.{is_within}
 use Rattle.kl1_host_web.specs.declared.wish.Wish.{Wish}
 use Rattle.kl1_host_web.specs.declared.outcome.Outcome.{Outcome}
@@ -80,17 +81,22 @@ of_wish n a body w e h = subst (IsOfOne n) (sym h.2) (of_wanted n a h.0 e)
 
 -- ---- a session of a browser begins only of an account that there is
 
-pub told_opens : (n : ℕ) (o : Outcome) → IsTold o → IsOpenedIn n o
+pub told_opens : (n : House) (o : Outcome) → IsTold o → IsOpenedIn n o
 told_opens n (outcome.Told answer) t = tt
 told_opens n (outcome.Opens account) t = absurd t
 told_opens n (outcome.Closes answer) t = tt
 
-pub refused_opens : (n : ℕ) (why : Refusal) (o : Outcome) → Refuses why o → IsOpenedIn n o
+pub tells_opens : (n : House) (of : Answer → Type 0) (o : Outcome) → Tells of o → IsOpenedIn n o
+tells_opens n of (outcome.Told answer) t = tt
+tells_opens n of (outcome.Opens account) t = absurd t
+tells_opens n of (outcome.Closes answer) t = tt
+
+pub refused_opens : (n : House) (why : Refusal) (o : Outcome) → Refuses why o → IsOpenedIn n o
 refused_opens n why (outcome.Told answer) t = tt
 refused_opens n why (outcome.Opens account) t = absurd t
 refused_opens n why (outcome.Closes answer) t = tt
 
-pub shown_opens : (n : ℕ) (a : Ask) (path : List ℕ) (o : Outcome) → IsShown a path o → IsOpenedIn n o
+pub shown_opens : (n : House) (a : Ask) (path : List ℕ) (o : Outcome) → IsShown a path o → IsOpenedIn n o
 shown_opens n a path (outcome.Told answer) t = tt
 shown_opens n a path (outcome.Opens account) t = absurd t
 shown_opens n a path (outcome.Closes answer) t = tt

@@ -1,5 +1,5 @@
 -- What the requests of a connection come to, one after another, and what accounts are asked for each.
-use Rattle.std.specs.Prelude.{◌≡◌, ◌<◌, ◌≤◌, ◌-◌, ◌⊎◌, ⊤, ℕ, nat_lt, Bool, true, false, if◌then◌else◌, ◌++◌, List, [], ◌∷◌, length, Option, Some, None, Result, Ok, Err, IfOk, IsErr}
+use Rattle.std.specs.Prelude.{◌≡◌, ◌<◌, ◌≤◌, ◌-◌, ◌⊎◌, ⊤, ℕ, nat_lt, Bool, true, false, if◌then◌else◌, ◌++◌, List, [], ◌∷◌, length, Option, Some, None, Result, Ok, Err, IfOk, IsErr, All}
 use Rattle.std.specs.declared.alloc.AllocError.{AllocError}
 use Rattle.std.specs.Io.KnownBytes.{Consumes}
 use Rattle.serde_json.specs.declared.value.Value.{Value}
@@ -11,21 +11,23 @@ use Rattle.kl1_host_door.specs.declared.limits.TheConstants.{MOST_HEAD_BYTES, MO
 use Rattle.kl1_host_door.specs.declared.refusal.Refusal.{Refusal}
 use Rattle.kl1_host_door.specs.declared.refusal.Refusal.TheVariants as refusal
 use Rattle.kl1_host_door.specs.declared.answer.Answer.{Answer}
-use Rattle.kl1_host_door.specs.declared.answer.Cookie.{Cookie}
-use Rattle.kl1_host_door.specs.declared.answer.Cookie.TheVariants as cookie
 use Rattle.kl1_host_door.specs.declared.session.WebSession.{WebSession}
 use Rattle.kl1_host_door.specs.declared.door.Site.{Site}
 use Rattle.kl1_host_door.specs.declared.door.Allowed.{Allowed}
 use Rattle.kl1_host_door.specs.declared.door.Allowed.TheVariants as allowed
 use Rattle.kl1_host_door.specs.declared.head.Head.{Head}
 use Rattle.kl1_host_door.specs.Heads.{IsHead}
-use Rattle.kl1_host_door.specs.Bodies.{body_bytes}
-use Rattle.kl1_host_door.specs.Doors.{authorized}
+use Rattle.kl1_host_door.specs.Bodies.{body_bytes, may_send}
+use Rattle.kl1_host_door.specs.Doors.{authorized, is_secure}
 use Rattle.kl1_host_door.specs.declared.book.SessionTest.TheVariants as test
-use Rattle.kl1_host_door.specs.Books.{passes, first_of}
-use Rattle.kl1_host_web.specs.Asking.{Asked, did, sought, House}
+use Rattle.kl1_host_door.specs.declared.book.BookStep.TheVariants.{Takes}
+use Rattle.kl1_host_door.specs.Sessions.{IsOpened}
+use Rattle.kl1_host_door.specs.Books.{passes, first_of, seen_by}
+use Rattle.kl1_session.specs.Doors.{Opens}
+use Rattle.kl1_host_web.specs.Asking.{Asked, did, changed, House}
 use Rattle.kl1_host_web.specs.Wishes.{IsRead, wanted}
 use Rattle.kl1_host_web.specs.Telling.{Grants, IsRefusal}
+use Rattle.kl1_host_web.specs.Beginning.{Begun}
 use Rattle.kl1_host_web.specs.declared.incoming.Incoming.{Incoming}
 use Rattle.kl1_host_web.specs.declared.incoming.Incoming.TheVariants as incoming
 use Rattle.kl1_host_web.specs.declared.outcome.Outcome.{Outcome}
@@ -35,14 +37,14 @@ use Rattle.kl1_host_web.specs.declared.serve.Served.TheVariants as served
 
 -- ---- sessions whose browsers made no request for too long
 
--- the book of sessions was searched for one whose last request is more than `idle` seconds before a second that the machine told; this,
--- the first there is, was found, and this was noted
-pub record Seeks (tells : ℕ → Type 0) (idle : ℕ) (found : Option WebSession) (note : Asked) : Type 0 where
+-- the book of sessions was searched for one of an account whose last request is more than `idle` seconds before a second that the machine told;
+-- this, the first there is, was found, and this was noted
+pub record Seeks (tells : ℕ → Type 0) (idle account : ℕ) (found : Option WebSession) (note : Asked) : Type 0 where
   pub second : ℕ
   pub told : tells second
   pub sessions : List WebSession
-  pub is_first : found ≡ first_of (passes (test.IsIdle (second - idle))) sessions
-  pub noted : note ≡ sought (second - idle) sessions
+  pub is_first : found ≡ first_of (passes (test.IsIdle account (second - idle))) sessions
+  pub noted : note ≡ changed (Takes (test.IsIdle account (second - idle))) sessions
 
 -- a session that was found, what was noted of that, and what was answered to a logout of its account
 pub record Ending : Type 0 where
@@ -55,54 +57,56 @@ abbrev pub logout_of : ℕ → ℕ → Performed → List Asked
 logout_of n account answer = if nat_lt account n then did account (does event.logout) answer ∷ [] else []
 
 -- sessions were found in the book one after another, here the last of them first, and its account was logged out of for each
-abbrev pub EndsEach : (ℕ → Type 0) → ℕ → ℕ → List Ending → List Asked → List Asked → Type 0
-EndsEach tells idle n [] before after = after ≡ before
-EndsEach tells idle n (e ∷ earlier) before after =
-    (middle : List Asked) × EndsEach tells idle n earlier before middle × Seeks tells idle (Some e.session) e.note
+abbrev pub EndsEach : (ℕ → Type 0) → ℕ → ℕ → ℕ → List Ending → List Asked → List Asked → Type 0
+EndsEach tells idle account n [] before after = after ≡ before
+EndsEach tells idle account n (e ∷ earlier) before after =
+    (middle : List Asked) × EndsEach tells idle account n earlier before middle × Seeks tells idle account (Some e.session) e.note
     × (after ≡ middle ++ e.note ∷ logout_of n e.session.account e.answer)
 
--- sessions that were found were ended, until none was found; accounts were asked nothing else
-pub record EndsIdle (tells : ℕ → Type 0) (idle n : ℕ) (before after : List Asked) : Type 0 where
+-- sessions of an account that were found were ended, until none was found; accounts were asked nothing else
+pub record EndsIdle (tells : ℕ → Type 0) (idle account n : ℕ) (before after : List Asked) : Type 0 where
   pub ended : List Ending
   pub middle : List Asked
-  pub each : EndsEach tells idle n ended before middle
+  pub each : EndsEach tells idle account n ended before middle
   pub note : Asked
-  pub none : Seeks tells idle None note
+  pub none : Seeks tells idle account None note
   pub rest : after ≡ middle ++ note ∷ []
 
 -- ---- one request that is let in
 
--- whether what is told of a cookie is the name of a session
-abbrev pub is_set : Cookie → Bool
-is_set cookie.Kept = false
-is_set (cookie.Set id) = true
-is_set cookie.Cleared = false
+-- what a request of this head may have was looked up in the book of sessions, of which each was opened by a name and a key that let in to its
+-- account, at a second that the machine told: a session whose last request is more than `idle` seconds before it lets in nobody. If the request
+-- is of one of them, that was noted there.
+pub record Admits (tells : ℕ → Type 0) (opens : Opens) (idle : ℕ) (sites : List Site) (is_local : Bool) (head : Head) (before after : List Asked) (result : Result Allowed Refusal) : Type 0 where
+  pub second : ℕ
+  pub told : tells second
+  pub sessions : List WebSession
+  pub opened : All (IsOpened opens) sessions
+  pub is : result ≡ authorized head sessions sites is_local (second - idle)
+  pub noted : after ≡ before ++ changed (seen_by second result) sessions ∷ []
 
--- the session of a browser begins; or that of the account that was opened for it is closed again
-abbrev pub Begins : Bool → ℕ → List Asked → List Asked → Type 0
-Begins true account before after = after ≡ before
-Begins false account before after = (answer : Performed) × (after ≡ before ++ did account (does event.logout) answer ∷ [])
+-- the session by which a request was let in is taken out of the book, which has these; nothing is if it was let in by none
+abbrev pub closing : Allowed → List WebSession → List Asked
+closing (allowed.Anyone a) sessions = []
+closing (allowed.Owner id account a) sessions = changed (Takes (test.IsCalled id)) sessions ∷ []
 
--- the session of a browser begins if the answer sets its cookie; without memory for an answer, it began or not
-abbrev pub Begun : ℕ → List Asked → List Asked → Result Answer AllocError → Type 0
-Begun account before after (Ok answer) = Begins (is_set answer.cookie) account before after
-Begun account before after (Err e) = (begins : Bool) × Begins begins account before after
-
--- what is still asked after a request was granted, and its answer: only the session of a browser may still begin
-abbrev pub Ends : Result Outcome AllocError → List Asked → List Asked → Result Answer AllocError → Type 0
-Ends (Err e) before after result = (after ≡ before) × IsErr result
-Ends (Ok (outcome.Told answer)) before after result = (after ≡ before) × (result ≡ Ok answer)
-Ends (Ok (outcome.Opens account)) before after result = Begun account before after result
-Ends (Ok (outcome.Closes answer)) before after result = (after ≡ before) × (result ≡ Ok answer)
+-- what is still asked after a request was granted, and its answer: only the session of a browser may still begin, or that by which the
+-- request was let in end
+abbrev pub Ends : (ℕ → Type 0) → (List ℕ → Type 0) → (ℕ → List ℕ) → Allowed → Result Outcome AllocError → List Asked → List Asked → Result Answer AllocError → Type 0
+Ends tells gives names a (Err e) before after result = (after ≡ before) × IsErr result
+Ends tells gives names a (Ok (outcome.Told answer)) before after result = (after ≡ before) × (result ≡ Ok answer)
+Ends tells gives names a (Ok (outcome.Opens account)) before after result = Begun tells gives names account before after result
+Ends tells gives names a (Ok (outcome.Closes answer)) before after result =
+    (sessions : List WebSession) × (after ≡ before ++ closing a sessions) × (result ≡ answer)
 
 -- what a request wants by its body was granted, and it was answered so
-pub record Performs (house : House) (a : Allowed) (path body : List ℕ) (before after : List Asked) (result : Result Answer AllocError) : Type 0 where
+pub record Performs (tells : ℕ → Type 0) (gives : List ℕ → Type 0) (house : House) (a : Allowed) (path body : List ℕ) (before after : List Asked) (result : Result Answer AllocError) : Type 0 where
   pub value : Option Value
   pub reads : IsRead body value
   pub outcome : Result Outcome AllocError
   pub middle : List Asked
   pub grants : Grants house path (wanted a value) before middle outcome
-  pub ends : Ends outcome middle after result
+  pub ends : Ends tells gives house.names a outcome middle after result
 
 -- memory was refused before anything was asked
 pub record Fails (before after : List Asked) (result : Result Answer AllocError) : Type 0 where
@@ -120,14 +124,14 @@ is_within n (allowed.Anyone a) = true
 is_within n (allowed.Owner id account a) = nat_lt account n
 
 -- what comes of a request for a path that is let in, to an account that there is or isn't
-abbrev pub AnswersWithin : Bool → House → Allowed → List ℕ → List ℕ → List Asked → List Asked → Result Answer AllocError → Type 0
-AnswersWithin true house a path body before after result = Fails before after result ⊎ Performs house a path body before after result
-AnswersWithin false house a path body before after result = Denies refusal.Nobody before after result
+abbrev pub AnswersWithin : (ℕ → Type 0) → (List ℕ → Type 0) → Bool → House → Allowed → List ℕ → List ℕ → List Asked → List Asked → Result Answer AllocError → Type 0
+AnswersWithin tells gives true house a path body before after result = Fails before after result ⊎ Performs tells gives house a path body before after result
+AnswersWithin tells gives false house a path body before after result = Denies refusal.Nobody before after result
 
 -- what comes of a request for a path that may have this
-abbrev pub Answers : House → Result Allowed Refusal → List ℕ → List ℕ → List Asked → List Asked → Result Answer AllocError → Type 0
-Answers house (Err why) path body before after result = Denies why before after result
-Answers house (Ok a) path body before after result = AnswersWithin (is_within house.accounts a) house a path body before after result
+abbrev pub Answers : (ℕ → Type 0) → (List ℕ → Type 0) → House → Result Allowed Refusal → List ℕ → List ℕ → List Asked → List Asked → Result Answer AllocError → Type 0
+Answers tells gives house (Err why) path body before after result = Denies why before after result
+Answers tells gives house (Ok a) path body before after result = AnswersWithin tells gives (is_within house.accounts a) house a path body before after result
 
 -- ---- what comes in
 
@@ -176,6 +180,14 @@ pub record HasBody (n : ℕ) (body : List ℕ) (old new : Option (List ℕ)) : T
 
 -- ---- the requests of a connection
 
+-- whether a body of n bytes is read after a head was looked up in the book of sessions: who isn't let in has no long one read
+pub record LooksAt (tells : ℕ → Type 0) (opens : Opens) (idle : ℕ) (sites : List Site) (is_local : Bool) (head : Head) (n : ℕ) (result : Result Bool Refusal) : Type 0 where
+  pub second : ℕ
+  pub told : tells second
+  pub sessions : List WebSession
+  pub opened : All (IsOpened opens) sessions
+  pub is : result ≡ may_send n (authorized head sessions sites is_local (second - idle))
+
 -- a request by its head and its body, and what was answered; without memory for an answer nothing
 pub record Exchange : Type 0 where
   pub head : Head
@@ -190,33 +202,46 @@ pub record IsNext (x : Exchange) (old new : Option (List ℕ)) : Type 0 where
   pub long : body_bytes x.head ≡ Ok (length x.body)
   pub consumes : Consumes old new (bytes ++ x.body)
 
--- a request of this head and this body was attended to: the sessions whose browsers made no request for too long were ended, and then
--- there comes of it what it may have by the sessions of browsers that are open
-pub record Attends (tells : ℕ → Type 0) (idle : ℕ) (house : House) (sites : List Site) (is_local : Bool) (head : Head) (body : List ℕ) (before after : List Asked) (result : Result Answer AllocError) : Type 0 where
-  pub middle : List Asked
-  pub ends : EndsIdle tells idle house.accounts before middle
-  pub sessions : List WebSession
-  pub answers : Answers house (authorized head sessions sites is_local) head.target.items body middle after result
+-- a request of this head and this body was attended to: what it may have was looked up in the book of sessions; and then there comes of it what
+-- it may have
+pub record Attends (tells : ℕ → Type 0) (gives : List ℕ → Type 0) (idle : ℕ) (house : House) (sites : List Site) (is_local : Bool) (head : Head) (body : List ℕ) (before after : List Asked) (result : Result Answer AllocError) : Type 0 where
+  pub admitted : List Asked
+  pub may_have : Result Allowed Refusal
+  pub admits : Admits tells house.opens idle sites is_local head before admitted may_have
+  pub answers : Answers tells gives house may_have head.target.items body admitted after result
 
--- the next request was read and attended to
-pub record Exchanges (tells : ℕ → Type 0) (idle : ℕ) (house : House) (sites : List Site) (is_local : Bool) (x : Exchange) (old new : Option (List ℕ)) (before after : List Asked) : Type 0 where
+-- the next request was read, its body after it was looked up whether that is read, and attended to
+pub record Exchanges (tells : ℕ → Type 0) (gives : List ℕ → Type 0) (idle : ℕ) (house : House) (sites : List Site) (is_local : Bool) (x : Exchange) (old new : Option (List ℕ)) (before after : List Asked) : Type 0 where
   pub next : IsNext x old new
-  pub attends : Attends tells idle house sites is_local x.head x.body before after x.answer
+  pub is_in : Bool
+  pub looks : LooksAt tells house.opens idle sites is_local x.head (length x.body) (Ok is_in)
+  pub attends : Attends tells gives idle house sites is_local x.head x.body before after x.answer
 
 -- requests were read one after another, here the last of them first, and attended to; accounts were asked nothing else
-abbrev pub Serves : (ℕ → Type 0) → ℕ → House → List Site → Bool → List Exchange → Option (List ℕ) → Option (List ℕ) → List Asked → List Asked → Type 0
-Serves tells idle house sites is_local [] old new before after = (new ≡ old) × (after ≡ before)
-Serves tells idle house sites is_local (x ∷ earlier) old new before after =
+abbrev pub Serves : (ℕ → Type 0) → (List ℕ → Type 0) → ℕ → House → List Site → Bool → List Exchange → Option (List ℕ) → Option (List ℕ) → List Asked → List Asked → Type 0
+Serves tells gives idle house sites is_local [] old new before after = (new ≡ old) × (after ≡ before)
+Serves tells gives idle house sites is_local (x ∷ earlier) old new before after =
     (middle : Option (List ℕ)) × (asked : List Asked)
-    × Serves tells idle house sites is_local earlier old middle before asked × Exchanges tells idle house sites is_local x middle new asked after
+    × Serves tells gives idle house sites is_local earlier old middle before asked × Exchanges tells gives idle house sites is_local x middle new asked after
 
--- what became of the next request: it was read and attended to; or it can't be read for this reason, or nothing more comes, and accounts
--- were asked nothing; if memory was refused, either
-abbrev pub Steps : (ℕ → Type 0) → ℕ → House → List Site → Bool → Option (List ℕ) → Option (List ℕ) → List Asked → List Asked → Result Served AllocError → Type 0
-Steps tells idle house sites is_local old new before after (Ok (served.Answered answer goes_on)) =
-    (head : Head) × (body : List ℕ) × Exchanges tells idle house sites is_local (record { head = head; body = body; answer = Ok answer }) old new before after
-Steps tells idle house sites is_local old new before after (Ok (served.Refused why)) = (after ≡ before) × (HasNoHead why old ⊎ HasNoBody why old)
-Steps tells idle house sites is_local old new before after (Ok served.Ended) = after ≡ before
-Steps tells idle house sites is_local old new before after (Err e) =
+-- bytes that aren't read yet begin with a head that tells the length of a body, which isn't read for this reason: the others are left
+pub record KeepsOut (tells : ℕ → Type 0) (opens : Opens) (idle : ℕ) (sites : List Site) (is_local : Bool) (why : Refusal) (old new : Option (List ℕ)) : Type 0 where
+  pub bytes : List ℕ
+  pub head : Head
+  pub count : ℕ
+  pub is : IsHead bytes head
+  pub consumes : Consumes old new bytes
+  pub told : body_bytes head ≡ Ok count
+  pub looks : LooksAt tells opens idle sites is_local head count (Err why)
+
+-- what became of the next request: it was read and attended to, of a page that came by https or not; or it can't be read for this reason, or
+-- nothing more comes, and accounts were asked nothing; if memory was refused, either
+abbrev pub Steps : (ℕ → Type 0) → (List ℕ → Type 0) → ℕ → House → List Site → Bool → Option (List ℕ) → Option (List ℕ) → List Asked → List Asked → Result Served AllocError → Type 0
+Steps tells gives idle house sites is_local old new before after (Ok (served.Answered answer secure goes_on)) =
+    (head : Head) × (body : List ℕ) × (secure ≡ is_secure head sites) × Exchanges tells gives idle house sites is_local (record { head = head; body = body; answer = Ok answer }) old new before after
+Steps tells gives idle house sites is_local old new before after (Ok (served.Refused why)) =
+    (after ≡ before) × (HasNoHead why old ⊎ (HasNoBody why old ⊎ KeepsOut tells house.opens idle sites is_local why old new))
+Steps tells gives idle house sites is_local old new before after (Ok served.Ended) = after ≡ before
+Steps tells gives idle house sites is_local old new before after (Err e) =
     (after ≡ before)
-    ⊎ ((head : Head) × (body : List ℕ) × Exchanges tells idle house sites is_local (record { head = head; body = body; answer = Err e }) old new before after)
+    ⊎ ((head : Head) × (body : List ℕ) × Exchanges tells gives idle house sites is_local (record { head = head; body = body; answer = Err e }) old new before after)

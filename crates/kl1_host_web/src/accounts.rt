@@ -1,14 +1,14 @@
 // The accounts of a host, as browsers use them.
 
-ghost use Rattle.std.specs.Prelude.{◌≡◌, ◌<◌, ◌++◌, ◌∷◌, [], List, IfSome};
+ghost use Rattle.std.specs.Prelude.{◌≡◌, ◌<◌, ◌++◌, ◌∷◌, [], ℕ, List, IfOk, IfSome, OnOk, ⊤};
 ghost use Rattle.kl1_command.specs.Commands.{command_view};
-ghost use Rattle.kl1_host_web.specs.Asking.{Asked, did, looked, sought, House};
+ghost use Rattle.kl1_user_events.specs.declared.shoen_view.ShoenView.{ShoenView};
+ghost use Rattle.kl1_host_web.specs.Asking.{Asked, did, looked, changed, House};
 
 use kl1_command::{Command, Performed};
-use kl1_host_door::SessionBook;
+use kl1_host_door::{BookChange, LoginKeys};
 use kl1_user_events::{Extent, GoalNo, GoalView, Presence, ShoenNo, ShoenView, Usage};
 use std::alloc::AllocError;
-use std::snapshot::Snapshot;
 
 /// Why an account does no more.
 #[derive(Clone, Copy)]
@@ -39,8 +39,15 @@ pub struct Sums {
 
 /// What one account shows. Nothing of this changes it.
 pub trait Viewer {
+    /// The account that it shows.
+    ghost account: { Self → ℕ };
+
+    /// Which shoens an account has told: by its number, from which shoen's number on, and how many at most.
+    ghost lists: { ℕ → ℕ → ℕ → List ShoenView → Type 0 } = { λ _ _ _ _. ⊤ };
+
     /// The shoens with numbers from one on, the first `count` of them.
-    fn shoens_from(&mut self, from: ShoenNo, count: usize) -> Result<Vec<ShoenView>, AllocError>;
+    fn shoens_from(&mut self, from: ShoenNo, count: usize) -> Result<Vec<ShoenView>, AllocError>
+        ensures { IfOk result (λ views. lists (account self.old) from.0 count views.items) };
 
     /// The goals with numbers from one on, the first `count` of them.
     fn goals_from(&mut self, from: GoalNo, count: usize) -> Result<Vec<GoalView>, AllocError>;
@@ -65,7 +72,7 @@ pub trait Viewer {
 pub trait Accounts {
     type Viewer: Viewer + Drop;
 
-    /// How many accounts there are, and whom names and keys let in.
+    /// How many accounts there are, what they are called, whom names and keys let in, and what was done before.
     ghost house: { Self → House };
 
     /// What was asked of accounts, in order.
@@ -84,7 +91,11 @@ pub trait Accounts {
 
     /// Puts the name of an account after the bytes.
     fn put_name(&self, account: usize, out: &mut Vec<u8>) -> Result<(), AllocError>
-        requires { account < (house self.now).accounts };
+        requires { account < (house self.now).accounts }
+        ensures { OnOk result (out.new.items ≡ out.old.items ++ (house self.now).names account) };
+
+    /// Takes in that a request was let in to an account, by a session.
+    fn let_in(&self);
 
     /// Does a command to an account.
     fn act(&mut self, account: usize, command: &Command) -> Performed
@@ -95,14 +106,14 @@ pub trait Accounts {
     /// What shows an account.
     fn look(&mut self, account: usize) -> Self::Viewer
         requires { account < (house self.old).accounts }
+        ensures account { Self.Viewer.account result ≡ account }
         ensures house { house self.new ≡ house self.old }
         ensures asked { asked self.new ≡ asked self.old ++ looked account ∷ [] };
 
-    /// Notes that the book of sessions was searched for one whose last request was before this second, and which it had. It is there for
-    /// contracts: no account is asked.
-    fn note_search(&mut self, before: Snapshot<u64>, book: Snapshot<SessionBook>)
+    /// Notes what was done to the book of sessions. It is there for contracts: no account is asked.
+    fn note_change<K: LoginKeys>(&mut self, change: BookChange<K>)
         ensures house { house self.new ≡ house self.old }
-        ensures asked { asked self.new ≡ asked self.old ++ sought before.value book.value ∷ [] };
+        ensures asked { asked self.new ≡ asked self.old ++ changed change.step.value change.before.value.items ∷ [] };
 
     /// What an account has done.
     fn measures(&self, account: usize) -> Measures

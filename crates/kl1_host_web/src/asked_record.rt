@@ -2,16 +2,16 @@
 
 ghost use Rattle.std.specs.Prelude.{◌≡◌, [], ◌++◌, ◌∷◌};
 ghost use Rattle.kl1_command.specs.Commands.{command_view};
-ghost use Rattle.kl1_host_web.specs.Asking.{did, looked, sought};
+ghost use Rattle.kl1_host_web.specs.Asking.{did, looked, changed};
 ghost use Rattle.kl1_host_web.specs.Records.{asked_in};
 
 use kl1_command::{Command, Performed};
-use kl1_host_door::SessionBook;
+use kl1_host_door::{BookChange, BookStep, LoginKeys, WebSession};
 use logbook::{Opening, Rule, Seen, Start};
 use std::snapshot::Snapshot;
 
-/// What was asked: a command was done to an account, with what was answered; an account was looked at; or the book of sessions was
-/// searched.
+/// What was asked: a command was done to an account, with what was answered; an account was looked at; or something was done to the
+/// book of sessions.
 #[derive(Drop)]
 enum Note {
     Did {
@@ -20,9 +20,9 @@ enum Note {
         performed: Snapshot<Performed>,
     },
     Looked(Snapshot<usize>),
-    Sought {
-        before: Snapshot<u64>,
-        book: Snapshot<SessionBook>,
+    Changed {
+        step: Snapshot<BookStep>,
+        sessions: Snapshot<Vec<WebSession>>,
     },
 }
 
@@ -115,13 +115,14 @@ impl AskedRecord {
         self.seen = seen;
     }
 
-    /// Takes in that the book of sessions was searched for one whose last request was before this second.
-    pub fn sought(&mut self, before: Snapshot<u64>, book: Snapshot<SessionBook>)
-        ensures { asked_in self.new ≡ asked_in self.old ++ sought before.value book.value ∷ [] }
+    /// Takes in that something was done to the book of sessions.
+    pub fn changed<K: LoginKeys>(&mut self, change: BookChange<K>)
+        ensures { asked_in self.new ≡ asked_in self.old ++ changed change.step.value change.before.value.items ∷ [] }
     {
+        let (step, sessions) = change.into_parts();
         let longer = Longer {
             before: Snapshot::of(&self.seen),
-            entry: Note::Sought { before, book },
+            entry: Note::Changed { step, sessions },
         };
         let (seen, _pens) = Seen::open_row::<Longer, More>(&longer, Start::alone(), 0);
         self.seen = seen;

@@ -2,9 +2,10 @@
 
 ghost use Rattle.std.specs.Prelude.{◌≡◌, ◌<◌, [], IfOk};
 ghost use Rattle.kl1_command.specs.Commands.{command_view};
+ghost use Rattle.kl1_host_door.specs.declared.answer.Cookie.TheVariants.{Kept};
 ghost use Rattle.kl1_session.specs.Conversations.{is_welcome, is_bye};
 ghost use Rattle.kl1_host_web.specs.Wishes.{wish_view, enter, leave, do_to, load_into, show_of};
-ghost use Rattle.kl1_host_web.specs.Telling.{KeepsCookie, Grants, Entered, Shows, IsOfOne, IsTold, IsOpenedIn, Refuses, Enters, Leaves};
+ghost use Rattle.kl1_host_web.specs.Telling.{KeepsCookie, Grants, Entered, Shows, IsOfOne, IsTold, Tells, IsReply, IsLoad, IsSyntax, Lists, ListsFor, IsOpenedIn, Refuses, Enters, Leaves};
 
 use crate::accounts::Accounts;
 use crate::json::{refused, told_command, told_load, told_name, told_syntax};
@@ -46,7 +47,7 @@ fn is_bye(performed: &Performed) -> bool
 }
 
 /// Lets in by a name and a key.
-#[tactic(auto, using(crate::proofs::Wanting::told_opens, crate::proofs::Wanting::refused_opens))]
+#[tactic(auto, using(crate::proofs::Wanting::told_opens, crate::proofs::Wanting::tells_opens, crate::proofs::Wanting::refused_opens))]
 fn enter<A: Accounts>(
     alloc: Global,
     accounts: &mut A,
@@ -54,7 +55,7 @@ fn enter<A: Accounts>(
     key: &[u8],
 ) -> Result<Outcome, AllocError>
     ensures house { A.house accounts.new ≡ A.house accounts.old }
-    ensures within { IfOk result (IsOpenedIn (A.house accounts.old).accounts) }
+    ensures within { IfOk result (IsOpenedIn (A.house accounts.old)) }
     ensures grants { Entered ((A.house accounts.old).opens name.now key.now) (A.asked accounts.old) (A.asked accounts.new) result }
 {
     let Some(account) = accounts.open(name, key) else {
@@ -69,7 +70,7 @@ fn enter<A: Accounts>(
 }
 
 /// Closes a session of an account.
-#[tactic(auto, using(crate::proofs::Wanting::told_opens, crate::proofs::Wanting::refused_opens))]
+#[tactic(auto, using(crate::proofs::Wanting::told_opens, crate::proofs::Wanting::tells_opens, crate::proofs::Wanting::refused_opens))]
 fn leave<A: Accounts>(
     alloc: Global,
     accounts: &mut A,
@@ -77,19 +78,20 @@ fn leave<A: Accounts>(
 ) -> Result<Outcome, AllocError>
     requires { account < (A.house accounts.old).accounts }
     ensures house { A.house accounts.new ≡ A.house accounts.old }
-    ensures within { IfOk result (IsOpenedIn (A.house accounts.old).accounts) }
+    ensures within { IfOk result (IsOpenedIn (A.house accounts.old)) }
     ensures grants { Grants (A.house accounts.old) [] (leave account) (A.asked accounts.old) (A.asked accounts.new) result }
 {
     let performed = accounts.act(account, &Command::Does(Event::Logout));
     if is_bye(&performed) {
-        Ok(Outcome::Closes(told_command(alloc, &performed, Cookie::Cleared)?))
+        // Without memory for the answer the session of the browser ends as well: that of the account is closed.
+        Ok(Outcome::Closes(told_command(alloc, &performed, Cookie::Cleared)))
     } else {
-        told(told_command(alloc, &performed, Cookie::Kept))
+        Ok(Outcome::Told(told_command(alloc, &performed, Cookie::Kept)?))
     }
 }
 
 /// Does a command to an account.
-#[tactic(auto, using(crate::proofs::Wanting::told_opens, crate::proofs::Wanting::refused_opens))]
+#[tactic(auto, using(crate::proofs::Wanting::told_opens, crate::proofs::Wanting::tells_opens, crate::proofs::Wanting::refused_opens))]
 fn perform<A: Accounts>(
     alloc: Global,
     accounts: &mut A,
@@ -98,15 +100,15 @@ fn perform<A: Accounts>(
 ) -> Result<Outcome, AllocError>
     requires { account < (A.house accounts.old).accounts }
     ensures house { A.house accounts.new ≡ A.house accounts.old }
-    ensures within { IfOk result (IsOpenedIn (A.house accounts.old).accounts) }
+    ensures within { IfOk result (IsOpenedIn (A.house accounts.old)) }
     ensures grants { Grants (A.house accounts.old) [] (do_to account (command_view command.now)) (A.asked accounts.old) (A.asked accounts.new) result }
 {
     let performed = accounts.act(account, command);
-    told(told_command(alloc, &performed, Cookie::Kept))
+    Ok(Outcome::Told(told_command(alloc, &performed, Cookie::Kept)?))
 }
 
 /// Loads a module into an account, and tells why it is refused if it is.
-#[tactic(auto, using(crate::proofs::Wanting::told_opens, crate::proofs::Wanting::refused_opens))]
+#[tactic(auto, using(crate::proofs::Wanting::told_opens, crate::proofs::Wanting::tells_opens, crate::proofs::Wanting::refused_opens))]
 fn load<A: Accounts>(
     alloc: Global,
     accounts: &mut A,
@@ -115,21 +117,20 @@ fn load<A: Accounts>(
 ) -> Result<Outcome, AllocError>
     requires { account < (A.house accounts.old).accounts }
     ensures house { A.house accounts.new ≡ A.house accounts.old }
-    ensures within { IfOk result (IsOpenedIn (A.house accounts.old).accounts) }
+    ensures within { IfOk result (IsOpenedIn (A.house accounts.old)) }
     ensures grants { Grants (A.house accounts.old) [] (load_into account source.items) (A.asked accounts.old) (A.asked accounts.new) result }
 {
     let command = Command::Does(Event::Load { source });
     let performed = accounts.act(account, &command);
-    match &command {
-        Command::Does(Event::Load { source }) => {
-            told(told_load(alloc, &performed, source.as_slice()))
-        }
-        _ => told(told_command(alloc, &performed, Cookie::Kept)),
-    }
+    let loaded = match &command {
+        Command::Does(Event::Load { source }) => source.as_slice(),
+        _ => &[],
+    };
+    Ok(Outcome::Told(told_load(alloc, &performed, loaded)?))
 }
 
 /// Shows something of an account.
-#[tactic(auto, using(crate::proofs::Wanting::told_opens, crate::proofs::Wanting::refused_opens))]
+#[tactic(auto, using(crate::proofs::Wanting::told_opens, crate::proofs::Wanting::tells_opens, crate::proofs::Wanting::refused_opens))]
 fn show<A: Accounts>(
     alloc: Global,
     accounts: &mut A,
@@ -138,8 +139,9 @@ fn show<A: Accounts>(
 ) -> Result<Outcome, AllocError>
     requires { account < (A.house accounts.old).accounts }
     ensures house { A.house accounts.new ≡ A.house accounts.old }
-    ensures within { IfOk result (IsOpenedIn (A.house accounts.old).accounts) }
+    ensures within { IfOk result (IsOpenedIn (A.house accounts.old)) }
     ensures grants { Grants (A.house accounts.old) [] (show_of account ask) (A.asked accounts.old) (A.asked accounts.new) result }
+    ensures lists { Lists A.Viewer.lists account ask result }
 {
     match ask {
         Ask::Account => {
@@ -152,7 +154,7 @@ fn show<A: Accounts>(
         }
         Ask::Shoens(from) => {
             let mut viewer = accounts.look(account);
-            told(shoens_page(alloc, &mut viewer, from))
+            Ok(Outcome::Told(shoens_page(alloc, &mut viewer, from)?))
         }
         Ask::Waiting => {
             let mut viewer = accounts.look(account);
@@ -166,7 +168,7 @@ fn show<A: Accounts>(
 }
 
 /// Does what is wanted for a request that is let in, of this target.
-#[tactic(auto, using(crate::proofs::Wanting::told_opens, crate::proofs::Wanting::refused_opens))]
+#[tactic(auto, using(crate::proofs::Wanting::told_opens, crate::proofs::Wanting::tells_opens, crate::proofs::Wanting::refused_opens))]
 pub fn grant<A: Accounts>(
     alloc: Global,
     accounts: &mut A,
@@ -175,17 +177,18 @@ pub fn grant<A: Accounts>(
 ) -> Result<Outcome, AllocError>
     requires { IsOfOne (A.house accounts.old).accounts (wish_view wish) }
     ensures house { A.house accounts.new ≡ A.house accounts.old }
-    ensures within { IfOk result (IsOpenedIn (A.house accounts.old).accounts) }
+    ensures within { IfOk result (IsOpenedIn (A.house accounts.old)) }
     ensures grants { Grants (A.house accounts.old) target.now (wish_view wish) (A.asked accounts.old) (A.asked accounts.new) result }
+    ensures lists { ListsFor A.Viewer.lists (wish_view wish) result }
 {
     match wish {
         Wish::Refuse(refusal) => refuse(alloc, refusal),
-        Wish::Syntax => told(told_syntax(alloc)),
+        Wish::Syntax => Ok(Outcome::Told(told_syntax(alloc)?)),
         Wish::Enter { name, key } => enter(alloc, accounts, name.as_slice(), key.as_slice()),
         Wish::Leave { account } => leave(alloc, accounts, account),
         Wish::Do { account, command } => perform(alloc, accounts, account, &command),
         Wish::Load { account, source } => load(alloc, accounts, account, source),
-        Wish::Tell(account) => told(told_name(alloc, accounts, account)),
+        Wish::Tell(account) => Ok(Outcome::Told(told_name(alloc, accounts, account)?)),
         Wish::Show { account, ask } => show(alloc, accounts, account, ask),
         Wish::Open(ask) => Ok(Outcome::Told(open_page(alloc, accounts, ask, target)?)),
     }

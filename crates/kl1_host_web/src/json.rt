@@ -1,11 +1,12 @@
 // Answers in JSON.
 
-ghost use Rattle.std.specs.Prelude.{◌≡◌, ◌<◌, ◌++◌, false, OnOk, IfOk};
+ghost use Rattle.std.specs.Prelude.{◌≡◌, ◌<◌, ◌++◌, ℕ, false, List, OnOk, IfOk};
+ghost use Rattle.serde_json.specs.Data.{string, array, object, no_members, put as with_member, Items};
 ghost use Rattle.serde_json.specs.View.{view};
-ghost use Rattle.serde_json.specs.Written.{compact_text, has_float};
+ghost use Rattle.serde_json.specs.Written.{compact_text, has_float, items_have_float};
 ghost use Rattle.kl1_session.specs.Replies.{told};
-ghost use Rattle.kl1_host_door.specs.declared.answer.Cookie.TheVariants.{Set};
-ghost use Rattle.kl1_host_web.specs.Telling.{IsRefusal, KeepsCookie};
+ghost use Rattle.kl1_host_web.specs.Telling.{IsRefusal, shown, lines_data, IsReply, IsLoad, IsSyntax, IsNamed};
+ghost use Rattle.kl1_host_web.specs.Beginning.{IsWelcome};
 
 use crate::accounts::Accounts;
 use kl1_command::{Performed, put_reply};
@@ -13,7 +14,7 @@ use kl1_host_door::{Answer, Content, Cookie, Refusal, Status, WebSession, status
 use kl1_lines::split_feed;
 use kl1_reasons::{MOST_REASONS, Reason, reasons_of};
 use kl1_user_events::Reply;
-use serde_json::{Value, json, push};
+use serde_json::{Map, Value, json, push, put};
 use std::alloc::{AllocError, Global};
 use std::str;
 
@@ -35,6 +36,22 @@ pub(crate) fn told_value(
     })
 }
 
+/// An object of two members.
+pub(crate) fn pair_value(
+    alloc: Global,
+    first: &str,
+    one: Value,
+    second: &str,
+    other: Value,
+) -> Result<Value, AllocError>
+    ensures { IfOk result (λ value. view value ≡ object (with_member second.now (view other) (with_member first.now (view one) no_members))) }
+{
+    let mut map = Map::new(alloc);
+    put(&mut map, alloc, first, one)?;
+    put(&mut map, alloc, second, other)?;
+    Ok(Value::Object(map))
+}
+
 /// The answer to a request that is refused.
 pub fn refused(alloc: Global, refusal: Refusal) -> Result<Answer, AllocError>
     ensures { IfOk result (IsRefusal refusal) }
@@ -44,12 +61,20 @@ pub fn refused(alloc: Global, refusal: Refusal) -> Result<Answer, AllocError>
 }
 
 /// Bytes as a text; nothing if they are none in UTF-8, as those of replies always are.
-fn text_of(bytes: &[u8]) -> &str {
-    str::from_utf8(bytes).unwrap_or("")
+#[tactic(auto, using(crate::proofs::Answering::shown_whole, crate::proofs::Answering::shown_none))]
+fn text_of(bytes: &[u8]) -> &str
+    ensures { result.now ≡ shown bytes.now }
+{
+    match str::from_utf8(bytes) {
+        Ok(text) => text,
+        Err(_) => "",
+    }
 }
 
 /// A text as a value.
-pub(crate) fn text_value(alloc: Global, bytes: &[u8]) -> Result<Value, AllocError> {
+pub(crate) fn text_value(alloc: Global, bytes: &[u8]) -> Result<Value, AllocError>
+    ensures { IfOk result (λ value. view value ≡ string (shown bytes.now)) }
+{
     let text = text_of(bytes);
     json!(in alloc; text)
 }
@@ -66,14 +91,12 @@ fn put_performed(out: &mut Vec<u8>, performed: &Performed) -> Result<(), AllocEr
 }
 
 /// The lines of a text, of which each has its end.
-fn lines_value(alloc: Global, text: &[u8]) -> Result<Value, AllocError> {
+fn lines_value(alloc: Global, text: &[u8]) -> Result<Value, AllocError>
+    ensures { IfOk result (λ value. view value ≡ lines_data text.now) }
+{
     let mut lines = Vec::new(alloc);
     let mut rest = text;
-    // Each round takes a byte at least.
-    for _ in text {
-        let Some((line, others)) = split_feed(rest) else {
-            break;
-        };
+    'lines: while let Some((line, others)) = split_feed(rest) {
         push(&mut lines, text_value(alloc, line)?)?;
         rest = others;
     }
@@ -81,7 +104,9 @@ fn lines_value(alloc: Global, text: &[u8]) -> Result<Value, AllocError> {
 }
 
 /// The lines that are told of a command.
-fn reply_value(alloc: Global, performed: &Performed) -> Result<Value, AllocError> {
+fn reply_value(alloc: Global, performed: &Performed) -> Result<Value, AllocError>
+    ensures { IfOk result (λ value. view value ≡ lines_data (told performed.now)) }
+{
     let mut text = Vec::new(alloc);
     put_performed(&mut text, performed)?;
     lines_value(alloc, text.as_slice())
@@ -93,7 +118,7 @@ pub(crate) fn told_command(
     performed: &Performed,
     cookie: Cookie,
 ) -> Result<Answer, AllocError>
-    ensures { IfOk result (λ answer. answer.cookie ≡ cookie) }
+    ensures { IfOk result (IsReply performed.now cookie) }
 {
     let reply = reply_value(alloc, performed)?;
     let value = json!(in alloc; {"reply": reply})?;
@@ -103,6 +128,7 @@ pub(crate) fn told_command(
 /// The name of an account as a value.
 fn name_value<A: Accounts>(alloc: Global, accounts: &A, account: usize) -> Result<Value, AllocError>
     requires { account < (A.house accounts.now).accounts }
+    ensures { IfOk result (λ value. view value ≡ string (shown ((A.house accounts.now).names account))) }
 {
     let mut name = Vec::new(alloc);
     accounts.put_name(account, &mut name)?;
@@ -116,11 +142,11 @@ pub(crate) fn told_session<A: Accounts>(
     session: &WebSession,
 ) -> Result<Answer, AllocError>
     requires { session.now.account < (A.house accounts.now).accounts }
-    ensures { IfOk result (λ answer. answer.cookie ≡ Set session.now.id) }
+    ensures { IfOk result (IsWelcome (A.house accounts.now).names session.now) }
 {
     let name = name_value(alloc, accounts, session.account)?;
     let token = text_value(alloc, session.token.as_slice())?;
-    let value = json!(in alloc; {"name": name, "token": token})?;
+    let value = pair_value(alloc, "name", name, "token", token)?;
     told_value(alloc, Status::Good, Cookie::Set(session.id), &value)
 }
 
@@ -131,7 +157,7 @@ pub(crate) fn told_name<A: Accounts>(
     account: usize,
 ) -> Result<Answer, AllocError>
     requires { account < (A.house accounts.now).accounts }
-    ensures { IfOk result KeepsCookie }
+    ensures { IfOk result (IsNamed ((A.house accounts.now).names account)) }
 {
     let name = name_value(alloc, accounts, account)?;
     let value = json!(in alloc; {"name": name})?;
@@ -140,7 +166,7 @@ pub(crate) fn told_name<A: Accounts>(
 
 /// The answer to a line that is no command.
 pub(crate) fn told_syntax(alloc: Global) -> Result<Answer, AllocError>
-    ensures { IfOk result KeepsCookie }
+    ensures { IfOk result IsSyntax }
 {
     let value = json!(in alloc; {"reply": ["- 1 syntax"]})?;
     told_value(alloc, Status::Good, Cookie::Kept, &value)
@@ -158,7 +184,9 @@ fn put_hints(out: &mut Vec<u8>, hints: &[Vec<u8>]) -> Result<(), AllocError> {
 }
 
 /// A reason with the place of which it tells.
-fn reason_value(alloc: Global, reason: &Reason) -> Result<Value, AllocError> {
+fn reason_value(alloc: Global, reason: &Reason) -> Result<Value, AllocError>
+    ensures { IfOk result (λ value. has_float (view value) ≡ false) }
+{
     let mut hints = Vec::new(alloc);
     put_hints(&mut hints, reason.words.hints.as_slice())?;
     let why = text_value(alloc, reason.words.why.as_slice())?;
@@ -172,7 +200,9 @@ fn reason_value(alloc: Global, reason: &Reason) -> Result<Value, AllocError> {
 }
 
 /// The reasons why a source is refused; none if it isn't.
-fn reasons_value(alloc: Global, source: &[u8]) -> Result<Value, AllocError> {
+fn reasons_value(alloc: Global, source: &[u8]) -> Result<Value, AllocError>
+    ensures { IfOk result (λ value. (reasons : Items) × (view value ≡ array reasons) × (items_have_float reasons ≡ false)) }
+{
     let reasons = reasons_of(alloc, source, MOST_REASONS)?;
     let mut values = Vec::new(alloc);
     for reason in reasons.as_slice() {
@@ -187,10 +217,10 @@ pub(crate) fn told_load(
     performed: &Performed,
     source: &[u8],
 ) -> Result<Answer, AllocError>
-    ensures { IfOk result KeepsCookie }
+    ensures { IfOk result (IsLoad performed.now) }
 {
     let reply = reply_value(alloc, performed)?;
     let reasons = reasons_value(alloc, source)?;
-    let value = json!(in alloc; {"reply": reply, "reasons": reasons})?;
+    let value = pair_value(alloc, "reply", reply, "reasons", reasons)?;
     told_value(alloc, Status::Good, Cookie::Kept, &value)
 }

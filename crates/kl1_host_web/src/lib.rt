@@ -18,7 +18,7 @@ mod wish;
 pub use accounts::{Accounts, Measures, Stop, Sums, Viewer};
 pub use asked_record::AskedRecord;
 pub use granting::grant;
-pub use kl1_host_door::{SessionBook, Site};
+pub use kl1_host_door::{BookChange, LoginKeys, SessionBook, Site};
 pub use outcome::Outcome;
 pub use serve::Service;
 pub use site::{Machine, Page};

@@ -1,11 +1,14 @@
 // What an account shows, and what the host has done, as answers.
 
-ghost use Rattle.std.specs.Prelude.{IfOk};
+ghost use Rattle.std.specs.Prelude.{◌≡◌, false, slice_get, IfOk};
+ghost use Rattle.serde_json.specs.Data.{array, Items};
+ghost use Rattle.serde_json.specs.View.{view};
+ghost use Rattle.serde_json.specs.Written.{has_float, items_have_float};
 ghost use Rattle.kl1_host_page.specs.Files.{file_at};
-ghost use Rattle.kl1_host_web.specs.Telling.{KeepsCookie, IsFile, IsPage, ShowsAll};
+ghost use Rattle.kl1_host_web.specs.Telling.{KeepsCookie, IsFile, IsPage, IsShoens, ShowsAll, number_data};
 
 use crate::accounts::{Accounts, Stop, Viewer};
-use crate::json::{refused, text_value, told_value};
+use crate::json::{pair_value, refused, text_value, told_value};
 use crate::metrics::put_metrics;
 use crate::waiting::waiting_value;
 use kl1_command::Performed;
@@ -131,14 +134,18 @@ fn condition_word(condition: Condition) -> &'static str {
 }
 
 /// A number that may be greater than a browser's are exact, as a text.
-fn large_value(alloc: Global, number: u64) -> Result<Value, AllocError> {
+fn large_value(alloc: Global, number: u64) -> Result<Value, AllocError>
+    ensures { IfOk result (λ value. has_float (view value) ≡ false) }
+{
     let mut text = Vec::new(alloc);
     put_decimal(&mut text, number)?;
     text_value(alloc, text.as_slice())
 }
 
 /// The number of a shoen, if there is one.
-fn shoen_value(alloc: Global, shoen: Option<ShoenNo>) -> Result<Value, AllocError> {
+fn shoen_value(alloc: Global, shoen: Option<ShoenNo>) -> Result<Value, AllocError>
+    ensures { IfOk result (λ value. has_float (view value) ≡ false) }
+{
     match shoen {
         None => Ok(Value::Null),
         Some(ShoenNo(number)) => json!(in alloc; number),
@@ -146,18 +153,41 @@ fn shoen_value(alloc: Global, shoen: Option<ShoenNo>) -> Result<Value, AllocErro
 }
 
 /// A shoen.
-fn view_value(alloc: Global, view: &ShoenView) -> Result<Value, AllocError> {
-    let parent = shoen_value(alloc, view.parent)?;
-    let charged = large_value(alloc, view.charged)?;
-    let allowance = large_value(alloc, view.allowance)?;
+fn view_value(alloc: Global, shoen: &ShoenView) -> Result<Value, AllocError>
+    ensures { IfOk result (λ value. has_float (view value) ≡ false) }
+{
+    let parent = shoen_value(alloc, shoen.parent)?;
+    let charged = large_value(alloc, shoen.charged)?;
+    let allowance = large_value(alloc, shoen.allowance)?;
     json!(in alloc; {
-        "number": (view.number.0),
+        "number": (shoen.number.0),
         "parent": parent,
-        "condition": (condition_word(view.condition)),
+        "condition": (condition_word(shoen.condition)),
         "charged": charged,
         "allowance": allowance,
-        "alive": (view.alive)
+        "alive": (shoen.alive)
     })
+}
+
+/// The number of the shoen at a place, if there is one.
+fn next_value(alloc: Global, views: &[ShoenView], place: usize) -> Result<Value, AllocError>
+    ensures { IfOk result (λ value. view value ≡ number_data (slice_get views.now place)) }
+{
+    match views.get(place) {
+        None => Ok(Value::Null),
+        Some(view) => json!(in alloc; (view.number.0)),
+    }
+}
+
+/// The first shoens of these, as many as a page has.
+fn shoens_value(alloc: Global, views: &[ShoenView]) -> Result<Value, AllocError>
+    ensures { IfOk result (λ value. (shoens : Items) × (view value ≡ array shoens) × (items_have_float shoens ≡ false)) }
+{
+    let mut shoens = Vec::new(alloc);
+    for view in &views[..views.len().min(SHOENS_A_PAGE)] {
+        push(&mut shoens, view_value(alloc, view)?)?;
+    }
+    Ok(Value::Array(shoens))
 }
 
 /// The shoens from one on, and the number of the first of the next page.
@@ -166,19 +196,12 @@ pub(crate) fn shoens_page<V: Viewer>(
     viewer: &mut V,
     from: u64,
 ) -> Result<Answer, AllocError>
-    ensures { IfOk result KeepsCookie }
+    ensures { IfOk result (IsShoens (V.lists (V.account viewer.old)) from) }
 {
     let views = viewer.shoens_from(ShoenNo(from), SHOENS_A_PAGE + 1)?;
-    let mut shoens = Vec::new(alloc);
-    for view in views.iter().take(SHOENS_A_PAGE) {
-        push(&mut shoens, view_value(alloc, view)?)?;
-    }
-    let next = shoen_value(
-        alloc,
-        views.as_slice().get(SHOENS_A_PAGE).map(|view| view.number),
-    )?;
-    let shoens = Value::Array(shoens);
-    let value = json!(in alloc; {"shoens": shoens, "next": next})?;
+    let next = next_value(alloc, views.as_slice(), SHOENS_A_PAGE)?;
+    let shoens = shoens_value(alloc, views.as_slice())?;
+    let value = pair_value(alloc, "next", next, "shoens", shoens)?;
     told_value(alloc, Status::Good, Cookie::Kept, &value)
 }
 

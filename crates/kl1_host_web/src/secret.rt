@@ -1,6 +1,9 @@
 // Names and tokens of sessions.
 
 ghost use Rattle.std.specs.Prelude.{◌≡◌, IfSome};
+ghost use Rattle.base64.specs.GeneralPurpose.{encode_of};
+ghost use Rattle.base64.specs.Engines.{url_safe_no_pad};
+ghost use Rattle.kl1_host_web.specs.Beginning.{IsDrawn};
 
 use crate::site::Machine;
 use base64::engine::general_purpose::URL_SAFE_NO_PAD;
@@ -10,27 +13,42 @@ use kl1_host_door::limits::SECRET_BYTES;
 /// The bytes of randomness of a secret, which are `SECRET_BYTES` in base64.
 const RANDOM_BYTES: usize = 24;
 
-/// A text that nobody can guess; `None` if the machine gives no randomness.
-fn secret<M: Machine>(machine: &M) -> Option<[u8; SECRET_BYTES]> {
-    let mut random = [0u8; RANDOM_BYTES];
-    if !machine.fill(&mut random) {
-        return None;
-    }
+/// Bytes in base64; `None` if these aren't `SECRET_BYTES`.
+#[tactic(auto, using(crate::proofs::Drawing::encoded_is))]
+fn encoded(bytes: &[u8]) -> Option<[u8; SECRET_BYTES]>
+    ensures { IfSome result (λ text. text ≡ encode_of url_safe_no_pad bytes.now) }
+{
     let mut text = [0u8; SECRET_BYTES];
-    match URL_SAFE_NO_PAD.encode_slice(&random, &mut text) {
-        Ok(SECRET_BYTES) => Some(text),
-        _ => None,
+    match URL_SAFE_NO_PAD.encode_slice(bytes, &mut text) {
+        Ok(count) => {
+            if count == SECRET_BYTES {
+                Some(text)
+            } else {
+                None
+            }
+        }
+        Err(_) => None,
     }
 }
 
-/// A session of an account that begins now.
+/// A session of an account that begins now. Its name and its token are two parts of one text that nobody can guess, so who knows the one
+/// doesn't know the other. It counts as asked for last at a second that the machine tells now. `None` if the machine gives no randomness.
 pub(crate) fn new_session<M: Machine>(machine: &M, account: usize) -> Option<WebSession>
-    ensures { IfSome result (λ session. session.account ≡ account) }
+    ensures account { IfSome result (λ session. session.account ≡ account) }
+    ensures drawn { IfSome result (IsDrawn (M.tells machine.now) (M.gives machine.now)) }
 {
+    let mut random = [0u8; 2 * RANDOM_BYTES];
+    if !machine.fill(&mut random) {
+        return None;
+    }
+    let (front, back) = random.split_at(RANDOM_BYTES);
+    let id = encoded(front)?;
+    let token = encoded(back)?;
+    let last = machine.seconds();
     Some(WebSession {
-        id: secret(machine)?,
-        token: secret(machine)?,
+        id,
+        token,
         account,
-        last: machine.seconds(),
+        last,
     })
 }

@@ -4,12 +4,16 @@ ghost use Rattle.std.specs.Prelude.{◌≡◌, ◌<◌, ◌++◌, ◌∷◌, [],
 ghost use Rattle.std.specs.declared.option.Option.{Option};
 ghost use Rattle.std.specs.Io.KnownBytes.{Appends, prepend_known};
 ghost use Rattle.kl1_host_door.specs.Answers.{answer_text};
-ghost use Rattle.kl1_host_door.specs.Doors.{authorized};
 ghost use Rattle.kl1_host_door.specs.declared.session.WebSession.{WebSession};
+ghost use Rattle.kl1_host_door.specs.declared.book.BookStep.TheVariants.{Adds, Takes};
+ghost use Rattle.kl1_host_door.specs.declared.book.SessionTest.TheVariants.{IsCalled};
+ghost use Rattle.kl1_host_door.specs.Sessions.{LetsIn, IsOpened};
+ghost use Rattle.kl1_host_door.specs.Books.{has_room};
 ghost use Rattle.kl1_command.specs.declared.performed.Performed.{Performed};
-ghost use Rattle.kl1_host_web.specs.Asking.{Asked};
+ghost use Rattle.kl1_host_web.specs.Asking.{Asked, changed};
 ghost use Rattle.kl1_host_web.specs.Telling.{IsOpenedIn};
-ghost use Rattle.kl1_host_web.specs.Serving.{Seeks, logout_of, EndsIdle, Begun, Ends, is_within, AnswersWithin, Attends, Exchange, Serves, Steps};
+ghost use Rattle.kl1_host_web.specs.Beginning.{Begun};
+ghost use Rattle.kl1_host_web.specs.Serving.{Seeks, logout_of, EndsIdle, Admits, LooksAt, closing, Ends, is_within, AnswersWithin, Attends, Exchange, Serves, Steps};
 
 use crate::accounts::Accounts;
 use crate::granting::grant;
@@ -22,30 +26,33 @@ use crate::wish::wish_of;
 use kl1_command::Command;
 use kl1_host_door::limits::SECRET_BYTES;
 use kl1_host_door::{
-    Allowed, Answer, Head, Refusal, SessionTest, WebSession, authorize, body_bytes, put_answer,
-    value_of,
+    Allowed, Answer, Head, LoginKeys, Refusal, SessionTest, WebSession, body_bytes, is_secure,
+    put_answer, value_of,
 };
 use kl1_lines::{Sink, Source, finish};
 use kl1_user_events::Event;
 use std::alloc::{AllocError, Global};
-use std::snapshot::Snapshot;
 use std::sync::Wait;
 
 /// What a connection is served by, and whether it comes from the machine of the host.
 #[derive(Drop)]
-pub struct Service<'p, R: Wait, M: Machine> {
+pub struct Service<'p, R: Wait, M: Machine, K: LoginKeys> {
     pub rt: &'p R,
     pub alloc: Global,
     pub machine: &'p M,
-    pub page: Page<'p>,
+    pub page: Page<'p, K>,
     pub is_local: bool,
 }
 
 /// What becomes of a request.
 #[derive(Drop)]
 enum Served {
-    /// It is answered, and the connection goes on or not.
-    Answered(Answer, bool),
+    /// It is answered, of a page that came by https or not, and the connection goes on or not.
+    Answered {
+        answer: Answer,
+        secure: bool,
+        goes_on: bool,
+    },
     /// It is refused, and nothing is known of what comes after it.
     Refused(Refusal),
     /// There is none: the connection has ended.
@@ -63,6 +70,13 @@ fn log_out<A: Accounts>(accounts: &mut A, account: usize)
     }
 }
 
+/// Tells that a request was let in to an account, if it was.
+fn tell_in<A: Accounts>(accounts: &A, is_in: bool) {
+    if is_in {
+        accounts.let_in();
+    }
+}
+
 /// Whether a request is of no account, or of one of `accounts`.
 fn is_within(accounts: usize, allowed: &Allowed) -> bool
     ensures { result ≡ is_within accounts allowed.now }
@@ -73,8 +87,12 @@ fn is_within(accounts: usize, allowed: &Allowed) -> bool
     }
 }
 
-/// Whether the connection goes on after an answer to this head.
+/// Whether the connection goes on after an answer to this head. It doesn't after a HEAD: who asks so takes what comes after the answer's head
+/// for the next answer.
 fn goes_on(head: &Head) -> bool {
+    if head.method.as_slice() == b"HEAD".as_slice() {
+        return false;
+    }
     let is_later = head.minor == 1;
     match value_of(head.fields.as_slice(), b"connection") {
         None => is_later,
@@ -88,74 +106,106 @@ fn goes_on(head: &Head) -> bool {
     }
 }
 
-impl<'p, R: Wait, M: Machine> Service<'p, R, M> {
+impl<'p, R: Wait, M: Machine, K: LoginKeys> Service<'p, R, M, K> {
     /// Takes the session with this name out of the book.
-    fn forget(&self, id: [u8; SECRET_BYTES]) {
+    fn forget<A: Accounts>(&self, accounts: &mut A, id: [u8; SECRET_BYTES])
+        ensures house { A.house accounts.new ≡ A.house accounts.old }
+        ensures asked { (sessions : List WebSession) × (A.asked accounts.new ≡ A.asked accounts.old ++ changed (Takes (IsCalled id)) sessions ∷ []) }
+    {
         let mut guard = self.page.sessions.lock(self.rt);
         let book = &mut *guard;
-        let _ = book.take(SessionTest::IsCalled(id));
+        let (_session, change) = book.take(SessionTest::IsCalled(id));
+        accounts.note_change(change);
     }
 
-    /// Takes the first session out of the book whose browser made no request for too long; `None` if there is none.
-    fn take_idle<A: Accounts>(&self, accounts: &mut A) -> Option<WebSession>
+    /// Takes the first session of an account out of the book whose browser made no request for too long; `None` if there is none.
+    fn take_idle<A: Accounts>(&self, accounts: &mut A, account: usize) -> Option<WebSession>
         ensures house { A.house accounts.new ≡ A.house accounts.old }
-        ensures seeks { (note : Asked) × Seeks (M.tells self.now.machine.now) self.now.page.idle result note × (A.asked accounts.new ≡ A.asked accounts.old ++ note ∷ []) }
+        ensures seeks { (note : Asked) × Seeks (M.tells self.now.machine.now) self.now.page.idle account result note × (A.asked accounts.new ≡ A.asked accounts.old ++ note ∷ []) }
     {
         let before = self.machine.seconds().saturating_sub(self.page.idle);
         let mut guard = self.page.sessions.lock(self.rt);
         let book = &mut *guard;
-        accounts.note_search(Snapshot::of(&before), Snapshot::of(book));
-        book.take(SessionTest::IsIdle(before))
+        let (session, change) = book.take(SessionTest::IsIdle { account, before });
+        accounts.note_change(change);
+        session
     }
 
     /// Adds a session of a browser, and tells whether there was room for it.
-    fn add(&self, session: WebSession) -> bool {
+    fn add<A: Accounts>(&self, accounts: &mut A, session: WebSession) -> bool
+        requires { IsOpened K.opens session }
+        ensures house { A.house accounts.new ≡ A.house accounts.old }
+        ensures asked { (others : List WebSession) × (result ≡ has_room others) × (A.asked accounts.new ≡ A.asked accounts.old ++ changed (Adds session) others ∷ []) }
+    {
         let mut guard = self.page.sessions.lock(self.rt);
         let book = &mut *guard;
-        book.add(session)
+        let (is_added, change) = book.add(session);
+        accounts.note_change(change);
+        is_added
     }
 
     /// What a request may have, by the sessions that are open now.
-    fn allowed(&self, head: &Head) -> Result<Allowed, Refusal>
-        ensures { (sessions : List WebSession) × (result ≡ authorized head.now sessions self.now.page.sites.now self.now.is_local) }
+    fn allowed<A: Accounts>(&self, accounts: &mut A, head: &Head) -> Result<Allowed, Refusal>
+        ensures house { A.house accounts.new ≡ A.house accounts.old }
+        ensures admits { Admits (M.tells self.now.machine.now) K.opens self.now.page.idle self.now.page.sites.now self.now.is_local head.now (A.asked accounts.old) (A.asked accounts.new) result }
     {
+        let now = self.machine.seconds();
+        let since = now.saturating_sub(self.page.idle);
         let mut guard = self.page.sessions.lock(self.rt);
         let book = &mut *guard;
-        let allowed = authorize(head, book.sessions(), self.page.sites, self.is_local);
-        if let Ok(Allowed::Owner { id, .. }) = &allowed {
-            book.touch(*id, self.machine.seconds());
-        }
+        let (allowed, change) = book.admit(head, self.page.sites, self.is_local, since, now);
+        accounts.note_change(change);
         allowed
     }
 
-    /// Ends the sessions of browsers that made no request for too long: each is taken out of the book and logged out, until there is none.
-    pub fn end_idle<A: Accounts>(&self, accounts: &mut A)
+    /// Whether a request is let in to an account, whose body of `count` bytes is read, by the sessions that are open now; or why that isn't read.
+    fn may_send(&self, head: &Head, count: u64) -> Result<bool, Refusal>
+        ensures { LooksAt (M.tells self.now.machine.now) K.opens self.now.page.idle self.now.page.sites.now self.now.is_local head.now count result }
+    {
+        let since = self.machine.seconds().saturating_sub(self.page.idle);
+        let guard = self.page.sessions.lock(self.rt);
+        let book = &*guard;
+        book.may_send(head, self.page.sites, self.is_local, since, count)
+    }
+
+    /// Ends the sessions of an account whose browsers made no request for too long: each is taken out of the book and logged out, until there
+    /// is none. A logout waits for the account, if it is in the midst of a reduction.
+    pub fn end_idle<A: Accounts>(&self, accounts: &mut A, account: usize)
         ensures house { A.house accounts.new ≡ A.house accounts.old }
-        ensures ends { EndsIdle (M.tells self.now.machine.now) self.now.page.idle (A.house accounts.old).accounts (A.asked accounts.old) (A.asked accounts.new) }
+        ensures ends { EndsIdle (M.tells self.now.machine.now) self.now.page.idle account (A.house accounts.old).accounts (A.asked accounts.old) (A.asked accounts.new) }
     {
         for _ in self.rt.forever() {
-            match self.take_idle(accounts) {
+            match self.take_idle(accounts, account) {
                 Some(session) => log_out(accounts, session.account),
                 None => return,
             }
         }
     }
 
-    /// Begins the session of a browser to which a session of its account is open. Without room for it that is closed again.
+    /// Begins the session of a browser to which a session of its account is open. If it can't begin, or can't be told, that is closed again,
+    /// so that a login that fails leaves nothing open.
     fn begin<A: Accounts>(&self, accounts: &mut A, account: usize) -> Result<Answer, AllocError>
-        requires { account < (A.house accounts.old).accounts }
+        requires within { account < (A.house accounts.old).accounts }
+        requires opened { LetsIn K.opens account }
         ensures house { A.house accounts.new ≡ A.house accounts.old }
-        ensures asked { Begun account (A.asked accounts.old) (A.asked accounts.new) result }
+        ensures asked { Begun (M.tells self.now.machine.now) (M.gives self.now.machine.now) (A.house accounts.old).names account (A.asked accounts.old) (A.asked accounts.new) result }
     {
         let Some(session) = new_session(self.machine, account) else {
             let _ = accounts.act(account, &Command::Does(Event::Logout));
             return refused(self.alloc, Refusal::Memory);
         };
-        if !self.add(session) {
+        let answer = match told_session(self.alloc, accounts, &session) {
+            Ok(answer) => answer,
+            Err(error) => {
+                let _ = accounts.act(account, &Command::Does(Event::Logout));
+                return Err(error);
+            }
+        };
+        if !self.add(accounts, session) {
             let _ = accounts.act(account, &Command::Does(Event::Logout));
             return refused(self.alloc, Refusal::ManySessions);
         }
-        told_session(self.alloc, accounts, &session)
+        Ok(answer)
     }
 
     /// The answer to a request that ended so.
@@ -165,18 +215,19 @@ impl<'p, R: Wait, M: Machine> Service<'p, R, M> {
         allowed: &Allowed,
         outcome: Outcome,
     ) -> Result<Answer, AllocError>
-        requires { IsOpenedIn (A.house accounts.old).accounts outcome }
+        requires keys { (A.house accounts.old).opens ≡ K.opens }
+        requires opened { IsOpenedIn (A.house accounts.old) outcome }
         ensures house { A.house accounts.new ≡ A.house accounts.old }
-        ensures ends { Ends (Ok outcome) (A.asked accounts.old) (A.asked accounts.new) result }
+        ensures ends { Ends (M.tells self.now.machine.now) (M.gives self.now.machine.now) (A.house accounts.old).names allowed.now (Ok outcome) (A.asked accounts.old) (A.asked accounts.new) result }
     {
         match outcome {
             Outcome::Told(answer) => Ok(answer),
             Outcome::Opens(account) => self.begin(accounts, account),
             Outcome::Closes(answer) => {
                 if let Allowed::Owner { id, .. } = allowed {
-                    self.forget(*id);
+                    self.forget(accounts, *id);
                 }
-                Ok(answer)
+                answer
             }
         }
     }
@@ -189,8 +240,9 @@ impl<'p, R: Wait, M: Machine> Service<'p, R, M> {
         allowed: &Allowed,
         body: &[u8],
     ) -> Result<Answer, AllocError>
+        requires { (A.house accounts.old).opens ≡ K.opens }
         ensures house { A.house accounts.new ≡ A.house accounts.old }
-        ensures answers { AnswersWithin (is_within (A.house accounts.old).accounts allowed.now) (A.house accounts.old) allowed.now head.now.target.items body.now (A.asked accounts.old) (A.asked accounts.new) result }
+        ensures answers { AnswersWithin (M.tells self.now.machine.now) (M.gives self.now.machine.now) (is_within (A.house accounts.old).accounts allowed.now) (A.house accounts.old) allowed.now head.now.target.items body.now (A.asked accounts.old) (A.asked accounts.new) result }
     {
         if !is_within(accounts.count(), allowed) {
             return refused(self.alloc, Refusal::Nobody);
@@ -207,11 +259,11 @@ impl<'p, R: Wait, M: Machine> Service<'p, R, M> {
         head: &Head,
         body: &[u8],
     ) -> Result<Answer, AllocError>
+        requires { (A.house accounts.old).opens ≡ K.opens }
         ensures house { A.house accounts.new ≡ A.house accounts.old }
-        ensures answers { Attends (M.tells self.now.machine.now) self.now.page.idle (A.house accounts.old) self.now.page.sites.now self.now.is_local head.now body.now (A.asked accounts.old) (A.asked accounts.new) result }
+        ensures answers { Attends (M.tells self.now.machine.now) (M.gives self.now.machine.now) self.now.page.idle (A.house accounts.old) self.now.page.sites.now self.now.is_local head.now body.now (A.asked accounts.old) (A.asked accounts.new) result }
     {
-        self.end_idle(accounts);
-        match self.allowed(head) {
+        match self.allowed(accounts, head) {
             Err(refusal) => refused(self.alloc, refusal),
             Ok(allowed) => self.answer(accounts, head, &allowed, body),
         }
@@ -224,8 +276,9 @@ impl<'p, R: Wait, M: Machine> Service<'p, R, M> {
         inbox: &mut Inbox,
         accounts: &mut A,
     ) -> Result<Served, AllocError>
+        requires { (A.house accounts.old).opens ≡ K.opens }
         ensures house { A.house accounts.new ≡ A.house accounts.old }
-        ensures steps { Steps (M.tells self.now.machine.now) self.now.page.idle (A.house accounts.old) self.now.page.sites.now self.now.is_local (prepend_known inbox.old.kept.items (S.remaining source.old)) (prepend_known inbox.new.kept.items (S.remaining source.new)) (A.asked accounts.old) (A.asked accounts.new) result }
+        ensures steps { Steps (M.tells self.now.machine.now) (M.gives self.now.machine.now) self.now.page.idle (A.house accounts.old) self.now.page.sites.now self.now.is_local (prepend_known inbox.old.kept.items (S.remaining source.old)) (prepend_known inbox.new.kept.items (S.remaining source.new)) (A.asked accounts.old) (A.asked accounts.new) result }
     {
         let head = match inbox.head(self.alloc, source)? {
             Incoming::Head(head) => head,
@@ -233,29 +286,40 @@ impl<'p, R: Wait, M: Machine> Service<'p, R, M> {
             Incoming::Ended => return Ok(Served::Ended),
         };
         let count = match body_bytes(&head) {
-            Ok(count) => count as usize,
+            Ok(count) => count,
             Err(refusal) => return Ok(Served::Refused(refusal)),
         };
-        // The body is read also if the request is refused, so that the next one is found.
-        let Some(body) = inbox.body(self.alloc, source, count)? else {
+        // Who isn't let in has no long body read. A short one is read also if the request is refused, so that the next one is found.
+        let is_in = match self.may_send(&head, count) {
+            Ok(is_in) => is_in,
+            Err(refusal) => return Ok(Served::Refused(refusal)),
+        };
+        tell_in(&*accounts, is_in);
+        let Some(body) = inbox.body(self.alloc, source, count as usize)? else {
             return Ok(Served::Ended);
         };
         let answer = self.attend(accounts, &head, body.as_slice())?;
-        Ok(Served::Answered(answer, goes_on(&head)))
+        Ok(Served::Answered {
+            answer,
+            secure: is_secure(&head, self.page.sites),
+            goes_on: goes_on(&head),
+        })
     }
 
     /// Writes an answer; `false` if that failed.
-    fn send<T: Sink>(&self, sink: &mut T, answer: &Answer, goes_on: bool) -> bool
-        ensures { result ≡ true → Appends (T.contents sink.old) (T.contents sink.new) (answer_text answer.now goes_on) }
+    fn send<T: Sink>(&self, sink: &mut T, answer: &Answer, secure: bool, goes_on: bool) -> bool
+        ensures { result ≡ true → Appends (T.contents sink.old) (T.contents sink.new) (answer_text answer.now secure goes_on) }
     {
         let mut text = Vec::new(self.alloc);
-        put_answer(&mut text, answer, goes_on).is_ok() && finish(sink, text.as_slice()).is_ok()
+        put_answer(&mut text, answer, secure, goes_on).is_ok()
+            && finish(sink, text.as_slice()).is_ok()
     }
 
     /// Writes that a request is refused. Without memory nothing is written.
     fn send_refusal<T: Sink>(&self, sink: &mut T, refusal: Refusal) {
         if let Ok(answer) = refused(self.alloc, refusal) {
-            let _ = self.send(sink, &answer, false);
+            // It tells of no cookie.
+            let _ = self.send(sink, &answer, false, false);
         }
     }
 
@@ -266,14 +330,21 @@ impl<'p, R: Wait, M: Machine> Service<'p, R, M> {
         sink: &mut T,
         accounts: &mut A,
     )
+        requires { (A.house accounts.old).opens ≡ K.opens }
         ensures house { A.house accounts.new ≡ A.house accounts.old }
-        ensures served { (served : List Exchange) × (left : Option (List ℕ)) × Serves (M.tells self.now.machine.now) self.now.page.idle (A.house accounts.old) self.now.page.sites.now self.now.is_local served (S.remaining source.old) left (A.asked accounts.old) (A.asked accounts.new) }
+        ensures served { (served : List Exchange) × (left : Option (List ℕ)) × Serves (M.tells self.now.machine.now) (M.gives self.now.machine.now) self.now.page.idle (A.house accounts.old) self.now.page.sites.now self.now.is_local served (S.remaining source.old) left (A.asked accounts.old) (A.asked accounts.new) }
     {
         let mut inbox = Inbox::new(self.alloc);
         for _ in 0..u64::MAX {
             match self.serve_request(source, &mut inbox, accounts) {
-                Ok(Served::Answered(answer, goes_on)) => {
-                    if !self.send(sink, &answer, goes_on) || !goes_on {
+                Ok(
+                    Served::Answered {
+                        answer,
+                        secure,
+                        goes_on,
+                    },
+                ) => {
+                    if !self.send(sink, &answer, secure, goes_on) || !goes_on {
                         return;
                     }
                 }

@@ -1,4 +1,9 @@
+pub mod Lobbies
 pub mod NamesInOrder
+pub mod Notices
 pub mod OpenedByName
+pub mod OwnHistories
 pub mod Restarts
+pub mod SentRestarts
+pub mod Shelves
 pub mod UsedNames

@@ -7,7 +7,6 @@ use Rattle.std.proofs.lemmas.Option.{slice_get_within, get_or_from_slice_get, sl
 use Rattle.kl1_session.specs.Files.{Entry}
 use Rattle.kl1_session.specs.Views.{entry_view, entries_view}
 use Rattle.kl1_session.specs.declared.key.Key.{Key}
-use Rattle.kl1_log.specs.declared.disk.Disk as disk
 use Rattle.kl1_host_work.specs.declared.restoring.AccountFile.{AccountFile}
 use Rattle.kl1_host_work.specs.AccountFiles.{names_of}
 use Rattle.kl1_host_work.specs.Fronts.{names_in}
@@ -27,8 +26,8 @@ name_more : (names : List (List ℕ)) (k : ℕ) (called : List ℕ) → slice_ge
 name_more names k called at =
     take-suc names k called (slice_get_within names k called at) ∙ ap (λ (n : List ℕ). take k names ++ n ∷ []) (get_or_from_slice_get names k called called at)
 
-module _ {D : Type 0} {g : disk.Ghosts D} where
+module _ {D : Type 0} where
   -- files of the first accounts, and then the next account's
-  pub file_more : (names : List (List ℕ)) (files after : List (AccountFile D g)) (file : AccountFile D g) (k : ℕ) → after ≡ files ++ file ∷ [] → names_of files ≡ take k names → slice_get names k ≡ Some file.name → names_of after ≡ take (suc k) names
+  pub file_more : (names : List (List ℕ)) (files after : List (AccountFile D)) (file : AccountFile D) (k : ℕ) → after ≡ files ++ file ∷ [] → names_of files ≡ take k names → slice_get names k ≡ Some file.name → names_of after ≡ take (suc k) names
   file_more names files after file k is before at =
-      ap names_of is ∙ map-append (λ (a : AccountFile D g). a.name) files (file ∷ []) ∙ ap (λ (ns : List (List ℕ)). ns ++ file.name ∷ []) before ∙ sym (name_more names k file.name at)
+      ap names_of is ∙ map-append (λ (a : AccountFile D). a.name) files (file ∷ []) ∙ ap (λ (ns : List (List ℕ)). ns ++ file.name ∷ []) before ∙ sym (name_more names k file.name at)

@@ -1,5 +1,16 @@
 pub mod AccountFiles
+pub mod Filling
 pub mod Fronts
 pub mod Linkages
+pub mod Noted
+pub mod Notices
 pub mod Overruns
+pub mod Places
+pub mod OwnHistories
 pub mod Restarts
+pub mod Standings
+pub mod Refusals
+pub mod Stages
+pub mod Sights
+pub mod Strangers
+pub mod Visitors

@@ -16,9 +16,9 @@ impl Budget {
         }
     }
 
-    /// Whether a source of this many bytes may be loaded.
-    pub(crate) fn allows(&self, bytes: usize) -> bool {
-        bytes as u64 <= self.left.load(Ordering::SeqCst)
+    /// How many bytes may still be loaded.
+    pub(crate) fn left(&self) -> u64 {
+        self.left.load(Ordering::SeqCst)
     }
 
     /// Counts a source that was loaded. Of loads at the same time some may go over the budget.

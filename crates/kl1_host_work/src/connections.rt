@@ -3,10 +3,13 @@
 ghost use Rattle.std.specs.Prelude.{◌≡◌};
 ghost use Rattle.kl1_host_work.specs.Fronts.{AreAccountsOf};
 
+use crate::board::Board;
 use crate::connection::{serve_lines, serve_pages};
 use crate::front::{Front, HostEvent};
 use crate::host::Host;
-use crate::lobby::{Limits, Lobby};
+use crate::lobby::{Admission, Limits, Lobby};
+use crate::visit::Visit;
+use kl1_host_journals::Naming;
 use kl1_pool::{Pool, PoolIds, Share};
 use std::alloc::Global;
 use std::net::{Net, SocketAddr, TcpListener, TcpStream};
@@ -29,22 +32,24 @@ pub(crate) enum Peers {
 
 /// What a connection is served by.
 #[derive(Drop)]
-pub(crate) struct Desk<'d, 't, F: Front, R: Wait, K: PoolIds> {
+pub(crate) struct Desk<'d, 't, F: Front, R: Wait, K: PoolIds + Naming> {
     pub(crate) front: &'d F,
     pub(crate) pool: &'d Pool<'t, R, K>,
     pub(crate) lobby: &'d Lobby<K>,
-    pub(crate) host: Host<'d>,
+    pub(crate) board: &'d Board,
+    pub(crate) host: Host<'d, K>,
     pub(crate) limits: Limits,
     pub(crate) alloc: Global,
 }
 
-impl<'d, 't, F: Front, R: Wait, K: PoolIds> Desk<'d, 't, F, R, K> {
+impl<'d, 't, F: Front, R: Wait, K: PoolIds + Naming> Desk<'d, 't, F, R, K> {
     /// A desk of these.
     pub(crate) fn new(
         front: &'d F,
         pool: &'d Pool<'t, R, K>,
         lobby: &'d Lobby<K>,
-        host: Host<'d>,
+        board: &'d Board,
+        host: Host<'d, K>,
         limits: Limits,
         alloc: Global,
     ) -> Self
@@ -54,6 +59,7 @@ impl<'d, 't, F: Front, R: Wait, K: PoolIds> Desk<'d, 't, F, R, K> {
             front,
             pool,
             lobby,
+            board,
             host,
             limits,
             alloc,
@@ -61,56 +67,133 @@ impl<'d, 't, F: Front, R: Wait, K: PoolIds> Desk<'d, 't, F, R, K> {
     }
 }
 
-/// Serves a connection of a client.
-fn serve_client<'t, F: Front, W: Wait, R: Wait, K: PoolIds>(
+/// Serves a connection of a client, and gives the share back.
+fn serve_client<'t, F: Front, W: Wait + Clock, R: Wait, K: PoolIds + Naming>(
     rt: &W,
     desk: &Desk<'_, 't, F, R, K>,
-    stream: &TcpStream,
+    visit: &Visit,
     address: SocketAddr,
-    share: &mut Share<K>,
-)
+    share: Share<K>,
+) -> Share<K>
     requires { AreAccountsOf (F.names desk.now.front.now) K.names K.accounts }
 {
     desk.front.tell(HostEvent::Opened(address));
-    let mut door = desk.front.door(address);
-    let served = serve_lines(
-        rt,
-        desk.alloc,
-        stream,
-        desk.pool,
-        desk.host,
-        desk.limits.idle,
-        &mut door,
-        share,
-    );
+    let door = desk.front.door(address);
+    let (served, share) = serve_lines(rt, desk, visit, door, share);
     desk.front.tell(HostEvent::Closed(address, served));
+    share
 }
 
-/// Serves a connection that was let in by this number, and gives the share back.
-fn serve_visitor<'t, F: Front, W: Wait, R: Wait, K: PoolIds>(
+/// Serves the connection that has this place, with the share that is kept for it, and gives that back.
+fn serve_visitor<'t, F: Front, W: Wait + Clock, R: Wait, K: PoolIds + Naming>(
     rt: &W,
     desk: &Desk<'_, 't, F, R, K>,
-    stream: Arc<TcpStream, Global>,
+    visit: Arc<Visit, Global>,
     address: SocketAddr,
     peers: Peers,
-    number: u64,
-    share: Share<K>,
+    place: usize,
 )
     requires { AreAccountsOf (F.names desk.now.front.now) K.names K.accounts }
 {
-    let mut share = share;
-    match peers {
-        Peers::Clients => serve_client(&*rt, &*desk, &*stream, address, &mut share),
-        Peers::Browsers => serve_pages(&*rt, &*desk, &*stream, address, &mut share),
-    }
-    drop(stream);
-    desk.lobby.give_back(rt, share);
-    desk.lobby.leave(rt, number);
+    let share = match desk.lobby.lend(rt, place) {
+        Some(share) => Some(match peers {
+            Peers::Clients => serve_client(&*rt, &*desk, &*visit, address, share),
+            Peers::Browsers => serve_pages(&*rt, &*desk, &*visit, address, share),
+        }),
+        None => None,
+    };
+    drop(visit);
+    desk.lobby.leave(rt, place, share);
 }
 
-/// Accepts connections until the host closes, and serves each in a thread of its own, or in this one if no thread can be made. When all
-/// have ended, it returns.
-pub(crate) fn serve_each<'t, F: Front + Sync, N, R: Wait + Sync, K: PoolIds + Send + Sync>(
+/// A connection that came in and is open.
+#[derive(Drop)]
+struct Arrival {
+    visit: Arc<Visit, Global>,
+    address: SocketAddr,
+    place: usize,
+}
+
+/// What came in.
+#[derive(Drop)]
+enum Received {
+    /// A connection that is open.
+    Open(Arrival),
+    /// Nothing that is served.
+    Nothing,
+    /// Nothing, since the host is closing.
+    Closing,
+}
+
+/// Lets a connection in as soon as there is a place for it, if it may. Others that have shown no key give way to it.
+fn arrival_of<'t, F: Front, N: Wait + Clock, R: Wait, K: PoolIds + Naming>(
+    rt: &N,
+    desk: &Desk<'_, 't, F, R, K>,
+    visit: Arc<Visit, Global>,
+    address: SocketAddr,
+) -> Received {
+    for _ in rt.forever() {
+        match desk.lobby.admit(rt, &visit, address, desk.limits) {
+            Admission::Open(place) => {
+                return Received::Open(Arrival {
+                    visit,
+                    address,
+                    place,
+                });
+            }
+            Admission::TurnedAway => {
+                desk.front.tell(HostEvent::TurnedAway(address));
+                return Received::Nothing;
+            }
+            // A host that is closing wakes this accept by a connection of its own.
+            Admission::Closing => return Received::Closing,
+            Admission::Awaits(oldest) => {
+                desk.front.tell(HostEvent::GaveWay(oldest));
+                desk.lobby.wait_for_place(rt, true);
+            }
+            Admission::Waits => desk.lobby.wait_for_place(rt, false),
+        }
+    }
+    Received::Nothing
+}
+
+/// Waits for the next connection, and lets it in if it may.
+fn receive<'t, F: Front, N: Wait + Clock, R: Wait, K: PoolIds + Naming>(
+    rt: &N,
+    listener: &TcpListener,
+    desk: &Desk<'_, 't, F, R, K>,
+) -> Received {
+    let Ok((stream, address)) = listener.accept() else {
+        if desk.lobby.is_closing(rt) {
+            return Received::Closing;
+        }
+        thread::sleep(rt, Duration::from_millis(PAUSE_MILLISECONDS));
+        return Received::Nothing;
+    };
+    match Arc::new(desk.alloc, Visit::new(stream, desk.limits)) {
+        Ok(visit) => arrival_of(rt, desk, visit, address),
+        Err(_) => Received::Nothing,
+    }
+}
+
+/// Takes in that no thread can be made for the connection of this place: the oldest that has shown no key is told to end, and it is waited
+/// a short time for that.
+fn make_room<'t, F: Front, N: Wait + Clock, R: Wait, K: PoolIds + Naming>(
+    rt: &N,
+    desk: &Desk<'_, 't, F, R, K>,
+    place: usize,
+) {
+    if let Some(oldest) = desk.lobby.make_room(rt, place) {
+        desk.front.tell(HostEvent::GaveWay(oldest));
+        desk.lobby.wait_for_leave(rt);
+        // Its thread has a last step to go.
+        thread::sleep(rt, Duration::from_millis(PAUSE_MILLISECONDS));
+    }
+}
+
+/// Accepts connections until the host closes, and serves each in a thread of its own; one for which no thread can be made is closed. When
+/// all have ended, it returns.
+pub(crate) fn serve_each<'t, F: Front + Sync, N, R: Wait + Sync, K: PoolIds + Naming + Send + Sync>(
     rt: &N,
     listener: &TcpListener,
     peers: Peers,
@@ -128,38 +211,28 @@ where
             requires { AreAccountsOf (F.names desk.now.front.now) K.names K.accounts }
         {
             for _ in rt.forever() {
-                let Some(share) = desk.lobby.share(rt) else {
-                    return;
+                let arrival = match receive(rt, listener, desk) {
+                    Received::Open(arrival) => arrival,
+                    Received::Nothing => continue,
+                    Received::Closing => return,
                 };
-                let Ok((stream, address)) = listener.accept() else {
-                    desk.lobby.give_back(rt, share);
-                    thread::sleep(rt, Duration::from_millis(PAUSE_MILLISECONDS));
+                let Arrival {
+                    visit,
+                    address,
+                    place,
+                } = arrival;
+                let job = move || serve_visitor(rt, desk, visit, address, peers, place);
+                // A thread whose handle is dropped leaves nothing when it ends, and the scope waits for it all the same.
+                let Err(failed) = scope.spawn(job) else {
                     continue;
                 };
-                let Ok(stream) = Arc::new(desk.alloc, stream) else {
-                    desk.lobby.give_back(rt, share);
-                    continue;
-                };
-                let Some(number) = desk
-                    .lobby
-                    .admit(rt, &stream, address.ip(), desk.limits.each)
-                else {
-                    desk.lobby.give_back(rt, share);
-                    // A host that is closing wakes this accept by a connection of its own.
-                    if !desk.lobby.is_closing(rt) {
-                        desk.front.tell(HostEvent::TurnedAway(address));
-                    }
-                    continue;
-                };
-                match scope.spawn(move || {
-                    serve_visitor(rt, desk, stream, address, peers, number, share)
-                }) {
-                    // A thread whose handle is dropped leaves nothing when it ends, and the scope waits for it all the same.
-                    Ok(handle) => drop(handle),
-                    Err(failed) => {
-                        let thread::SpawnError { value: here, .. } = failed;
-                        here();
-                    }
+                let thread::SpawnError { value: job, .. } = failed;
+                make_room(rt, desk, place);
+                if let Err(failed) = scope.spawn(job) {
+                    // It isn't served here: this thread would then wait for who has connected. With what it was to do it is closed.
+                    drop(failed);
+                    desk.lobby.leave(rt, place, None);
+                    desk.front.tell(HostEvent::Unserved(address));
                 }
             }
         },

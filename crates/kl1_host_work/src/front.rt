@@ -1,6 +1,9 @@
 // What a host asks of the program around it.
 
-ghost use Rattle.std.specs.Prelude.{◌≡◌, ℕ, List, length};
+ghost use Rattle.std.specs.Prelude.{◌≡◌, ◌<◌, ◌≤◌, ◌++◌, ◌∷◌, [], ℕ, List, length};
+ghost use Rattle.kl1_command.specs.Commands.{command_view};
+ghost use Rattle.kl1_command.specs.declared.performed.Performed.TheVariants.{Memory};
+ghost use Rattle.kl1_session.specs.Conversations.{Done};
 ghost use Rattle.kl1_host_work.specs.Fronts.{OpensByName};
 
 use kl1_command::{Command, Performed};
@@ -11,6 +14,7 @@ use kl1_session::{Disconnect, Door};
 use kl1_user_events::{Extent, GoalNo, GoalView, Presence, ShoenNo, ShoenView, Usage};
 use std::alloc::AllocError;
 use std::net::SocketAddr;
+use std::time::Duration;
 
 /// What a host tells.
 #[derive(Drop)]
@@ -21,6 +25,10 @@ pub enum HostEvent {
     Opened(SocketAddr),
     /// A connection is refused: too many are open.
     TurnedAway(SocketAddr),
+    /// A connection is closed: no thread can be made for it.
+    Unserved(SocketAddr),
+    /// A connection that has shown no key is told to end, since another came in for which there is no place.
+    GaveWay(SocketAddr),
     /// A connection of a client has ended.
     Closed(SocketAddr, Disconnect),
     /// An account's file can't be written: it gets nothing more, and the account no commands.
@@ -29,19 +37,66 @@ pub enum HostEvent {
     Full { account: usize, bytes: u64 },
     /// An account that took more bytes than it may takes this many now, and goes on: it was reset.
     Freed { account: usize, bytes: u64 },
+    /// What an account wrote waits for room on the disk: commands to it are answered as if memory was refused.
+    Waits { account: usize },
+    /// What an account wrote and what waited for room is written.
+    Written { account: usize },
+    /// The file of an account has as many bytes as it may: commands that would make it grow are answered as if memory was refused.
+    DiskFull { account: usize },
+    /// The file of an account has fewer bytes than it may again: it was reset.
+    DiskFreed { account: usize },
+    /// An account was refused a source, since it has loaded as many bytes as it may.
+    CodesFull { account: usize },
+    /// A host that was asked to stop waits for this account, which is in the midst of a reduction.
+    AwaitsEnd { account: usize },
+}
+
+/// What was seen of an account.
+#[derive(Clone, Copy)]
+pub struct Sight {
+    /// What of it is in use.
+    pub usage: Usage,
+    /// Its events and its steps.
+    pub counted: BookTotals,
+    /// About how many bytes it takes.
+    pub bytes: u64,
+    /// How many of its sessions are open.
+    pub sessions: u64,
+    /// When, since some start.
+    pub at: Duration,
 }
 
 /// What can be seen of a host that runs. What looks at an account waits for one that is in the midst of a reduction, and gives an error if
 /// there is no such account.
 pub trait HostView {
+    /// Takes in that who is served has shown a key, or the cookie and the token of a session: so its connection isn't ended as a stranger's.
+    fn let_in(&self);
+
+    /// Whether an answer of an account may be made, since few of its answers aren't read yet. Until more is read of the connection it counts
+    /// as one.
+    fn begin_answer(&self, account: usize) -> bool;
+
     /// Whether an account's file gets nothing more, and the account no commands.
     fn is_stopped(&self, account: usize) -> bool;
 
     /// How many connections are open.
     fn connections(&self) -> usize;
 
-    /// How many sessions of an account are open.
-    fn sessions(&self, account: usize) -> Result<u64, AllocError>;
+    /// Asks that each account is looked at.
+    fn ask_all(&self);
+
+    /// What is seen of an account since it was asked last, or if it is in the midst of a reduction for long, what was seen before; and for
+    /// how many seconds that isn't so any more. `None` if nothing was seen yet. It waits for a short time alone.
+    fn sight(&self, account: usize) -> (Option<Sight>, u64);
+
+    /// Whether an account is in the midst of a reduction for long.
+    fn is_busy(&self, account: usize) -> bool;
+
+    /// How many bytes of sources an account may still load.
+    fn codes_left(&self, account: usize) -> u64;
+
+    /// Whether an account was refused a source, since it has loaded as many bytes as it may.
+    fn is_out_of_codes(&self, account: usize) -> bool;
 
     /// What of an account is in use.
     fn usage(&self, account: usize) -> Result<Usage, AllocError>;
@@ -91,8 +146,16 @@ pub trait HostView {
 
 /// What does commands for a connection.
 pub trait Performer {
+    /// How many accounts there are.
+    ghost accounts: { ℕ };
+
+    /// What was done, in order, with what was answered.
+    ghost done: { Self → List Done };
+
     /// Does a command to an account; if there is no such account, as if memory was refused.
-    fn perform(&mut self, account: usize, command: &Command) -> Performed;
+    fn perform(&mut self, account: usize, command: &Command) -> Performed
+        ensures done { account < accounts → done self.new ≡ done self.old ++ record { account = account; command = command_view command.now; answer = result } ∷ [] }
+        ensures none { accounts ≤ account → (done self.new ≡ done self.old) × (result ≡ Memory) };
 }
 
 /// The program around a host: who is let in, what is told to its log, and when it stops.
@@ -119,8 +182,10 @@ pub trait Front {
         sink: &mut T,
         performer: &mut P,
         host: &V,
-    );
+    )
+        requires { length (names self.now) ≤ P.accounts };
 
     /// Attends to a host, in the thread that runs it, and may do commands. The host stops when it returns.
-    fn attend<P: Performer, V: HostView>(&self, performer: &mut P, host: &V);
+    fn attend<P: Performer, V: HostView>(&self, performer: &mut P, host: &V)
+        requires { length (names self.now) ≤ P.accounts };
 }

@@ -1,41 +1,63 @@
 // A pool with its files as what does the commands of one connection.
 
-ghost use Rattle.kl1_session.specs.Histories.{done_in};
+ghost use Rattle.std.specs.Prelude.{◌≡◌, ◌<◌, true};
+ghost use Rattle.kl1_command.specs.Commands.{command_view};
+ghost use Rattle.kl1_host_work.specs.Notices.{tells_nothing, Adds};
+ghost use Rattle.kl1_host_work.specs.Refusals.{is_logout, is_refused, source_bytes};
 
+use crate::exchange::Exchange;
+use crate::filling::{has_no_room, is_of_sessions, is_short, note_done};
 use crate::front::Performer;
 use crate::host::Host;
-use crate::noting::note_told;
+use crate::noting::{is_lost, note_told, take_leave};
 use kl1_command::{Command, Performed};
-use kl1_host_journals::Outgoing;
-use kl1_pool::{Pool, PoolIds, Share};
-use kl1_session::{CommandHandler, History};
+use kl1_host_journals::{Connecting, Naming, Outgoing};
+use kl1_pool::{Pool, PoolIds};
+use kl1_session::CommandHandler;
 use kl1_user_events::{Event, Reply};
 use std::cell::Cell;
-use std::snapshot::Snapshot;
 use std::sync::Wait;
 
-/// A pool with the share and the leave to write of one connection, and what was done for it.
+/// A pool with the leave to write of one connection, and what was done for it.
 #[derive(Drop)]
-pub struct HostHandler<'p, 't, W: Wait, R: Wait, K: PoolIds> {
-    pub rt: &'p W,
-    pub pool: &'p Pool<'t, R, K>,
-    pub share: &'p mut Share<K>,
-    pub host: Host<'p>,
-    pub outgoing: &'p Cell<Outgoing>,
-    pub history: History,
+pub struct HostHandler<'p, 't, W: Wait, R: Wait, K: PoolIds + Naming, C: Connecting> {
+    pub(crate) rt: &'p W,
+    pub(crate) pool: &'p Pool<'t, R, K>,
+    pub(crate) host: Host<'p, K>,
+    pub(crate) outgoing: &'p Cell<Outgoing<K, C>>,
+    pub(crate) exchange: Exchange<K, C>,
 }
 
 /// How many bytes of source a command loads; 0 if it is no load.
-fn source_bytes(command: &Command) -> usize {
+fn source_bytes(command: &Command) -> usize
+    ensures { result ≡ source_bytes (command_view command.now) }
+{
     match command {
         Command::Does(Event::Load { source }) => source.len(),
         _ => 0,
     }
 }
 
+/// The source that a command loads; `None` if it is no load.
+fn source_of(command: &Command) -> Option<&[u8]> {
+    match command {
+        Command::Does(Event::Load { source }) => Some(source.as_slice()),
+        _ => None,
+    }
+}
+
 /// Whether a command is a logout, which each account answers.
-fn is_logout(command: &Command) -> bool {
+fn is_logout(command: &Command) -> bool
+    ensures { result ≡ is_logout (command_view command.now) }
+{
     matches!(command, Command::Does(Event::Logout))
+}
+
+/// Whether a command is answered as if memory was refused, of an account that is stopped or isn't, and may load `left` bytes of sources.
+fn is_refused(command: &Command, is_stopped: bool, left: u64) -> bool
+    ensures { result ≡ is_refused (command_view command.now) is_stopped left }
+{
+    !is_logout(command) && (is_stopped || left < source_bytes(command) as u64)
 }
 
 /// Whether a module was loaded.
@@ -43,56 +65,127 @@ fn is_loaded(performed: &Performed) -> bool {
     matches!(performed, Performed::Whole(Reply::Loaded(_)))
 }
 
-impl<'p, 't, W: Wait, R: Wait, K: PoolIds> HostHandler<'p, 't, W, R, K> {
+impl<'p, 't, W: Wait, R: Wait, K: PoolIds + Naming, C: Connecting> HostHandler<'p, 't, W, R, K, C> {
     /// Whether a command is answered as if memory was refused: the account is stopped, or it has loaded what it may.
     fn is_refused(&self, account: usize, command: &Command) -> bool {
-        if is_logout(command) {
-            return false;
-        }
         let is_stopped = match self.host.keepers.get(account) {
             Some(keeper) => keeper.on_disk().is_stopped(),
             None => true,
         };
-        let is_over = match self.host.budgets.get(account) {
-            Some(budget) => !budget.allows(source_bytes(command)),
-            None => true,
-        };
-        is_stopped || is_over
-    }
-
-    /// Counts a source that was loaded.
-    fn count(&self, account: usize, bytes: usize, performed: &Performed) {
-        if is_loaded(performed)
-            && let Some(budget) = self.host.budgets.get(account)
+        let left = self.left(account, command);
+        if left < source_bytes(command) as u64
+            && let Some(sources) = self.host.sources.get(account)
         {
-            budget.spend(bytes);
+            sources.refuse();
+        }
+        is_refused(command, is_stopped, left)
+    }
+
+    /// How many bytes of sources an account may still load, without end if it has loaded just this one before.
+    fn left(&self, account: usize, command: &Command) -> u64 {
+        match self.host.budgets.get(account) {
+            Some(_) if self.is_known(account, command) => u64::MAX,
+            Some(budget) => budget.left(),
+            None => 0,
         }
     }
-}
 
-impl<'p, 't, W: Wait, R: Wait, K: PoolIds> CommandHandler for HostHandler<'p, 't, W, R, K> {
-    ghost accounts = { λ handler. K.accounts };
-
-    ghost done = { λ handler. done_in handler.history };
-
-    fn act(&mut self, account: usize, command: &Command) -> Performed {
-        if self.is_refused(account, command) {
-            let performed = Performed::Memory;
-            self.history
-                .add(Snapshot::of(&account), Snapshot::of(command), &performed);
-            return performed;
+    /// Whether a command loads a source that its account has loaded before.
+    fn is_known(&self, account: usize, command: &Command) -> bool {
+        match (source_of(command), self.host.sources.get(account)) {
+            (Some(source), Some(sources)) => sources.knows(self.rt, source),
+            _ => false,
         }
-        let answer = self.pool.act(self.rt, account, command, self.share);
-        // What is noted is what the answer says of itself, not what was asked for.
-        let (performed, done_to, done) = answer.into_parts();
-        note_told(self.rt, self.pool, self.host, self.outgoing, account);
-        self.count(account, source_bytes(command), &performed);
-        self.history.add(done_to, done, &performed);
+    }
+
+    /// Counts a source that was loaded, unless it was loaded before.
+    fn count(&self, account: usize, command: &Command, performed: &Performed) {
+        if is_loaded(performed)
+            && !self.is_known(account, command)
+            && let Some(source) = source_of(command)
+            && let Some(budget) = self.host.budgets.get(account)
+            && let Some(sources) = self.host.sources.get(account)
+        {
+            budget.spend(source.len());
+            sources.add(self.rt, source);
+        }
+    }
+
+    /// Takes in that a command was done.
+    fn take_in(&self, account: usize, command: &Command, performed: &Performed) {
+        note_done(self.host, account, command);
+        self.count(account, command, performed);
+    }
+
+    /// Does a command whose answer tells nothing that is to be on disk before.
+    fn act_at_once(&mut self, account: usize, command: &Command) -> Performed
+        requires within { account < K.accounts }
+        requires nothing { tells_nothing (command_view command.now) self.old.exchange.replies_wait ≡ true }
+        ensures { Adds account (command_view command.now) result self.old.exchange self.new.exchange }
+    {
+        let performed = self.exchange.act(self.rt, self.pool, account, command);
+        self.take_in(account, command, &performed);
+        // A session that is opened while the disk is full tells nothing of the account, so its reply waits for nothing: a reset may follow.
+        if !(is_of_sessions(command) && is_short(self.host, account)) {
+            note_told(self.rt, self.pool, self.host, self.outgoing, account);
+        }
+        performed
+    }
+
+    /// Does a command, and then lets the leave to write wait for what it did. If that is lost, nothing more can be told to the connection, and
+    /// the command isn't done.
+    fn act_noted(&mut self, account: usize, command: &Command) -> Performed
+        requires { account < K.accounts }
+        ensures { Adds account (command_view command.now) result self.old.exchange self.new.exchange }
+    {
+        let host = self.host;
+        let leave = take_leave(self.rt, host, self.outgoing, account);
+        if is_lost(&leave) {
+            return self.exchange.refuse(account, command);
+        }
+        let Some(keeper) = host.keepers.get(account) else {
+            self.outgoing.set(leave);
+            return self.exchange.refuse(account, command);
+        };
+        let (performed, leave) = self
+            .exchange
+            .act_noted(self.rt, self.pool, keeper, account, command, leave);
+        self.outgoing.set(leave);
+        self.take_in(account, command, &performed);
         performed
     }
 }
 
-impl<'p, 't, W: Wait, R: Wait, K: PoolIds> Performer for HostHandler<'p, 't, W, R, K> {
+impl<'p, 't, W: Wait, R: Wait, K: PoolIds + Naming, C: Connecting> CommandHandler
+    for HostHandler<'p, 't, W, R, K, C> {
+    ghost use Rattle.std.specs.Prelude.{Bool};
+    ghost use Rattle.kl1_pool_tickets.specs.Counts.{Counts};
+
+    ghost accounts = { λ handler. K.accounts };
+
+    ghost done = { λ handler. handler.exchange.history.done };
+
+    ghost Beside = { Counts × Bool };
+
+    ghost beside = { λ handler. (handler.exchange.history.begun, handler.exchange.replies_wait) };
+
+    fn act(&mut self, account: usize, command: &Command) -> Performed {
+        if self.is_refused(account, command) || has_no_room(self.rt, self.host, account, command) {
+            self.exchange.refuse(account, command)
+        } else if self.exchange.tells_nothing(command) {
+            self.act_at_once(account, command)
+        } else {
+            self.act_noted(account, command)
+        }
+    }
+}
+
+impl<'p, 't, W: Wait, R: Wait, K: PoolIds + Naming, C: Connecting> Performer
+    for HostHandler<'p, 't, W, R, K, C> {
+    ghost accounts = { K.accounts };
+
+    ghost done = { λ handler. handler.exchange.history.done };
+
     fn perform(&mut self, account: usize, command: &Command) -> Performed {
         if account < self.pool.accounts() {
             self.act(account, command)

@@ -2,25 +2,36 @@
 //! is told to clients is on disk.
 #![tactic(auto)]
 
+mod answers;
+mod board;
 mod budget;
 mod connection;
 mod connections;
+mod exchange;
+mod filling;
 mod front;
 mod handler;
+mod histories;
 mod host;
 mod linking;
 mod lobby;
 mod noting;
 mod overruns;
+mod place;
 mod restoring;
 mod running;
+mod sources;
 mod start_fault;
 mod starting;
 mod view;
+mod visit;
+mod visitors;
+mod watching;
 
 pub use budget::Budget;
 pub use connection::serve;
-pub use front::{Front, HostEvent, HostView, Performer};
+pub use exchange::Notice;
+pub use front::{Front, HostEvent, HostView, Performer, Sight};
 pub use handler::HostHandler;
 pub use host::{Host, Syncing};
 pub use kl1_host_journals::{Keeper, OpenFault, Outgoing};

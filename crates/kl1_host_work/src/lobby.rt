@@ -1,162 +1,157 @@
 // Who is connected, and shares for those who come.
 
+use crate::visit::Visit;
+use crate::visitors::Visitors;
 use kl1_pool::{PoolIds, Share};
 use std::alloc::{AllocError, Global};
-use std::net::{IpAddr, Shutdown, TcpStream};
+use std::net::SocketAddr;
 use std::sync::{Arc, Condvar, Mutex, Wait};
-use std::time::Duration;
+use std::time::{Clock, Duration};
 
-/// How many connections may be open at once from one address, and how long one may be silent. How many in all is how many shares there are
-/// for them.
+/// How many connections may be open at once from one address, and how long they last. How many in all is how many shares there are for them.
+/// Addresses of version 6 of one network, so with the same first 64 bits, count as one.
 #[derive(Clone, Copy)]
 pub struct Limits {
+    /// How many from one address.
     pub each: usize,
+    /// How many of them that have shown no key.
+    pub waiting_each: usize,
+    /// How long one may be silent.
     pub idle: Duration,
+    /// How long one may be open that has shown no key.
+    pub idle_login: Duration,
 }
 
-/// A connection that is open.
-#[derive(Drop)]
-struct Visitor {
-    number: u64,
-    address: IpAddr,
-    stream: Arc<TcpStream, Global>,
-}
+/// After how many milliseconds another connection is told to end for one that came in, if the first hasn't ended.
+const NEXT_GIVES_WAY_AFTER: u64 = 50;
 
-/// Shares that are free, and connections that are open.
-#[derive(Drop)]
-struct Visitors<K: PoolIds> {
-    free: Vec<Share<K>>,
-    open: Vec<Visitor>,
-    /// The number of the last connection.
-    last: u64,
-    is_closing: bool,
+/// After how many milliseconds one that waits for a place looks again whether somebody could give way.
+const LOOKED_AGAIN_AFTER: u64 = 500;
+
+/// What becomes of a connection that came in.
+#[derive(Clone, Copy)]
+pub(crate) enum Admission {
+    /// It is open, and has this place.
+    Open(usize),
+    /// Too many are open from its address.
+    TurnedAway,
+    /// The host is closing.
+    Closing,
+    /// There is no place for it yet: the connection from this address was told to end for it.
+    Awaits(SocketAddr),
+    /// There is no place for it yet, and no connection that could give way.
+    Waits,
 }
 
 /// Who is connected to a host, and the shares of a pool for those who come.
 #[derive(Drop)]
 pub(crate) struct Lobby<K: PoolIds> {
-    visitors: Mutex<Visitors<K>>,
+    visitors: Mutex<Visitors<Share<K>>>,
     changed: Condvar,
 }
 
 impl<K: PoolIds> Lobby<K> {
     /// A lobby in which as many may be as there are shares.
     pub(crate) fn new(alloc: Global, shares: Vec<Share<K>>) -> Result<Self, AllocError> {
-        let open = Vec::with_capacity(alloc, shares.len())?;
         Ok(Lobby {
-            visitors: Mutex::new(Visitors {
-                free: shares,
-                open,
-                last: 0,
-                is_closing: false,
-            }),
+            visitors: Mutex::new(Visitors::new(alloc, shares)?),
             changed: Condvar::new(),
         })
     }
 
-    /// Waits for a share; `None` if the host is closing.
-    pub(crate) fn share<W: Wait>(&self, rt: &W) -> Option<Share<K>> {
-        let mut guard = self
-            .changed
-            .wait_while(rt, self.visitors.lock(rt), |visitors| {
-                visitors.free.is_empty() && !visitors.is_closing
-            });
-        let visitors = &mut *guard;
-        if visitors.is_closing {
-            return None;
-        }
-        visitors.free.pop()
-    }
-
-    /// Gives a share back. There is room for each, so that no memory is asked for.
-    pub(crate) fn give_back<W: Wait>(&self, rt: &W, share: Share<K>) {
-        let mut guard = self.visitors.lock(rt);
-        let visitors = &mut *guard;
-        let _ = visitors.free.push(share);
-        drop(guard);
-        self.changed.notify_all();
-    }
-
-    /// The number of a connection that may be open; `None` if the host is closing, or if there are `each` from this address.
+    /// Lets a connection in, if a place is free for it; not if the host is closing, or if too many are open from its address. If no place is
+    /// free, the oldest connection is told to end that has shown no key.
     pub(crate) fn admit<W: Wait>(
         &self,
         rt: &W,
-        stream: &Arc<TcpStream, Global>,
-        address: IpAddr,
-        each: usize,
-    ) -> Option<u64> {
-        let Ok(stream) = Arc::try_clone(stream) else {
-            return None;
+        visit: &Arc<Visit, Global>,
+        address: SocketAddr,
+        limits: Limits,
+    ) -> Admission {
+        let Ok(visit) = Arc::try_clone(visit) else {
+            return Admission::TurnedAway;
         };
         let mut guard = self.visitors.lock(rt);
         let visitors = &mut *guard;
-        if visitors.is_closing || count_of(visitors.open.as_slice(), address) >= each {
-            return None;
-        }
-        let number = visitors.last.checked_add(1)?;
-        visitors.last = number;
-        let visitor = Visitor {
-            number,
-            address,
-            stream,
-        };
-        if visitors.open.push(visitor).is_err() {
-            return None;
-        }
-        Some(number)
+        visitors.admit(visit, address, limits)
     }
 
-    /// Notes that a connection has ended.
-    pub(crate) fn leave<W: Wait>(&self, rt: &W, number: u64) {
+    /// Waits until a place is free or the host is closing, for a short time at most: for one that was told to end, or until somebody has come
+    /// at another door who could give way.
+    pub(crate) fn wait_for_place<W: Wait + Clock>(&self, rt: &W, one_goes: bool) {
+        let pause = Duration::from_millis(if one_goes {
+            NEXT_GIVES_WAY_AFTER
+        } else {
+            LOOKED_AGAIN_AFTER
+        });
+        let (guard, _) = self
+            .changed
+            .wait_timeout_while(rt, self.visitors.lock(rt), pause, |visitors| {
+                visitors.are_full()
+            });
+        drop(guard);
+    }
+
+    /// Tells the oldest connection to end that has shown no key and came before the one of this place; answers its address.
+    pub(crate) fn make_room<W: Wait>(&self, rt: &W, place: usize) -> Option<SocketAddr> {
         let mut guard = self.visitors.lock(rt);
         let visitors = &mut *guard;
-        let found = visitors
-            .open
-            .iter()
-            .position(|visitor| visitor.number == number);
-        if let Some(place) = found {
-            let _ = visitors.open.swap_remove(place);
-        }
+        visitors.make_room(place)
+    }
+
+    /// Waits until a connection has ended that was told to, for a short time at most.
+    pub(crate) fn wait_for_leave<W: Wait + Clock>(&self, rt: &W) {
+        let pause = Duration::from_millis(NEXT_GIVES_WAY_AFTER);
+        let (guard, _) = self
+            .changed
+            .wait_timeout_while(rt, self.visitors.lock(rt), pause, |visitors| {
+                visitors.are_leaving()
+            });
+        drop(guard);
+    }
+
+    /// Lends the share of a connection that has this place.
+    pub(crate) fn lend<W: Wait>(&self, rt: &W, place: usize) -> Option<Share<K>> {
+        let mut guard = self.visitors.lock(rt);
+        let visitors = &mut *guard;
+        visitors.lend(place)
+    }
+
+    /// Notes that the connection of this place has ended, and takes its share back; `None` if it wasn't lent.
+    pub(crate) fn leave<W: Wait>(&self, rt: &W, place: usize, share: Option<Share<K>>) {
+        let mut guard = self.visitors.lock(rt);
+        let visitors = &mut *guard;
+        visitors.leave(place, share);
         drop(guard);
         self.changed.notify_all();
     }
 
     /// Waits until no connection is open.
     pub(crate) fn wait_until_empty<W: Wait>(&self, rt: &W) {
-        let guard = self
-            .changed
-            .wait_while(rt, self.visitors.lock(rt), |visitors| {
-                !visitors.open.is_empty()
-            });
+        let guard = self.changed.wait_while(
+            rt,
+            self.visitors.lock(rt),
+            |visitors| visitors.count() > 0,
+        );
         drop(guard);
     }
 
     /// Whether the host lets nobody in any more.
     pub(crate) fn is_closing<W: Wait>(&self, rt: &W) -> bool {
-        self.visitors.lock(rt).is_closing
+        self.visitors.lock(rt).is_closing()
     }
 
     /// How many connections are open.
     pub(crate) fn count<W: Wait>(&self, rt: &W) -> usize {
-        self.visitors.lock(rt).open.len()
+        self.visitors.lock(rt).count()
     }
 
     /// Lets nobody in from now on, and ends the connections that are open.
     pub(crate) fn close<W: Wait>(&self, rt: &W) {
         let mut guard = self.visitors.lock(rt);
         let visitors = &mut *guard;
-        visitors.is_closing = true;
-        for visitor in visitors.open.iter() {
-            let _ = visitor.stream.shutdown(Shutdown::Both);
-        }
+        visitors.close();
         drop(guard);
         self.changed.notify_all();
     }
-}
-
-/// How many connections are open from this address.
-fn count_of(open: &[Visitor], address: IpAddr) -> usize {
-    open.iter()
-        .filter(|visitor| visitor.address == address)
-        .count()
 }

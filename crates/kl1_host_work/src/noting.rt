@@ -1,91 +1,118 @@
 // What has come to an account's journal, noted under the account's lock.
 
-ghost use Rattle.std.specs.Prelude.{◌<◌, IfSome, slice_get};
+ghost use Rattle.std.specs.Prelude.{◌≡◌, ◌<◌, slice_get};
 ghost use Rattle.kl1_pool.specs.Showing.{IsSeenOfSome};
-ghost use Rattle.kl1_host_journals.specs.Outgoings.{IsNotedBySome};
+ghost use Rattle.kl1_host_journals.specs.Outgoings.{IsNotedFor};
+ghost use Rattle.kl1_host_work.specs.Noted.{is_lost, IsNoted};
 
 use crate::host::Host;
-use kl1_host_journals::{Keeper, Outgoing};
+use kl1_host_journals::{Connecting, Keeper, Naming, Outgoing};
 use kl1_journal_entries::Journal;
+use kl1_journal_stamps::Stamp;
 use kl1_pool::{JournalReader, Pool, PoolIds};
 use std::cell::Cell;
+use std::marker::Brand;
 use std::mem;
 use std::sync::Wait;
 
-/// Notes a journal that it is shown, and lets the leave to write of a connection wait for it.
+/// Notes a journal of an account that it is shown, and lets the leave to write of a connection wait for it.
 #[derive(Drop)]
-struct Noting<'k, W: Wait> {
+struct Noting<'k, W: Wait, J: Naming, C: Connecting> {
     rt: &'k W,
-    keeper: &'k Keeper,
-    number: usize,
-    outgoing: Outgoing,
+    keeper: &'k Keeper<J>,
+    account: usize,
+    outgoing: Outgoing<J, C>,
 }
 
-impl<'k, W: Wait> JournalReader for Noting<'k, W> {
-    ghost use Rattle.kl1_host_journals.specs.Outgoings.{IsNotedBySome};
+impl<'k, W: Wait, J: Naming, C: Connecting> JournalReader for Noting<'k, W, J, C> {
+    ghost use Rattle.std.specs.Prelude.{◌≡◌, Some, slice_get};
+    ghost use Rattle.kl1_host_journals.specs.Outgoings.{IsNotedFor};
 
-    ghost reads = { λ before after journal ended. IsNotedBySome journal ended after.outgoing };
+    ghost takes = { λ n s. slice_get J.histories n.account ≡ Some s.history };
 
-    fn read(&mut self, journal: &Journal, ended: u64) {
+    ghost reads = { λ before after journal ended. IsNotedFor journal ended after.outgoing };
+
+    fn read(&mut self, journal: &Journal, ended: u64, stamp: &Stamp) {
         let outgoing = mem::replace(&mut self.outgoing, Outgoing::Lost);
         self.outgoing = self
             .keeper
-            .note_for(self.rt, journal, ended, self.number, outgoing);
+            .note_for(self.rt, self.account, journal, ended, stamp, outgoing);
     }
 }
 
-/// Notes what has come to the journal of an account, and lets the leave to write of a connection wait until it is on disk. `None` if another
-/// account was found, which never is so.
-pub(crate) fn note_for<'t, W: Wait, R: Wait, K: PoolIds>(
+/// Notes what has come to the journal of an account, and lets the leave to write of a connection wait until it is on disk. `Lost` if memory
+/// was refused, or if another account was found, which never is so.
+pub(crate) fn note_for<'t, W: Wait, R: Wait, K: PoolIds + Naming, C: Connecting>(
     rt: &W,
     pool: &Pool<'t, R, K>,
-    keeper: &Keeper,
+    keeper: &Keeper<K>,
     account: usize,
-    outgoing: Outgoing,
-) -> Option<Outgoing>
+    outgoing: Outgoing<K, C>,
+) -> Outgoing<K, C>
     requires { account < K.accounts }
-    ensures { IfSome result (λ o. IsSeenOfSome K.rules (slice_get K.names account) (λ j ended. IsNotedBySome j ended o)) }
+    ensures { IsNoted K.rules (slice_get K.names account) account result }
 {
     let mut noting = Noting {
         rt,
         keeper,
-        number: account,
+        account,
         outgoing,
     };
     let is_seen = pool.look(rt, account, &mut noting);
     let Noting { outgoing, .. } = noting;
-    if is_seen { Some(outgoing) } else { None }
+    let Outgoing::Waits(held) = outgoing else {
+        return Outgoing::Lost;
+    };
+    if is_seen && held.account() as usize == account {
+        Outgoing::Waits(held)
+    } else {
+        Outgoing::Lost
+    }
 }
 
 /// Notes what has come to the journal of an account.
-pub(crate) fn note<'t, W: Wait, R: Wait, K: PoolIds>(
+pub(crate) fn note<'t, W: Wait, R: Wait, K: PoolIds + Naming>(
     rt: &W,
     pool: &Pool<'t, R, K>,
-    keeper: &Keeper,
+    keeper: &Keeper<K>,
     account: usize,
 )
     requires { account < K.accounts }
 {
-    let _ = note_for(rt, pool, keeper, account, Outgoing::Lost);
+    let _ = note_for::<W, R, K, Brand>(rt, pool, keeper, account, Outgoing::Lost);
 }
 
-/// Waits until all is on disk that was told of another account.
-fn leave_others<W: Wait>(rt: &W, host: Host<'_>, outgoing: &Cell<Outgoing>, account: usize) {
+/// Whether a leave is lost.
+pub(crate) fn is_lost<J: Naming, C: Connecting>(outgoing: &Outgoing<J, C>) -> bool
+    ensures { result ≡ is_lost outgoing.now }
+{
+    match outgoing {
+        Outgoing::Free(_) | Outgoing::Waits(_) => false,
+        Outgoing::Lost => true,
+    }
+}
+
+/// Takes the leave to write of a connection, which is lost there then, for a command to an account: what was told of another is waited for.
+pub(crate) fn take_leave<W: Wait, J: Naming, C: Connecting>(
+    rt: &W,
+    host: Host<'_, J>,
+    outgoing: &Cell<Outgoing<J, C>>,
+    account: usize,
+) -> Outgoing<J, C> {
     let before = outgoing.replace(Outgoing::Lost);
-    let after = if before.is_of_another(account) {
+    if before.is_of_another(account) {
         before.freed(rt, host.keepers)
     } else {
         before
-    };
-    outgoing.set(after);
+    }
 }
 
 /// Notes an account of which a connection is told something, if replies wait for the disk, or if the scribe asks for it.
-pub(crate) fn note_told<'t, W: Wait, R: Wait, K: PoolIds>(
+pub(crate) fn note_told<'t, W: Wait, R: Wait, K: PoolIds + Naming, C: Connecting>(
     rt: &W,
     pool: &Pool<'t, R, K>,
-    host: Host<'_>,
-    outgoing: &Cell<Outgoing>,
+    host: Host<'_, K>,
+    outgoing: &Cell<Outgoing<K, C>>,
     account: usize,
 )
     requires { account < K.accounts }
@@ -94,10 +121,8 @@ pub(crate) fn note_told<'t, W: Wait, R: Wait, K: PoolIds>(
         return;
     };
     if host.syncing.replies_wait {
-        leave_others(rt, host, outgoing, account);
-        let before = outgoing.replace(Outgoing::Lost);
-        let noted = note_for(rt, pool, keeper, account, before);
-        outgoing.set(noted.unwrap_or(Outgoing::Lost));
+        let before = take_leave(rt, host, outgoing, account);
+        outgoing.set(note_for(rt, pool, keeper, account, before));
     } else if keeper.is_called() {
         note(rt, pool, keeper, account);
     }

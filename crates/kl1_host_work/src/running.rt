@@ -1,30 +1,31 @@
 // The threads of a host.
 
+ghost use Rattle.std.specs.Prelude.{◌≡◌};
 ghost use Rattle.kl1_host_work.specs.Fronts.{AreAccountsOf};
 
 use crate::connections::{Desk, Peers, serve_each};
+use crate::exchange::Exchange;
+use crate::filling::close_rooms;
 use crate::front::{Front, HostEvent};
 use crate::handler::HostHandler;
 use crate::host::Host;
 use crate::noting::note;
-use crate::overruns::change_of;
 use crate::start_fault::StartFault;
 use crate::view::View;
-use kl1_host_journals::{Bell, FaultTeller, Keeper, Outgoing, Scribe};
+use crate::watching::{tell_waits, watch};
+use kl1_host_journals::{
+    Bell, Connecting, FaultTeller, FreshConnection, Keeper, KeptFile, Naming, Outgoing, Scribe,
+};
 use kl1_log::{Disk, LogError, LogFile};
-use kl1_model::limits::MOST_ACCOUNTS;
 use kl1_pool::{Gate, Pool, PoolIds, Share, worker};
-use kl1_session::History;
 use std::alloc::{AllocError, Global};
 use std::cell::Cell;
+use std::marker::Brand;
 use std::net::{Net, TcpListener, TcpStream};
 use std::sync::Wait;
 use std::thread;
-use std::thread::Threads;
+use std::thread::{JoinHandle, Threads};
 use std::time::{Clock, Duration};
-
-/// After how many milliseconds accounts are looked at again at the latest, for the bytes that they take.
-const LOOKED_AT_AFTER: u64 = 1_000;
 
 /// The gate of the host's workers, which holds nobody.
 #[derive(Clone, Copy)]
@@ -49,7 +50,7 @@ impl<F: Front> FaultTeller for Telling<'_, F> {
 }
 
 /// Goes on with accounts until the pool is closed, and gives the share back.
-fn work<'t, W: Wait, R: Wait, K: PoolIds>(
+fn work<'t, W: Wait, R: Wait, K: PoolIds + Naming>(
     rt: &W,
     pool: &Pool<'t, R, K>,
     number: u64,
@@ -61,52 +62,15 @@ fn work<'t, W: Wait, R: Wait, K: PoolIds>(
 }
 
 /// Notes what has come to each account.
-fn note_all<'t, W: Wait, R: Wait, K: PoolIds>(rt: &W, pool: &Pool<'t, R, K>, host: Host<'_>) {
+fn note_all<'t, W: Wait, R: Wait, K: PoolIds + Naming>(
+    rt: &W,
+    pool: &Pool<'t, R, K>,
+    host: Host<'_, K>,
+) {
     for (account, keeper) in host.keepers.iter().enumerate() {
         if account < pool.accounts() {
             note(rt, pool, keeper, account);
         }
-    }
-}
-
-/// Tells the front which accounts have come to take more bytes than they may since they were looked at last, and which no longer do.
-fn tell_changes<'t, F: Front, W: Wait, R: Wait, K: PoolIds>(
-    rt: &W,
-    desk: &Desk<'_, 't, F, R, K>,
-    over: &mut [bool],
-) {
-    let most = desk.host.memory_each;
-    for account in 0..desk.pool.accounts() {
-        if account < over.len()
-            && let Some(bytes) = desk.pool.bytes(rt, account)
-            && let Some(event) = change_of(over, account, bytes, most)
-        {
-            desk.front.tell(event);
-        }
-    }
-}
-
-/// Notes after each period what workers have done to accounts that nobody commands, and tells which accounts have come to take more bytes
-/// than they may, until it is to end. It waits for an account that is in the midst of a reduction, and nobody waits for it.
-fn watch<'t, F: Front, W: Wait + Clock, R: Wait, K: PoolIds>(
-    rt: &W,
-    desk: &Desk<'_, 't, F, R, K>,
-    until: &Bell,
-) {
-    let mut over = [false; MOST_ACCOUNTS];
-    let period = desk.host.syncing.period;
-    let pause = period.min(Duration::from_millis(LOOKED_AT_AFTER));
-    let mut left = period;
-    for _ in rt.forever() {
-        if until.wait(rt, pause) {
-            return;
-        }
-        left = left.saturating_sub(pause);
-        if left.is_zero() {
-            note_all(rt, desk.pool, desk.host);
-            left = period;
-        }
-        tell_changes(rt, desk, &mut over);
     }
 }
 
@@ -119,60 +83,111 @@ pub struct Listeners<'l> {
     pub browsers: Option<&'l TcpListener>,
 }
 
+/// How often it is tried to wake an accept that waits: while too many files are open there is none for a connection, and the connections that
+/// end give theirs back.
+const WAKING_TRIES: u32 = 100;
+/// How long is waited before it is tried again, in milliseconds.
+const WAKING_PAUSE_MILLISECONDS: u64 = 100;
+
 /// Wakes an accept that waits, by a connection.
-fn wake<N: Net<Listener = TcpListener, Stream = TcpStream>>(rt: &N, listener: &TcpListener) {
-    if let Ok(address) = listener.local_addr() {
-        let _ = TcpStream::connect_timeout(rt, &address, Duration::from_secs(1));
+fn wake<N: Net<Listener = TcpListener, Stream = TcpStream> + Clock>(
+    rt: &N,
+    listener: &TcpListener,
+) {
+    let Ok(address) = listener.local_addr() else {
+        return;
+    };
+    for _ in 0..WAKING_TRIES {
+        if TcpStream::connect_timeout(rt, &address, Duration::from_secs(1)).is_ok() {
+            return;
+        }
+        thread::sleep(rt, Duration::from_millis(WAKING_PAUSE_MILLISECONDS));
     }
 }
 
-/// Lets the program attend to a host if all its threads are there, with a share for the commands that it does.
-fn attend<'p, 't, F: Front, N: Wait, R: Wait, K: PoolIds>(
+/// `attend` as a connection that no type names yet.
+fn attend_as<'p, 't, F: Front, N: Wait + Clock, R: Wait, K, C: Connecting>(
     rt: &'p N,
     desk: &'p Desk<'p, 't, F, R, K>,
-    all_are_there: bool,
     share: Share<K>,
-) {
-    if !all_are_there {
-        return;
-    }
-    let outgoing = Cell::new(Outgoing::new());
-    let mut share = share;
+    connection: FreshConnection,
+)
+where
+    K: PoolIds + Naming,
+    requires accounts { AreAccountsOf (F.names desk.now.front.now) K.names K.accounts }
+    requires connection { connection.pen.book ≡ C.connection }
+{
+    let outgoing = Cell::new(Outgoing::<K, C>::new(connection));
     let mut performer = HostHandler {
         rt,
         pool: desk.pool,
-        share: &mut share,
         host: desk.host,
         outgoing: &outgoing,
-        history: History::new(),
+        exchange: Exchange::new(share, desk.host.syncing.replies_wait),
     };
-    let view = View {
+    let view = View::<F, N, R, K, C> {
         rt,
         desk,
         outgoing: None,
+        visit: None,
     };
     desk.front.attend(&mut performer, &view);
 }
 
+/// Lets the program attend to a host if all its threads are there, with a share for the commands that it does.
+fn attend<'p, 't, F: Front, N: Wait + Clock, R: Wait, K: PoolIds + Naming>(
+    rt: &'p N,
+    desk: &'p Desk<'p, 't, F, R, K>,
+    all_are_there: bool,
+    share: Share<K>,
+)
+    requires { AreAccountsOf (F.names desk.now.front.now) K.names K.accounts }
+{
+    if all_are_there {
+        let connection = FreshConnection::new();
+        attend_as::<F, N, R, K, Brand>(rt, desk, share, connection);
+    }
+}
+
 /// Lets nobody in any more, and ends the connections that are open.
-fn close_doors<'t, F: Front, N, R: Wait, K: PoolIds>(
+fn close_doors<'t, F: Front, N, R: Wait, K: PoolIds + Naming>(
     rt: &N,
     desk: &Desk<'_, 't, F, R, K>,
     listeners: Listeners<'_>,
 )
 where
-    N: Net<Listener = TcpListener, Stream = TcpStream> + Wait,
+    N: Net<Listener = TcpListener, Stream = TcpStream> + Wait + Clock,
 {
     desk.lobby.close(rt);
+    // Who waits for the disk isn't to wait for room on it.
+    close_rooms(desk.host);
     wake(rt, listeners.clients);
     if let Some(browsers) = listeners.browsers {
         wake(rt, browsers);
     }
 }
 
-/// Runs a host until its program has attended to it: workers, connections, and who notes what workers do. When it returns, all of them have
+/// Ends the connections of a host, and then its workers; a reduction that is going on is waited for.
+fn wind_down<'t, F: Front, N, R: Wait, K: PoolIds + Naming>(
+    rt: &N,
+    desk: &Desk<'_, 't, F, R, K>,
+    listeners: Listeners<'_>,
+    workers: Vec<JoinHandle<()>>,
+)
+where
+    N: Net<Listener = TcpListener, Stream = TcpStream> + Threads + Wait + Clock,
+{
+    close_doors(rt, desk, listeners);
+    desk.lobby.wait_until_empty(rt);
+    desk.pool.close();
+    for worker in workers {
+        worker.join(rt);
+    }
+}
+
+/// Runs a host until its program has attended to it: workers, connections, and who looks at each account. When it returns, all of them have
 /// ended. Answers whether all threads could be made; the program attends to no other host.
-fn run_accounts<'t, F: Front + Sync, R, K: PoolIds + Send + Sync>(
+fn run_accounts<'t, F: Front + Sync, R, K: PoolIds + Naming + Send + Sync>(
     rt: &R,
     listeners: Listeners<'_>,
     desk: &Desk<'_, 't, F, R, K>,
@@ -184,29 +199,41 @@ where
     F::Entrance: Send,
     requires { AreAccountsOf (F.names desk.now.front.now) K.names K.accounts }
 {
-    let until = Bell::new();
-    let until = &until;
+    let over = Bell::new();
+    let over = &over;
+    // Without room for their handles workers aren't waited for before the scope ends.
+    let handles = Vec::with_capacity(desk.alloc, workers.len());
     thread::scope(
         thread::scope_env(),
         rt,
         move |scope| -> bool
             requires { AreAccountsOf (F.names desk.now.front.now) K.names K.accounts }
         {
+            let Ok(handles) = handles else {
+                return false;
+            };
+            let mut handles = handles;
             let mut number = 0u64;
             for share in workers {
                 if let Ok(handle) = scope.spawn(move || drop(work(rt, desk.pool, number, share))) {
-                    drop(handle);
+                    let _ = handles.push(handle);
                 }
                 number = number.saturating_add(1);
             }
-            let noting = scope.spawn(move || watch(rt, desk, until));
+            let mut all_are_there = true;
+            for account in 0..desk.pool.accounts() {
+                if let Some(outlook) = desk.board.outlook(account) {
+                    let watching = scope.spawn(move || watch(rt, desk, account, outlook));
+                    all_are_there = all_are_there && watching.is_ok();
+                }
+            }
             let clients = listeners.clients;
             let accepting = scope.spawn(
                 move ||
                     requires { AreAccountsOf (F.names desk.now.front.now) K.names K.accounts }
                 { serve_each(rt, clients, Peers::Clients, desk) },
             );
-            let mut all_are_there = noting.is_ok() && accepting.is_ok();
+            all_are_there = all_are_there && accepting.is_ok();
             if let Some(browsers) = listeners.browsers {
                 let showing = scope.spawn(
                     move ||
@@ -216,21 +243,22 @@ where
                 all_are_there = all_are_there && showing.is_ok();
             }
             attend(&*rt, &*desk, all_are_there, attending);
-            close_doors(rt, desk, listeners);
-            desk.lobby.wait_until_empty(rt);
-            desk.pool.close();
-            until.end(rt);
+            // Without a thread for it nobody is told for whom the host waits.
+            let _ = scope.spawn(move || tell_waits(rt, desk, over));
+            wind_down(rt, desk, listeners, handles);
+            over.end(rt);
+            desk.board.close(rt);
             all_are_there
         },
     )
 }
 
 /// The scribes of accounts with these keepers and files, in order.
-fn scribes_of<D: Disk + Drop>(
+fn scribes_of<D: Disk + Drop, J: Naming>(
     alloc: Global,
-    keepers: &[Keeper],
-    files: Vec<LogFile<D>>,
-) -> Result<Vec<Scribe<'_, D>>, AllocError> {
+    keepers: &[Keeper<J>],
+    files: Vec<KeptFile<D, J>>,
+) -> Result<Vec<Scribe<'_, D, J>>, AllocError> {
     let mut scribes = Vec::with_capacity(alloc, files.len())?;
     for (account, (keeper, file)) in keepers.iter().zip(files).enumerate() {
         scribes.push(Scribe::new(account, keeper, file))?;
@@ -239,28 +267,29 @@ fn scribes_of<D: Disk + Drop>(
 }
 
 /// Writes for an account until its bell says that it is to end, and gives the file back.
-fn write_on<D: Disk + Drop, W: Wait + Clock, T: FaultTeller>(
+fn write_on<D: Disk + Drop, J: Naming, W: Wait + Clock, T: FaultTeller>(
     rt: &W,
-    scribe: Scribe<'_, D>,
+    scribe: Scribe<'_, D, J>,
     period: Duration,
     faults: &T,
 ) -> LogFile<D> {
     let mut scribe = scribe;
     scribe.work(rt, period, faults);
-    scribe.into_file()
+    scribe.into_file().into_file()
 }
 
 /// Lets each scribe write in a thread of its own while `run` runs, which is told whether all of these could be made, and which ends their
 /// bells. Answers the files, or that some thread couldn't be made.
-fn write_while<D: Disk + Drop + Send, R, T: FaultTeller + Sync, G: FnOnce(bool) -> bool>(
+fn write_while<D: Disk + Drop + Send, J, R, T: FaultTeller + Sync, G: FnOnce(bool) -> bool>(
     rt: &R,
     alloc: Global,
-    scribes: Vec<Scribe<'_, D>>,
+    scribes: Vec<Scribe<'_, D, J>>,
     period: Duration,
     faults: &T,
     run: G,
 ) -> Result<Vec<LogFile<D>>, StartFault>
 where
+    J: Naming + Send + Sync,
     R: Threads + Wait + Clock + Sync,
     requires { (there : _) → G.pre run there }
 {
@@ -299,7 +328,7 @@ where
 
 /// Runs a host until its program has attended to it, if all scribes are there. When all else has ended, what is left is noted, and the
 /// scribes are told to write it and end. Answers whether all threads could be made.
-fn run_noted<'t, F: Front + Sync, R, K: PoolIds + Send + Sync>(
+fn run_noted<'t, F: Front + Sync, R, K: PoolIds + Naming + Send + Sync>(
     rt: &R,
     listeners: Listeners<'_>,
     desk: &Desk<'_, 't, F, R, K>,
@@ -322,13 +351,19 @@ where
 
 /// Runs a host until its program has attended to it, with a scribe for each account in a thread of its own: replies that wait for the disk
 /// need them as long as a connection is open. Answers the files.
-pub(crate) fn run_threads<'t, F: Front + Sync, D: Disk + Drop + Send, R, K: PoolIds + Send + Sync>(
+pub(crate) fn run_threads<
+    't,
+    F: Front + Sync,
+    D: Disk + Drop + Send,
+    R,
+    K: PoolIds + Naming + Send + Sync,
+>(
     rt: &R,
     listeners: Listeners<'_>,
     desk: &Desk<'_, 't, F, R, K>,
     workers: Vec<Share<K>>,
     attending: Share<K>,
-    files: Vec<LogFile<D>>,
+    files: Vec<KeptFile<D, K>>,
 ) -> Result<Vec<LogFile<D>>, StartFault>
 where
     R: Net<Listener = TcpListener, Stream = TcpStream> + Threads + Wait + Clock + Sync,

@@ -1,23 +1,39 @@
 // A host as its program sees it.
 
+ghost use Rattle.std.specs.Prelude.{◌<◌};
+
 use crate::connections::Desk;
-use crate::front::{Front, HostView};
+use crate::front::{Front, HostView, Sight};
 use crate::noting::note_told;
-use kl1_host_journals::Outgoing;
+use crate::visit::{Visit, now_of};
+use kl1_host_journals::{Connecting, Naming, Outgoing};
 use kl1_journal_entries::Journal;
+use kl1_journal_stamps::Stamp;
 use kl1_pool::{BookTotals, JournalReader, PoolIds};
 use kl1_user_events::{Extent, GoalNo, GoalView, Presence, ShoenNo, ShoenView, Usage};
 use std::alloc::AllocError;
 use std::cell::Cell;
 use std::sync::Wait;
+use std::time::Clock;
 
 /// A host as its program sees it.
 #[derive(Drop)]
-pub(crate) struct View<'v, 'd, 't, F: Front, N: Wait, R: Wait, K: PoolIds> {
+pub(crate) struct View<
+    'v,
+    'd,
+    't,
+    F: Front,
+    N: Wait + Clock,
+    R: Wait,
+    K: PoolIds + Naming,
+    C: Connecting,
+> {
     pub(crate) rt: &'v N,
     pub(crate) desk: &'v Desk<'d, 't, F, R, K>,
     /// The leave to write of the connection that is told what is seen; `None` if no connection is.
-    pub(crate) outgoing: Option<&'v Cell<Outgoing>>,
+    pub(crate) outgoing: Option<&'v Cell<Outgoing<K, C>>>,
+    /// That connection.
+    pub(crate) visit: Option<&'v Visit>,
 }
 
 /// Reads how many sessions are open.
@@ -27,14 +43,41 @@ struct SessionsReader {
 }
 
 impl JournalReader for SessionsReader {
+    ghost takes = { λ reader stamp. Unit {0} };
+
     ghost reads = { λ before after journal ended. Unit {0} };
 
-    fn read(&mut self, journal: &Journal, _ended: u64) {
+    fn read(&mut self, journal: &Journal, _ended: u64, _stamp: &Stamp) {
         self.sessions = journal.sessions();
     }
 }
 
-impl<F: Front, N: Wait, R: Wait, K: PoolIds> View<'_, '_, '_, F, N, R, K> {
+/// How many sessions of an account are open; `None` if another account was found, which never is so.
+pub(crate) fn sessions_of<'t, F: Front, W: Wait, R: Wait, K: PoolIds + Naming>(
+    rt: &W,
+    desk: &Desk<'_, 't, F, R, K>,
+    account: usize,
+) -> Option<u64>
+    requires { account < K.accounts }
+{
+    let mut reader = SessionsReader { sessions: 0 };
+    if desk.pool.look(rt, account, &mut reader) {
+        Some(reader.sessions)
+    } else {
+        None
+    }
+}
+
+impl<F: Front, N: Wait + Clock, R: Wait, K: PoolIds + Naming, C: Connecting> View<
+    '_,
+    '_,
+    '_,
+    F,
+    N,
+    R,
+    K,
+    C,
+> {
     /// Lets the connection wait until what was seen of an account is on disk.
     fn note(&self, account: usize) {
         if let Some(outgoing) = self.outgoing
@@ -45,7 +88,21 @@ impl<F: Front, N: Wait, R: Wait, K: PoolIds> View<'_, '_, '_, F, N, R, K> {
     }
 }
 
-impl<F: Front, N: Wait, R: Wait, K: PoolIds> HostView for View<'_, '_, '_, F, N, R, K> {
+impl<F: Front, N: Wait + Clock, R: Wait, K: PoolIds + Naming, C: Connecting> HostView
+    for View<'_, '_, '_, F, N, R, K, C> {
+    fn let_in(&self) {
+        if let Some(visit) = self.visit {
+            visit.let_in();
+        }
+    }
+
+    fn begin_answer(&self, account: usize) -> bool {
+        match self.visit {
+            Some(visit) => visit.begin_answer(self.rt, self.desk.board.answers(), account),
+            None => true,
+        }
+    }
+
     fn is_stopped(&self, account: usize) -> bool {
         let desk = self.desk;
         let keepers = desk.host.keepers;
@@ -59,15 +116,39 @@ impl<F: Front, N: Wait, R: Wait, K: PoolIds> HostView for View<'_, '_, '_, F, N,
         self.desk.lobby.count(self.rt)
     }
 
-    fn sessions(&self, account: usize) -> Result<u64, AllocError> {
-        if account >= self.desk.pool.accounts() {
-            return Err(AllocError);
+    fn ask_all(&self) {
+        self.desk.board.ask_all(self.rt);
+    }
+
+    fn sight(&self, account: usize) -> (Option<Sight>, u64) {
+        let (sight, _) = self.desk.board.sight(self.rt, account);
+        let age = match sight {
+            Some(sight) => now_of(self.rt).saturating_sub(sight.at).as_secs(),
+            None => 0,
+        };
+        (sight, age)
+    }
+
+    fn is_busy(&self, account: usize) -> bool {
+        let (_, is_new) = self.desk.board.sight(self.rt, account);
+        !is_new
+    }
+
+    fn codes_left(&self, account: usize) -> u64 {
+        let desk = self.desk;
+        let budgets = desk.host.budgets;
+        match budgets.get(account) {
+            Some(budget) => budget.left(),
+            None => 0,
         }
-        let mut reader = SessionsReader { sessions: 0 };
-        if self.desk.pool.look(self.rt, account, &mut reader) {
-            Ok(reader.sessions)
-        } else {
-            Err(AllocError)
+    }
+
+    fn is_out_of_codes(&self, account: usize) -> bool {
+        let desk = self.desk;
+        let sources = desk.host.sources;
+        match sources.get(account) {
+            Some(sources) => sources.was_refused(),
+            None => false,
         }
     }
 

@@ -1,5 +1,5 @@
 -- What a crash leaves while a file is changed.
-use Rattle.std.proofs.Common.{◌≡◌, ℕ, List, []}
+use Rattle.std.proofs.Common.{ℕ, []}
 use Rattle.std.specs.Prelude.{Some, None, Vec}
 use Rattle.std.specs.declared.alloc.Global.{Global}
 use Rattle.kl1_sums.specs.Sums.{summed_text}

@@ -2,7 +2,6 @@ pub mod LinesCut
 pub mod EntriesMore
 pub mod Fronts
 pub mod DeedsDone
-pub mod Growing
 pub mod Moments
 pub mod Renaming
 pub mod Restoring
@@ -12,4 +11,5 @@ pub mod Batching
 pub mod Faults
 pub mod Courses
 pub mod Waits
+pub mod LinesWhole
 pub mod LastSums

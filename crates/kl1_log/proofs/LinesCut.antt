@@ -5,7 +5,6 @@ use Rattle.std.specs.List.{list_all}
 use Rattle.std.proofs.Math.Seq.{take-append-add}
 use Rattle.std.proofs.lemmas.Bool.{and_parts, and_from, cases_lt, eqb-true}
 use Rattle.std.proofs.lemmas.List.{append-nil, take-append-le, length-append}
-use Rattle.std.proofs.lemmas.List.Folds.{list_all-append}
 use Rattle.std.proofs.lemmas.Option.{none-some}
 use Rattle.kl1_model_server.specs.Command.{written_line, written_lines}
 use Rattle.kl1_model_server.specs.Journal.{Journal}
@@ -16,7 +15,7 @@ use Rattle.kl1_sums.specs.Sums.{plain_text}
 use Rattle.kl1_sums.proofs.TextsOfLines.{lines_then}
 use Rattle.kl1_sums.proofs.SumTexts.{plain_read}
 use Rattle.kl1_log.specs.Deeds.{file_in}
-use Rattle.kl1_log.specs.Cuts.{whole_lines, whole_text, recovered}
+use Rattle.kl1_log.specs.Cuts.{whole_lines, recovered}
 
 -- the front of a line has no line feed either
 front_unbroken : (n : ℕ) (line : List ℕ) → is_unbroken line ≡ true → is_unbroken (take n line) ≡ true

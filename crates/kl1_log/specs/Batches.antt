@@ -11,6 +11,11 @@ abbrev pub text_after : List ℕ → Change → List ℕ
 text_after text (Appends bytes) = text ++ summed_text (last_sum text) bytes.items
 text_after text (Begins bytes) = summed_text [] bytes.items
 
+-- the lines that a file gets, without their sums
+abbrev pub bytes_of : Change → List ℕ
+bytes_of (Appends bytes) = bytes.items
+bytes_of (Begins bytes) = bytes.items
+
 -- a change that puts these bytes after its own
 abbrev pub IsExtended : Change → List ℕ → Change → Type 0
 IsExtended (Appends old) bytes (Appends new) = new.items ≡ old.items ++ bytes

@@ -40,3 +40,11 @@ IsFailed (Err (Failed error)) = ⊤
 IsFailed (Err Stopped) = ⊥
 IsFailed (Err NotNext) = ⊥
 IsFailed (Err Memory) = ⊥
+
+-- no call of the file was made that changes it
+abbrev pub IsUntouched : {T : Type 0} → Result T LogError → Type 0
+IsUntouched (Ok t) = ⊥
+IsUntouched (Err (Failed error)) = ⊥
+IsUntouched (Err Stopped) = ⊤
+IsUntouched (Err NotNext) = ⊤
+IsUntouched (Err Memory) = ⊤

@@ -8,6 +8,7 @@ use Rattle.kl1_log.specs.Batches.{text_after}
 use Rattle.kl1_log.specs.declared.batch.Batch.{Batch}
 use Rattle.kl1_log.specs.declared.change.Change.{Change}
 use Rattle.kl1_log.specs.declared.change.Change.TheVariants.{Appends, Begins}
+use Rattle.kl1_log.specs.declared.mark.Mark.{Mark}
 use Rattle.kl1_log.specs.declared.waiting.Waiting.{Waiting}
 
 -- the account that it is for
@@ -21,6 +22,14 @@ noted_of w = w.noted
 -- how many of them were taken
 abbrev pub taken_of : Waiting → ℕ
 taken_of w = w.taken
+
+-- up to where the journal was put into its file
+abbrev pub mark_of : Waiting → Mark
+mark_of w = w.mark
+
+-- what the file is to get
+abbrev pub change_of : Waiting → Change
+change_of w = w.change
 
 -- a change is of whole lines, and lines are put after others only if each of those has its sum
 abbrev pub Fits : List ℕ → Change → Type 0

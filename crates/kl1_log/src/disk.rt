@@ -3,8 +3,10 @@
 ghost use Rattle.std.specs.Prelude.{◌≡◌, ◌≤◌, Bool, is_ok, length, None, IfOk, OnOk, OnErr, IsTrue};
 ghost use Rattle.kl1_log.specs.Files.{Known, IfKnown, content, HasNext, Does, MayDo, Cuts, Appended, AppendedInPart, Synced, NextWritten, NextTouched, NextSynced, Renamed, FolderSynced, Loosened};
 
+use crate::room::Room;
 use std::alloc::Global;
 use std::io;
+use std::sync::Arc;
 
 /// A file by its name, and a new file beside it that may take its name. After a call that failed nothing more may be asked of it: what a
 /// sync that failed has left on the disk isn't known, and no later sync tells it.
@@ -18,6 +20,17 @@ pub trait Disk {
     /// Whether no call has failed.
     fn may_be_used(&self) -> bool
         ensures { result ≡ is_usable self.now };
+
+    /// How it stands with the room for it; `None` if that is never short.
+    fn room(&self) -> Option<Arc<Room, Global>> {
+        None
+    }
+
+    /// Sees that there is room for a new file beside it, if there is any; it writes nothing that counts.
+    fn make_ready(&mut self)
+        ensures known { known self.new ≡ known self.old }
+        ensures usable { is_usable self.new ≡ is_usable self.old }
+    {}
 
     /// All the bytes.
     fn read(&mut self, alloc: Global) -> io::Result<Vec<u8>>

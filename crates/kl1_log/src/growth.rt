@@ -1,10 +1,10 @@
 // What a file gets so that it is the file of a journal.
 
-ghost use Rattle.std.specs.Prelude.{◌≡◌, ◌++◌, ℕ, List, map, IfOk, OnOk};
+ghost use Rattle.std.specs.Prelude.{◌≡◌, ◌++◌, [], ℕ, List, map, IfOk, OnOk};
 ghost use Rattle.kl1_model_server.specs.Command.{written_line, written_lines};
 ghost use Rattle.kl1_model_server.specs.Journal as model;
 ghost use Rattle.kl1_model_server.specs.Journal.{runs};
-ghost use Rattle.kl1_model_server.specs.JournalText.{entry_line, heading_line, journal_lines, version};
+ghost use Rattle.kl1_model_server.specs.JournalText.{entry_line, heading_line, journal_lines, lines_of, version};
 ghost use Rattle.kl1_log.specs.Deeds.{IsPlainFile, shut_text};
 ghost use Rattle.kl1_log.specs.Later.{IsLater, IsMark, run_of_line, run_of_lines, run_line};
 
@@ -91,6 +91,7 @@ fn put_longer(out: &mut Vec<u8>, was: u64, is: u64) -> Result<(), AllocError>
 pub fn grown(alloc: Global, journal: &Journal, mark: Mark) -> Result<Growth, AllocError>
     ensures file { IfOk result (λ growth. (old : model.Journal) (text : List ℕ) → IsMark mark old → IsLater old journal.now.journal → IsPlainFile text old → IsPlainFile (text ++ growth.bytes.items) journal.now.journal) }
     ensures mark { IfOk result (λ growth. (old : model.Journal) → IsMark mark old → IsLater old journal.now.journal → IsMark growth.mark journal.now.journal) }
+    ensures whole { IfOk result (λ growth. (lines_of growth.bytes.items).rest ≡ []) }
 {
     // This is called for the fact that it proves: the journal has a text that reads back.
     journal.shows_written();

@@ -14,9 +14,11 @@ mod log_file;
 mod making;
 mod mark;
 mod memory;
+mod noting;
 mod receipt;
 mod recovery;
 mod reopening;
+mod room;
 mod scribe;
 mod snapshot;
 mod waiting;
@@ -33,6 +35,7 @@ pub use memory::Memory;
 pub use receipt::{Receipt, Unsent};
 pub use recovery::{Found, recover};
 pub use reopening::restore;
+pub use room::Room;
 pub use waiting::Waiting;
 
 /// Of a journal's file that is cut at any byte after its opening there is recovered a front of the journal, with each entry whose line is

@@ -1,10 +1,11 @@
 -- Answers, and what commands leave.
-use Rattle.std.proofs.Common.{◌≡◌, ℕ, List, Some, ap, ◌∙◌}
+use Rattle.std.proofs.Common.{◌≡◌, ℕ, ◌≤◌, ◌⊎◌, inl, inr, Bool, true, false, List, [], Some, ap, sym, ◌∙◌, refl}
+use Rattle.std.proofs.lemmas.Bool.{and_parts}
 use Rattle.std.specs.Prelude.{Option}
 use Rattle.kl1_model.specs.declared.rules.Rules.{Rules}
 use Rattle.kl1_model.specs.State.{State}
 use Rattle.kl1_model_server.specs.Command.{Command}
-use Rattle.kl1_model_server.specs.Journal.{Entry, Journal}
+use Rattle.kl1_model_server.specs.Journal.{Entry, Journal, Kept}
 use Rattle.kl1_atoms.specs.Names.{AreNames}
 use Rattle.kl1_journal.specs.Keeping.{Reading, Fits, Held, kept_of, IsKept}
 use Rattle.kl1_user.specs.Readings.{reading_of, reading_fits}
@@ -21,8 +22,9 @@ use Rattle.kl1_pool.specs.declared.totals_before_reset.TotalsBeforeReset.{Totals
 use Rattle.kl1_pool.specs.Counted.{IsCounted}
 use Rattle.kl1_pool.specs.declared.restoring.Restored.{Restored}
 use Rattle.kl1_pool.specs.Restoring.{IsRestored, IsRestoredBySome}
-use Rattle.kl1_pool.specs.Memory.{bytes_taken, IsTakenBySome}
-use Rattle.kl1_pool.specs.Stepping.{AreFirstSteps, goes_on, IsTurnOfSome}
+use Rattle.kl1_pool.specs.declared.turn.TheConstants.{MOST_GRANTED_STEPS}
+use Rattle.kl1_pool.specs.Memory.{bytes_taken, takes_memory, bound_of, turn_bound, IsGivenBySomeWithin, IsGivenWithin, IsTakenBySome}
+use Rattle.kl1_pool.specs.Stepping.{AreFirstSteps, goes_on, turn_goes_on, IsTurnWithin, IsTurnOfSome}
 
 -- what is untouched is so in each part
 pub untouched_part : {A B : Type 0} (f : A → B) (p : Performed) (a b : A) → IsUntouched p a b → IsUntouched p (f a) (f b)
@@ -30,18 +32,27 @@ untouched_part f (performed.Whole reply) a b h = tt
 untouched_part f (performed.Short n) a b h = tt
 untouched_part f performed.Memory a b h = ap f h
 
-by_some : (rules : Rules) (name : Option (List ℕ)) (c : Command) (p : Performed) → IsGivenBySome rules name c p → IsGiven rules name c p
-by_some rules name c (performed.Whole reply) h = h
-by_some rules name c (performed.Short n) h = h
-by_some rules name c performed.Memory h = tt
+by_some : (rules : Rules) (name : Option (List ℕ)) (most : ℕ) (c : Command) (p : Performed) → IsGivenBySomeWithin rules name most c p → IsGivenWithin rules name most c p
+by_some rules name most c (performed.Whole reply) h = h
+by_some rules name most c (performed.Short n) h = h
+by_some rules name most c performed.Memory h = tt
+
+-- the bytes left out
+without_bytes : (rules : Rules) (name : Option (List ℕ)) (most : ℕ) (c : Command) (p : Performed) → IsGivenBySomeWithin rules name most c p → IsGivenBySome rules name c p
+without_bytes rules name most c p h = (h.0, h.1, h.2, h.3, h.4)
+
+pub given_at_all : (rules : Rules) (name : Option (List ℕ)) (most : ℕ) (c : Command) (p : Performed) → IsGivenWithin rules name most c p → IsGiven rules name c p
+given_at_all rules name most c (performed.Whole reply) h = without_bytes rules name most c (performed.Whole reply) h
+given_at_all rules name most c (performed.Short n) h = without_bytes rules name most c (performed.Short n) h
+given_at_all rules name most c performed.Memory h = tt
 
 -- the answer of an account to a command
-pub given : (rules : Rules) (name : Option (List ℕ)) (room : ℕ) (old new : Held) (c : Command) (p : Performed) → IsKept old → old.0.rules ≡ rules → name ≡ Some old.0.own_name → AreNames new.0.names → ((f : Reading) → Fits new.0.names f → Fits old.0.names f) → ((f : Reading) → Fits new.0.names f → PerformsWithin (Some room) (kept_of f old) c p (kept_of f new)) →
-    IsGiven rules name c p
-given rules name room old new c p kept keeps called names before does =
+pub given : (rules : Rules) (name : Option (List ℕ)) (most room : ℕ) (old new : Held) (c : Command) (p : Performed) → (takes_memory c ≡ true → (f : Reading) → bytes_taken (kept_of f old) ≤ bound_of most c) → IsKept old → old.0.rules ≡ rules → name ≡ Some old.0.own_name → AreNames new.0.names → ((f : Reading) → Fits new.0.names f → Fits old.0.names f) → ((f : Reading) → Fits new.0.names f → PerformsWithin (Some room) (kept_of f old) c p (kept_of f new)) →
+    IsGivenWithin rules name most c p
+given rules name most room old new c p within kept keeps called names before does =
     let f = reading_of new.0.names in
     let fits = reading_fits new.0.names names in
-    by_some rules name c p (room, kept_of f old, kept_of f new, record { replay = (kept.replay f (before f fits)).is; keeps_to = keeps; called = called }, does f fits)
+    by_some rules name most c p (room, kept_of f old, kept_of f new, record { replay = (kept.replay f (before f fits)).is; keeps_to = keeps; called = called }, does f fits, λ takes. within takes f)
 
 -- what is shown of an account that was found
 pub of_some : (rules : Rules) (name : Option (List ℕ)) (h : Held) (P : State → Type 0) → IsFound rules name h → ((f : Reading) → Fits h.0.names f → P (kept_of f h).state) → IsOfSome rules name P
@@ -71,17 +82,22 @@ taken_by_some {h} rules name bytes found takes =
     (kept_of f h, account, takes f)
 
 -- how an account is restored
-pub restored_by : (rules : Rules) (name : Option (List ℕ)) (old new : Held) (es : List Entry) (r : Restored) → IsKept old → old.0.rules ≡ rules → name ≡ Some old.0.own_name → AreNames new.0.names → ((f : Reading) → Fits new.0.names f → Fits old.0.names f) →
+pub restored_by : (rules : Rules) (name : Option (List ℕ)) (old new : Held) (es : List Entry) (r : Restored) → old.1.entries ≡ [] → IsKept old → old.0.rules ≡ rules → name ≡ Some old.0.own_name → AreNames new.0.names → ((f : Reading) → Fits new.0.names f → Fits old.0.names f) →
     ((f : Reading) → Fits new.0.names f → IsRestored (kept_of f old).state es r (kept_of f new).state) → IsRestoredBySome rules name es r
-restored_by rules name old new es r kept keeps called names before restored =
+restored_by rules name old new es r fresh kept keeps called names before restored =
     let f = reading_of new.0.names in
     let fits = reading_fits new.0.names names in
-    (kept_of f old, (kept_of f new).state, record { replay = (kept.replay f (before f fits)).is; keeps_to = keeps; called = called }, restored f fits)
+    (kept_of f old, (kept_of f new).state, record { replay = (kept.replay f (before f fits)).is; keeps_to = keeps; called = called }, fresh, restored f fits)
+
+-- a turn within its bytes
+turn_within : (most : ℕ) (short more : Bool) (k after : Kept) (t : TimeSlice) → bytes_taken k ≤ turn_bound most short → (short ≡ true → t.steps ≤ MOST_GRANTED_STEPS) → t.again ≡ turn_goes_on short more t.steps after → IsTurnWithin most k after t
+turn_within most true more k after t few is_short again = inr (few, is_short refl, λ on. (and_parts more (goes_on MOST_GRANTED_STEPS t.steps after) (sym again ∙ on)).1)
+turn_within most false more k after t few is_short again = inl (few, again)
 
 -- the turn of an account
-pub turn_of : (rules : Rules) (name : Option (List ℕ)) (old new : Held) (t : TimeSlice) → IsKept old → old.0.rules ≡ rules → name ≡ Some old.0.own_name → AreNames new.0.names → ((f : Reading) → Fits new.0.names f → Fits old.0.names f) →
-    ((f : Reading) → Fits new.0.names f → AreFirstSteps (kept_of f old) t.steps (kept_of f new)) → ((f : Reading) → Fits new.0.names f → t.again ≡ goes_on MOST_STEPS t.steps (kept_of f new)) → IsTurnOfSome rules name t
-turn_of rules name old new t kept keeps called names before steps again =
+pub turn_of : (rules : Rules) (name : Option (List ℕ)) (most : ℕ) (short more : Bool) (old new : Held) (t : TimeSlice) → ((f : Reading) → bytes_taken (kept_of f old) ≤ turn_bound most short) → (short ≡ true → t.steps ≤ MOST_GRANTED_STEPS) → IsKept old → old.0.rules ≡ rules → name ≡ Some old.0.own_name → AreNames new.0.names → ((f : Reading) → Fits new.0.names f → Fits old.0.names f) →
+    ((f : Reading) → Fits new.0.names f → AreFirstSteps (kept_of f old) t.steps (kept_of f new)) → ((f : Reading) → Fits new.0.names f → t.again ≡ turn_goes_on short more t.steps (kept_of f new)) → IsTurnOfSome rules name most t
+turn_of rules name most short more old new t few is_short kept keeps called names before steps again =
     let f = reading_of new.0.names in
     let fits = reading_fits new.0.names names in
-    (kept_of f old, kept_of f new, record { replay = (kept.replay f (before f fits)).is; keeps_to = keeps; called = called }, steps f fits, again f fits)
+    (kept_of f old, kept_of f new, record { replay = (kept.replay f (before f fits)).is; keeps_to = keeps; called = called }, steps f fits, turn_within most short more (kept_of f old) (kept_of f new) t (few f) is_short (again f fits))

@@ -45,7 +45,7 @@ reset_stays k replay none =
     ap (λ (t : State). let x : Kept = record { state = t; journal = new_journal s.rules s.names s.sessions } in x) state ∙ ap (λ (i : Journal). let x : Kept = record { state = s; journal = i } in x) journal
 
 -- an event after which as many events are counted is no reset, or changes nothing
-unless_ended : (p : TotalsBeforeReset) (k : Kept) (e : Event) → IsReplay k → IsWritten k.journal → (past_by p k.journal (done k e).reply).events ≡ p.events → ((done k e).kept ≡ k) ⊎ (e ≡ reset → ⊥)
+pub unless_ended : (p : TotalsBeforeReset) (k : Kept) (e : Event) → IsReplay k → IsWritten k.journal → (past_by p k.journal (done k e).reply).events ≡ p.events → ((done k e).kept ≡ k) ⊎ (e ≡ reset → ⊥)
 unless_ended p k reset replay written same =
     let z : p.events + events_in k.journal.entries ≡ p.events = same in
     let none : events_in k.journal.entries ≡ 0 = omega (arith, z) in
@@ -59,7 +59,7 @@ unless_ended p k login replay written same = inr (λ z. cc)
 unless_ended p k logout replay written same = inr (λ z. cc)
 unless_ended p k (answer n report t) replay written same = inr (λ z. cc)
 
-more_by : (b : Bool) (p : TotalsBeforeReset) (j : Journal) → p.events ≤ (past_after b p j).events
+pub more_by : (b : Bool) (p : TotalsBeforeReset) (j : Journal) → p.events ≤ (past_after b p j).events
 more_by true p j = let z : p.events ≤ p.events + events_in j.entries = omega arith in z
 more_by false p j = let z : p.events ≤ p.events = omega arith in z
 

@@ -9,3 +9,4 @@ pub mod RestoredEntries
 pub mod RestoredEvents
 pub mod Capped
 pub mod Ended
+pub mod Shown

@@ -1,12 +1,16 @@
 -- How many bytes an account takes, and which commands may make it take more.
-use Rattle.std.specs.Prelude.{◌≡◌, ℕ, ◌+◌, ◌*◌, ◌-◌, ◌^◌, ◌<◌, min, Bool, true, false, List, Option}
+use Rattle.std.specs.Prelude.{◌≡◌, ℕ, ◌+◌, ◌*◌, ◌-◌, ◌^◌, ◌<◌, ◌≤◌, min, Bool, true, false, List, Option, Some}
+use Rattle.kl1_model.specs.Event as model
 use Rattle.kl1_model.specs.declared.rules.Rules.{Rules}
 use Rattle.kl1_model_server.specs.Journal.{is_entry, Kept}
 use Rattle.kl1_model_server.specs.Command.{Command, does, run, shows}
 use Rattle.kl1_user_events.specs.declared.usage.Usage.{Usage}
 use Rattle.kl1_user_events.specs.Viewing.{usage_of}
+use Rattle.kl1_command.specs.declared.performed.Performed.{Performed}
+use Rattle.kl1_command.specs.declared.performed.Performed.TheVariants as performed
+use Rattle.kl1_command.specs.Room.{PerformsWithin}
 use Rattle.kl1_journal.specs.Keeping.{Reading, kept_of}
-use Rattle.kl1_pool.specs.declared.memory.TheConstants.{GOAL_BYTES, NAME_BYTES, SHOEN_BYTES, VARIABLE_BYTES, STRUCTURE_BYTES, REPORT_BYTES, ENTRY_BYTES, STEP_BYTES}
+use Rattle.kl1_pool.specs.declared.memory.TheConstants.{GOAL_BYTES, NAME_BYTES, SHOEN_BYTES, VARIABLE_BYTES, STRUCTURE_BYTES, REPORT_BYTES, ENTRY_BYTES, STEP_BYTES, RESERVED_BYTES, TURN_RESERVED_BYTES}
 use Rattle.kl1_pool.specs.Answers.{IsAccount}
 use Rattle.kl1_pool.specs.Counted.{reduces_in}
 use Rattle.kl1_pool.specs.PoolAccounts.{PoolAccountValue}
@@ -31,9 +35,56 @@ takes_memory (shows from count) = false
 abbrev pub IsOver : ℕ → PoolAccountValue → Type 0
 IsOver most a = (f : Reading) → most < bytes_taken (kept_of f a.held)
 
--- so it does, and this command may make it take more
+-- how many bytes beyond what its account may take an event may find: those that are kept for messages to shoens and answers to exceptions
+abbrev pub reserve_for : model.Event → ℕ
+reserve_for (model.load text) = 0
+reserve_for (model.start allowance low high t) = 0
+reserve_for (model.control n m) = RESERVED_BYTES
+reserve_for (model.reduce goal clause) = 0
+reserve_for (model.read q) = 0
+reserve_for model.login = 0
+reserve_for model.logout = 0
+reserve_for model.reset = 0
+reserve_for (model.answer n report t) = RESERVED_BYTES
+
+-- and a command
+abbrev pub reserve_of : Command → ℕ
+reserve_of (does e) = reserve_for e
+reserve_of (run k) = 0
+reserve_of (shows from count) = 0
+
+-- the most bytes that an account takes to which a command is done that takes memory
+abbrev pub bound_of : ℕ → Command → ℕ
+bound_of most c = min (most + reserve_of c) (2 ^ 64 - 1)
+
+-- the most bytes that an account takes before a turn, which is a short one or not
+abbrev pub turn_bound : ℕ → Bool → ℕ
+turn_bound most true = min (most + TURN_RESERVED_BYTES) (2 ^ 64 - 1)
+turn_bound most false = most
+
+-- an account takes more bytes than this command may find, and the command may make it take more
 abbrev pub IsBeyond : ℕ → PoolAccountValue → Command → Type 0
-IsBeyond most a c = IsOver most a × (takes_memory c ≡ true)
+IsBeyond most a c = IsOver (bound_of most c) a × (takes_memory c ≡ true)
+
+-- an account takes no more bytes than this command may find, if that takes memory
+abbrev pub IsWithin : ℕ → PoolAccountValue → Command → Type 0
+IsWithin most a c = takes_memory c ≡ true → (f : Reading) → bytes_taken (kept_of f a.held) ≤ bound_of most c
+
+-- an account takes no more bytes than a turn may find
+abbrev pub IsWithinTurn : ℕ → Bool → PoolAccountValue → Type 0
+IsWithinTurn most short a = (f : Reading) → bytes_taken (kept_of f a.held) ≤ turn_bound most short
+
+-- some account of these rules and of this name, whose book has some room, and which takes no more bytes than this command may find if that
+-- takes memory, answers it so
+abbrev pub IsGivenBySomeWithin : Rules → Option (List ℕ) → ℕ → Command → Performed → Type 0
+IsGivenBySomeWithin rules name most c p =
+    (room : ℕ) × (before : Kept) × (after : Kept) × IsAccount rules name before × PerformsWithin (Some room) before c p after × (takes_memory c ≡ true → bytes_taken before ≤ bound_of most c)
+
+-- so, unless memory was refused
+abbrev pub IsGivenWithin : Rules → Option (List ℕ) → ℕ → Command → Performed → Type 0
+IsGivenWithin rules name most c (performed.Whole reply) = IsGivenBySomeWithin rules name most c (performed.Whole reply)
+IsGivenWithin rules name most c (performed.Short n) = IsGivenBySomeWithin rules name most c (performed.Short n)
+IsGivenWithin rules name most c performed.Memory = Unit {0}
 
 -- some account of these rules and of this name, the replay of its journal, takes so many bytes
 abbrev pub IsTakenBySome : Rules → Option (List ℕ) → ℕ → Type 0

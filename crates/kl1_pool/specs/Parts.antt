@@ -7,10 +7,12 @@ use Rattle.kl1_model.specs.declared.rules.Rules.{Rules}
 use Rattle.kl1_atoms.specs.Seats.{face_in, IsSharedSeat}
 use Rattle.kl1_atoms.specs.declared.atom_seat.AtomSeat.{AtomSeat}
 use Rattle.kl1_tally.specs.Seats.{Book}
+use Rattle.kl1_journal_stamps.specs.Stamps.{HistoryId, ShownValue, AreNew, histories_of}
 use Rattle.kl1_model_server.specs.laws.TextLaws.{AreNames}
 
 -- which table of names they have, and for how many accounts that was made; which table of codes; which rules the accounts keep to, and
--- what they are called; which names they had used at their last resets, those that had used some; which tally and which queue; and for how many accounts and shares these are
+-- what they are called; which names they had used at their last resets, those that had used some; how many bytes each may take; which
+-- tally and which queue; and for how many accounts and shares these are
 pub record PoolPartsValue : Type 0 where
   pub table : TableId
   pub seats : ℕ
@@ -18,10 +20,12 @@ pub record PoolPartsValue : Type 0 where
   pub rules : Rules
   pub names : List (List ℕ)
   pub used : List (List (List ℕ))
+  pub most_bytes : ℕ
   pub tally : TableId
   pub queue : TableId
   pub accounts : ℕ
   pub shares : ℕ
+  pub histories : List HistoryId  -- of the journals of each account that are shown
 
 -- a seat of a table of names that was made for this number of accounts, which knows the built-in names alone
 abbrev pub IsFreshSeat : TableId → ℕ → AtomSeat → Type 0
@@ -31,9 +35,17 @@ IsFreshSeat table accounts seat = IsSharedSeat table seat.badge.table_id account
 abbrev pub AreFreshSeats : TableId → ℕ → List AtomSeat → Type 0
 AreFreshSeats table accounts seats = All (IsFreshSeat table accounts) seats
 
--- these are the names at the numbers of the accounts that these books are of
+-- these stand at the numbers of the accounts that these books are of
+abbrev pub AreAt : {X : Type 0} → List X → List Book → List X → Type 0
+AreAt {X} all books xs = map (λ (b : Book). slice_get all b.account) books ≡ map (λ (x : X). Some x) xs
+
+-- so do these names
 abbrev pub AreNamed : List (List ℕ) → List Book → List (List ℕ) → Type 0
-AreNamed all books names = map (λ (b : Book). slice_get all b.account) books ≡ map (λ (n : List ℕ). Some n) names
+AreNamed all books names = AreAt all books names
+
+-- and these histories, in which no journal was shown yet
+abbrev pub AreUnshown : List HistoryId → List Book → List ShownValue → Type 0
+AreUnshown all books shown = AreAt all books (histories_of shown) × AreNew shown
 
 -- for each account the names that it had used
 abbrev pub used_names : List (Vec (List ℕ) Global) → List (List (List ℕ))

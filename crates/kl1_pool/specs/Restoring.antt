@@ -82,9 +82,9 @@ abbrev pub told_entry : Entry → EntryResult → Told
 told_entry e result.Whole = told_of (e ∷ []) 0
 told_entry e (result.Stopped k end) = told_of [] k
 
--- some account of these rules and of this name was restored so
+-- some account of these rules and of this name, whose journal had no entries, was restored so
 abbrev pub IsRestoredBySome : Rules → Option (List ℕ) → List Entry → Restored → Type 0
-IsRestoredBySome rules name es r = (before : Kept) × (after : State) × IsAccount rules name before × IsRestored before.state es r after
+IsRestoredBySome rules name es r = (before : Kept) × (after : State) × IsAccount rules name before × (before.journal.entries ≡ []) × IsRestored before.state es r after
 
 -- so, or memory was refused before anything was done
 abbrev pub IsRestoredOf : Rules → Option (List ℕ) → List Entry → Restored → Type 0

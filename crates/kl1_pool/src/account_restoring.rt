@@ -1,6 +1,7 @@
 // Restoring an account of a pool from a journal, under its lock.
 
-ghost use Rattle.std.specs.Prelude.{◌≡◌, ◌<◌, take, slice_get};
+ghost use Rattle.std.specs.Prelude.{◌≡◌, ◌<◌, ◌&&◌, [], take, slice_get, is_some, not};
+ghost use Rattle.kl1_model.specs.Choice.{quiet};
 ghost use Rattle.kl1_journal.specs.Keeping.{Reading, Fits, kept_of};
 ghost use Rattle.kl1_pool_tickets.specs.Counts.{Moved, Acts};
 ghost use Rattle.kl1_pool.specs.PoolAccounts.{HasCounted};
@@ -8,7 +9,7 @@ ghost use Rattle.kl1_pool.specs.Restoring.{IsRestored, IsRestoredOf, IsRestoredB
 
 use crate::account_host::AccountHost;
 use crate::pool::Pool;
-use crate::pool_account::PoolAccount;
+use crate::pool_account::{DueTicket, PoolAccount};
 use crate::pool_ids::PoolIds;
 use crate::restoring::{RestoreEnd, Restored, restore_all};
 use crate::shared_tables::SharedTables;
@@ -17,7 +18,7 @@ use kl1_pool_tickets::{PoolShared, Share};
 use std::alloc::Global;
 use std::sync::Wait;
 
-/// What is told of a restore if another account was found in the place of the one that was asked for.
+/// What is told of a restore if the account's journal has entries, or another account was found in the place of the one that was asked for.
 const NOT_RESTORED: Restored = Restored {
     entries: 0,
     steps: 0,
@@ -27,7 +28,7 @@ const NOT_RESTORED: Restored = Restored {
 impl<'t, R: Wait, K: PoolIds> PoolAccount<'t, R, K> {
     /// Does the entries of a journal to the account, one after another, until one isn't accepted whole. Book and `share` get an event for
     /// each that is done, and for each step of a run, and a step for each reduction.
-    pub fn restore(
+    fn restore(
         &mut self,
         rt: &'t R,
         alloc: Global,
@@ -72,7 +73,8 @@ impl<'t, R: Wait, K: PoolIds> PoolAccount<'t, R, K> {
         restore_all(alloc, &mut host, journal)
     }
 
-    /// `restore`, and what is told of it by those who don't see the account.
+    /// `restore` of an account whose journal has no entries, and what is told of it by those who don't see the account; and then its ticket that
+    /// is to be put, if there is one.
     fn restore_counted(
         &mut self,
         rt: &'t R,
@@ -81,22 +83,25 @@ impl<'t, R: Wait, K: PoolIds> PoolAccount<'t, R, K> {
         tables: &SharedTables<'t, K>,
         share: &mut Share<K>,
         journal: &Journal,
-    ) -> Restored
-        ensures restored { IsRestoredBySome K.rules (slice_get K.names self.old.book.account) journal.now.journal.entries result }
-        ensures counted { Moved self.old.book.account (events_of journal.now.journal.entries result) (steps_of journal.now.journal.entries result) 0 0 share.old share.new }
+    ) -> (Restored, Option<DueTicket<K>>)
+        requires fresh { self.old.held.1.entries ≡ [] }
+        ensures restored { IsRestoredBySome K.rules (slice_get K.names self.old.book.account) journal.now.journal.entries result.0 }
+        ensures counted { Moved self.old.book.account (events_of journal.now.journal.entries result.0) (steps_of journal.now.journal.entries result.0) 0 0 share.old share.new }
+        ensures due { (f : Reading) → Fits self.new.held.0.names f → is_some result.1 ≡ (not self.old.is_out && not (quiet (kept_of f self.new.held).state)) }
     {
         // This and the next one are called for the facts that they prove: the account is the replay of its journal, and some reading fits
         // the names.
         self.shows_counts();
         let restored = self.restore(rt, alloc, common, tables, share, journal);
         self.shows_counts();
-        restored
+        let due = self.due_ticket();
+        (restored, due)
     }
 }
 
 impl<'t, R: Wait, K: PoolIds> Pool<'t, R, K> {
-    /// Does the entries of a journal to an account under its lock, as `PoolAccount::restore`; and whether its ticket is to be put, which
-    /// then counts as out.
+    /// Does the entries of a journal to an account under its lock, as `PoolAccount::restore`, unless the account's journal has entries; and its
+    /// ticket that is to be put, if there is one.
     fn restore_locked<W: Wait>(
         &self,
         rt: &W,
@@ -104,7 +109,7 @@ impl<'t, R: Wait, K: PoolIds> Pool<'t, R, K> {
         account: usize,
         journal: &Journal,
         share: &mut Share<K>,
-    ) -> (Restored, bool)
+    ) -> (Restored, Option<DueTicket<K>>)
         requires within { account < K.accounts }
         ensures restored { IsRestoredOf K.rules (slice_get K.names account) journal.now.journal.entries result.0 }
         ensures counted { Moved account (events_of journal.now.journal.entries result.0) (steps_of journal.now.journal.entries result.0) 0 0 share.old share.new }
@@ -113,22 +118,16 @@ impl<'t, R: Wait, K: PoolIds> Pool<'t, R, K> {
         let found = &mut *guard.account;
         // As in `visit`.
         if found.account() != account {
-            return (NOT_RESTORED, false);
+            return (NOT_RESTORED, None);
         }
-        let restored = found.restore_counted(
-            self.rt,
-            alloc,
-            &self.common,
-            &self.tables,
-            share,
-            journal,
-        );
-        let wants = found.wants_ticket();
-        (restored, wants)
+        if !found.has_no_entries() {
+            return (NOT_RESTORED, None);
+        }
+        found.restore_counted(self.rt, alloc, &self.common, &self.tables, share, journal)
     }
 
     /// Does the entries of a journal to an account, one after another, until one isn't accepted whole, all under its lock, as
-    /// `PoolAccount::restore`. Afterwards a ticket of the account is put unless the account is quiet or one is out.
+    /// `PoolAccount::restore`. The account's own journal is to have no entries: else nothing is done, as if memory was refused. Afterwards a ticket of the account is put unless the account is quiet or one is out.
     pub fn restore<W: Wait>(
         &self,
         rt: &W,
@@ -141,9 +140,9 @@ impl<'t, R: Wait, K: PoolIds> Pool<'t, R, K> {
         ensures restored { IsRestoredOf K.rules (slice_get K.names account) journal.now.journal.entries result }
         ensures counted { Acts account (events_of journal.now.journal.entries result) (steps_of journal.now.journal.entries result) share.old share.new }
     {
-        let (restored, wants) = self.restore_locked(rt, alloc, account, journal, share);
-        if wants {
-            self.offer(rt, account, share);
+        let (restored, due) = self.restore_locked(rt, alloc, account, journal, share);
+        if let Some(due) = due {
+            self.offer(rt, account, due, share);
         }
         restored
     }

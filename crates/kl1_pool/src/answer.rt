@@ -1,18 +1,20 @@
 // Commands to an account of a pool, and the answers to them.
 
-ghost use Rattle.std.specs.Prelude.{◌≡◌, ◌≢◌, Some, slice_get};
+ghost use Rattle.std.specs.Prelude.{◌≡◌, ◌≢◌, ◌&&◌, Some, slice_get, is_some, not};
 ghost use Rattle.kl1_command.specs.Commands.{command_view};
 ghost use Rattle.kl1_command.specs.Performing.{IsUntouched};
-ghost use Rattle.kl1_command.specs.Told.{told_in, told_steps};
+ghost use Rattle.kl1_command.specs.Told.{told_in, told_steps, events_told, steps_told};
 ghost use Rattle.kl1_command.specs.Room.{PerformsWithin};
+ghost use Rattle.kl1_model.specs.Choice.{quiet};
 ghost use Rattle.kl1_journal.specs.Keeping.{Reading, Fits, kept_of};
+ghost use Rattle.kl1_pool_tickets.specs.Counts.{Moved};
 ghost use Rattle.kl1_pool.specs.Counted.{room_in};
 ghost use Rattle.kl1_pool.specs.PoolAccounts.{HasCounted};
 ghost use Rattle.kl1_pool.specs.Answers.{IsGiven};
-ghost use Rattle.kl1_pool.specs.Memory.{IsBeyond};
+ghost use Rattle.kl1_pool.specs.Memory.{IsBeyond, IsWithin, IsGivenWithin};
 
 use crate::account_host::AccountHost;
-use crate::pool_account::PoolAccount;
+use crate::pool_account::{DueTicket, PoolAccount};
 use crate::pool_ids::PoolIds;
 use crate::shared_tables::SharedTables;
 use kl1_command::{Command, Performed};
@@ -36,7 +38,8 @@ impl<K: PoolIds> Model for Answer<K> {
     ghost use Rattle.std.specs.Coded.{codes};
     ghost use Rattle.kl1_model.specs.code.TermCode.{term_code};
     ghost use Rattle.kl1_command.specs.Commands.{command_view};
-    ghost use Rattle.kl1_pool.specs.Answers.{AnswerValue, IsGiven};
+    ghost use Rattle.kl1_pool.specs.Answers.{AnswerValue};
+    ghost use Rattle.kl1_pool.specs.Memory.{IsGivenWithin};
 
     ghost Value = { AnswerValue };
 
@@ -44,7 +47,7 @@ impl<K: PoolIds> Model for Answer<K> {
 
     ghost view = { λ a. record { account = a.account.value; command = command_view a.command.value; performed = a.performed } };
 
-    ghost invariant = { λ a. IsGiven K.rules (slice_get K.names a.account.value) (command_view a.command.value) a.performed };
+    ghost invariant = { λ a. IsGivenWithin K.rules (slice_get K.names a.account.value) K.most_bytes (command_view a.command.value) a.performed };
 }
 
 impl<K: PoolIds> Answer<K> {
@@ -68,21 +71,20 @@ impl<K: PoolIds> Answer<K> {
         }
     }
 
-    /// The answer to a command that takes memory, if the account takes more than `most` bytes: as if memory was refused. Nothing is done.
+    /// The answer to a command that takes memory, if the account takes more bytes than the command may find: as if memory was refused. Nothing
+    /// is done.
     pub(crate) fn over<'t, R: Wait>(
         found: &PoolAccount<'t, R, K>,
-        most: u64,
         account: usize,
         command: &Command,
     ) -> Answer<K>
-        requires { IsBeyond most found.now (command_view command.now) }
+        requires { IsBeyond K.most_bytes found.now (command_view command.now) }
         ensures account { result.account ≡ account }
         ensures command { result.command ≡ command_view command.now }
         ensures told { told_in result.performed ≡ told_steps 0 }
     {
         // It is asked for only because of what is known of it.
         let _found = found.account();
-        let _most = most;
         Answer {
             performed: Performed::Memory,
             account: Snapshot::of(&account),
@@ -95,6 +97,13 @@ impl<K: PoolIds> Answer<K> {
     /// memory was refused. It does nothing.
     pub fn shows_given(&self)
         ensures { IsGiven K.rules (slice_get K.names self.now.account) self.now.command self.now.performed }
+    {
+        let _performed = &self.performed;
+    }
+
+    /// Tells a caller's proof besides that the account took no more bytes than the command may find, if that takes memory. It does nothing.
+    pub fn shows_within(&self)
+        ensures { IsGivenWithin K.rules (slice_get K.names self.now.account) K.most_bytes self.now.command self.now.performed }
     {
         let _performed = &self.performed;
     }
@@ -136,11 +145,31 @@ impl<K: PoolIds> Answer<K> {
 }
 
 impl<'t, R: Wait, K: PoolIds> PoolAccount<'t, R, K> {
+    /// `perform`, and then the ticket of the account that is to be put, if there is one.
+    pub(crate) fn act(
+        &mut self,
+        rt: &'t R,
+        common: &PoolShared<K>,
+        tables: &SharedTables<'t, K>,
+        share: &mut Share<K>,
+        command: &Command,
+    ) -> (Answer<K>, Option<DueTicket<K>>)
+        requires within { IsWithin K.most_bytes self.old (command_view command.now) }
+        ensures counted { Moved self.old.book.account (events_told result.0.performed) (steps_told result.0.performed) 0 0 share.old share.new }
+        ensures account { result.0.account ≡ self.old.book.account }
+        ensures command { result.0.command ≡ command_view command.now }
+        ensures due { (f : Reading) → Fits self.new.held.0.names f → is_some result.1 ≡ (not self.old.is_out && not (quiet (kept_of f self.new.held).state)) }
+    {
+        let answer = self.perform(rt, common, tables, share, command);
+        let due = self.due_ticket();
+        (answer, due)
+    }
+
     /// What a command does to the account and its journal, and the answer. The book and `share` get what the answer tells: one event
     /// for a load, a start, a message and an answer, one event and one step for a reduction, and both for each step of a run. An
     /// accepted reset adds the journal that it ends to what was counted before. A run ends when the book tells `MOST_EVENTS`, as if
     /// the next step was refused by a full journal, and so is what would be an entry.
-    pub fn perform(
+    fn perform(
         &mut self,
         rt: &'t R,
         common: &PoolShared<K>,
@@ -148,6 +177,7 @@ impl<'t, R: Wait, K: PoolIds> PoolAccount<'t, R, K> {
         share: &mut Share<K>,
         command: &Command,
     ) -> Answer<K>
+        requires within { IsWithin K.most_bytes self.old (command_view command.now) }
         ensures does { (f : Reading) → Fits self.new.held.0.names f → PerformsWithin (Some (room_in self.old.book)) (kept_of f self.old.held) (command_view command.now) result.performed (kept_of f self.new.held) }
         ensures memory { IsUntouched result.performed self.old self.new × IsUntouched result.performed share.old share.new }
         ensures counted { HasCounted self.old share.old (told_in result.performed) self.new share.new }

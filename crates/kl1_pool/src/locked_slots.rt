@@ -3,11 +3,12 @@
 ghost use Rattle.std.specs.Prelude.{◌≡◌, ◌<◌, ◌++◌, ◌∷◌, [], IfOk, All, vec_len};
 ghost use Rattle.kl1_model_server.specs.laws.TextLaws.{AreNames};
 ghost use Rattle.kl1_pool_tickets.specs.Parts.{IsNewBook};
-ghost use Rattle.kl1_pool.specs.Parts.{AreFreshSeats, AreNamed, AreUsed};
+ghost use Rattle.kl1_pool.specs.Parts.{AreFreshSeats, AreNamed, AreUsed, AreUnshown};
 
 use crate::locked_slot::Fresh;
 use kl1_atoms::AtomSeat;
 use kl1_journal::{AccountName, Rules};
+use kl1_journal_stamps::ShownHistory;
 use kl1_tally::BookSeat;
 use kl1_text::AtomText;
 use std::alloc::{AllocError, Global};
@@ -35,7 +36,7 @@ fn used_by(used: &[Vec<AtomText>], account: usize) -> &[AtomText]
     }
 }
 
-/// An account for each book, in the order of the books, with the name and the seat at its place, which keeps to these rules, and in
+/// An account for each book, in the order of the books, with the name, the seat and the history at its place, which keeps to these rules, and in
 /// which nothing has happened since it had used the names in `used` at the account's number. It is
 /// generic in what accounts are made as since those that are made already are dropped if memory is refused, and a drop is proved for
 /// any type that can be dropped.
@@ -47,21 +48,24 @@ pub(crate) fn places_of<C: Fresh>(
     mut seats: Vec<AtomSeat>,
     mut books: Vec<BookSeat>,
     used: &[Vec<AtomText>],
+    mut shown: Vec<ShownHistory>,
 ) -> Result<Vec<Mutex<C>>, AllocError>
     requires seats { AreFreshSeats C.table C.seats seats.items }
     requires books { All (IsNewBook C.tally) books.items }
     requires rules { rules ≡ C.keeps_to }
     requires names { AreNamed C.names books.items names.items }
     requires used { AreUsed used.now }
-    requires count { (vec_len names ≡ vec_len books) × (vec_len seats ≡ vec_len books) }
+    requires shown { AreUnshown C.histories books.items shown.items }
+    requires count { (vec_len names ≡ vec_len books) × (vec_len seats ≡ vec_len books) × (vec_len shown ≡ vec_len books) }
     ensures { IfOk result (λ places. vec_len places ≡ vec_len books) }
 {
     let mut places = Vec::with_capacity(alloc, books.len())?;
     while let Some(book) = books.pop() {
         let name = last_of(&mut names);
         let seat = last_of(&mut seats);
+        let history = last_of(&mut shown);
         let texts = used_by(used, book.account());
-        let place = C::fresh(alloc, tables, name, rules, seat, book, texts)?;
+        let place = C::fresh(alloc, tables, name, rules, seat, book, texts, history)?;
         places.push_reserved(Mutex::new(place));
     }
     places.as_mut_slice().reverse();

@@ -1,50 +1,49 @@
 // Looking at the journal of an account of a pool, under its lock.
 
-ghost use Rattle.std.specs.Prelude.{◌≡◌, ℕ, ◌<◌, slice_get, IsTrue, false};
+ghost use Rattle.std.specs.Prelude.{◌≡◌, ℕ, ◌<◌, Some, slice_get, IsTrue, false};
 ghost use Rattle.kl1_model_server.specs.Journal.{Journal as Entered};
+ghost use Rattle.kl1_journal_stamps.specs.Stamps.{StampValue, IsStampOf};
 ghost use Rattle.kl1_pool.specs.Showing.{IsSeenOfSome};
 
 use crate::pool::Pool;
-use crate::pool_account::PoolAccount;
 use crate::pool_ids::PoolIds;
 use kl1_journal_entries::Journal;
+use kl1_journal_stamps::Stamp;
 use std::sync::Wait;
 
 /// What looks at the journal of an account.
 pub trait JournalReader {
+    /// Which stamps a reader takes: if it is of one account, those of the account's history.
+    ghost takes: { Self → StampValue → Type 0 };
+
     /// What a reader was and what it is after it has read a journal, if so many events were counted in journals that resets ended.
     ghost reads: { Self → Self → Entered → ℕ → Type 0 };
 
     /// Reads a journal, of an account whose journals before the last reset had `ended` events: that grows with each reset of a journal
-    /// that has entries, and with nothing else.
-    fn read(&mut self, journal: &Journal, ended: u64)
+    /// that has entries, and with nothing else. The stamp is the journal's: it comes after each that was shown of the account before.
+    fn read(&mut self, journal: &Journal, ended: u64, stamp: &Stamp)
+        requires takes { takes self.old stamp.now }
+        requires stamp { IsStampOf journal.now.journal ended stamp.now }
         ensures { reads self.old self.new journal.now.journal ended };
-}
-
-impl<'t, R: Wait, K: PoolIds> PoolAccount<'t, R, K> {
-    /// Lets a reader read the journal, and how many events were counted before the last reset.
-    pub fn look<L: JournalReader>(&self, reader: &mut L)
-        ensures { L.reads reader.old reader.new self.now.held.1 self.now.past.events }
-    {
-        reader.read(self.lent_journal(), self.past().events);
-    }
 }
 
 impl<'t, R: Wait, K: PoolIds> Pool<'t, R, K> {
     /// Lets a reader read the journal of an account once, under its lock, with how many events were counted before the last reset.
-    /// Answers whether it did: it didn't if another account was found, which never is so.
+    /// Answers whether it did: it didn't if another account was found, or other journals in its history, which never is so.
     pub fn look<W: Wait, L: JournalReader>(&self, rt: &W, account: usize, reader: &mut L) -> bool
         requires within { account < K.accounts }
+        requires takes { (s : StampValue) → slice_get K.histories account ≡ Some s.history → L.takes reader.old s }
         ensures seen { IsTrue result → IsSeenOfSome K.rules (slice_get K.names account) (λ j ended. L.reads reader.old reader.new j ended) }
         ensures same { result ≡ false → reader.new ≡ reader.old }
     {
-        let guard = self.places[account].lock(rt);
-        let found = &*guard.account;
+        let mut guard = self.places[account].lock(rt);
+        let found = &mut *guard.account;
         // As in `visit`.
-        if !found.is_at(account) {
+        if found.account() != account {
             return false;
         }
-        found.look(reader);
-        true
+        // Called for the facts that it proves: the account is the replay of its journal, with the rules and the name that K names.
+        found.shows_counts();
+        found.look(reader)
     }
 }

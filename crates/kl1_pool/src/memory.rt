@@ -2,11 +2,11 @@
 
 ghost use Rattle.std.specs.Prelude.{◌≡◌, ◌+◌, ◌*◌, ◌-◌, ◌^◌, min};
 ghost use Rattle.kl1_command.specs.Commands.{command_view};
-ghost use Rattle.kl1_pool.specs.Memory.{bytes_in, takes_memory};
+ghost use Rattle.kl1_pool.specs.Memory.{bytes_in, takes_memory, reserve_of, bound_of, turn_bound};
 
-use kl1_command::Command;
+use kl1_command::{Command, Performed};
 use kl1_journal_entries::is_entry;
-use kl1_user_events::Usage;
+use kl1_user_events::{Event, Reply, Usage};
 
 // Measured on 2026-11-27 with `kl1_run --stats` by the fourth rules: the difference of the most resident bytes of two runs, of which the one
 // did 50,000 to 2,000,000 rounds more of one clause than the other. In the store a goal, and a structure, takes 16 bytes, 24 for each
@@ -55,6 +55,47 @@ pub fn bytes_of(usage: &Usage, steps: u64) -> u64
     let reports = add_counted(structures, usage.reports.count, REPORT_BYTES);
     let entries = add_counted(reports, usage.entries.count, ENTRY_BYTES);
     add_counted(entries, steps, STEP_BYTES)
+}
+
+/// The bytes beyond what an account may take that are kept for commands by which it comes to take less, or to stand, or an exception is
+/// answered: some hundreds of them.
+pub const RESERVED_BYTES: u64 = 32_768;
+
+/// The bytes beyond what an account may take that the turn after such a command may find: what the last one took that found room is among them.
+pub const TURN_RESERVED_BYTES: u64 = 65_536;
+
+/// How many bytes beyond what its account may take a command may find.
+pub(crate) fn reserve_of(command: &Command) -> u64
+    ensures { result ≡ reserve_of (command_view command.now) }
+{
+    match command {
+        Command::Does(Event::Control { .. }) => RESERVED_BYTES,
+        Command::Does(Event::Answer { .. }) => RESERVED_BYTES,
+        _ => 0,
+    }
+}
+
+/// The most bytes that an account takes to which a command is done that takes memory, if accounts may take `most`.
+pub(crate) fn bound_of(most: u64, command: &Command) -> u64
+    ensures { result ≡ bound_of most (command_view command.now) }
+{
+    most.saturating_add(reserve_of(command))
+}
+
+/// The most bytes that an account takes before a turn, which is a short one or not, if accounts may take `most`.
+pub(crate) fn turn_bound(most: u64, is_short: bool) -> u64
+    ensures { result ≡ turn_bound most is_short }
+{
+    if is_short {
+        most.saturating_add(TURN_RESERVED_BYTES)
+    } else {
+        most
+    }
+}
+
+/// Whether a command that was answered so is a message to a shoen or an answer to an exception that was accepted.
+pub(crate) fn was_sent(performed: &Performed) -> bool {
+    matches!(performed, Performed::Whole(Reply::Sent))
 }
 
 /// Whether a command may make an account take more bytes: each that may add an entry to its journal.

@@ -1,8 +1,9 @@
 // An account with its book.
 
+mod ticket;
 mod viewing;
 
-ghost use Rattle.std.specs.Prelude.{◌≡◌, ◌<◌, ◌≤◌, ◌^◌, ◌&&◌, if◌then◌else◌, [], Some, slice_get, IfOk, IsOk, IsTrue, OnErr, true, false, not, option_map};
+ghost use Rattle.std.specs.Prelude.{◌≡◌, ◌<◌, ◌≤◌, ◌^◌, [], Some, None, slice_get, IfOk, IsOk, IsTrue, OnErr, false, option_map};
 ghost use Rattle.kl1_model.specs.Event.{reduce as reduce_event, refused, journal_full};
 ghost use Rattle.kl1_model.specs.State.{has_runs};
 ghost use Rattle.kl1_model.specs.Choice.{first, quiet};
@@ -26,22 +27,26 @@ use crate::totals_before_reset::TotalsBeforeReset;
 use kl1_codes::SharedCodes;
 use kl1_journal::JournaledAccount;
 use kl1_journal_entries::Journal;
+use kl1_journal_stamps::ShownHistory;
 use kl1_pool_tickets::{Booked, Share};
 use kl1_tally::{BookSeat, Tally};
 use kl1_user_events::{ClauseNo, Event, GoalNo, Listed, Refusal, Reply};
 use std::alloc::AllocError;
 use std::marker::{Model, PhantomData};
 use std::sync::Wait;
+pub(crate) use ticket::DueTicket;
 pub use viewing::BookTotals;
 
-/// An account with its journal and its book; what its journals counted that resets ended; and whether its ticket is out. What a book
-/// tells is always what was counted before the last reset and the events that the journal's entries are.
+/// An account with its journal and its book; what its journals counted that resets ended; whether its ticket is out; and which of its
+/// journals were shown. What a book tells is always what was counted before the last reset and the events that the journal's entries are.
+/// The journal comes after each that was shown.
 #[derive(Drop)]
 pub struct PoolAccount<'t, R: Wait, K: PoolIds> {
     kept: JournaledAccount<NamedAtoms<'t, K>, SharedCodes<'t, R>>,
     book: BookSeat,
     past: TotalsBeforeReset,
     is_out: bool,
+    shown: ShownHistory,
     of: PhantomData<K>,
 }
 
@@ -52,6 +57,7 @@ impl<'t, R: Wait, K: PoolIds> Model for PoolAccount<'t, R, K> {
     ghost use Rattle.kl1_atoms.specs.Seats.{face_in, IsSharedSeat};
     ghost use Rattle.kl1_codes.specs.Numbered.{numbered_code, ArePlaced};
     ghost use Rattle.kl1_journal_entries.specs.Codes.{journal_code};
+    ghost use Rattle.kl1_journal_stamps.specs.Stamps.{MayFollow};
     ghost use Rattle.kl1_pool.specs.PoolAccounts.{PoolAccountValue, StandsIn};
     ghost use Rattle.kl1_pool.specs.Counted.{IsCounted};
 
@@ -61,14 +67,15 @@ impl<'t, R: Wait, K: PoolIds> Model for PoolAccount<'t, R, K> {
 
     ghost view = { λ c. record { held = c.kept.1; book = c.book; past = c.past; is_out = c.is_out } };
 
-    ghost invariant = { λ c. IsSharedSeat K.table c.kept.0.badge.table_id K.seats (face_in c.kept.0.badge.views) c.kept.0.account × ArePlaced (StandsIn K.codes) c.kept.1.0.modules × (c.book.tally ≡ K.tally) × (c.book.account < MOST_ACCOUNTS) × IsCounted c.past c.kept.1.1 c.book × (c.kept.1.0.rules ≡ K.rules) × (slice_get K.names c.book.account ≡ Some c.kept.1.0.own_name) };
+    ghost invariant = { λ c. IsSharedSeat K.table c.kept.0.badge.table_id K.seats (face_in c.kept.0.badge.views) c.kept.0.account × ArePlaced (StandsIn K.codes) c.kept.1.0.modules × (c.book.tally ≡ K.tally) × (c.book.account < MOST_ACCOUNTS) × IsCounted c.past c.kept.1.1 c.book × (c.kept.1.0.rules ≡ K.rules) × (slice_get K.names c.book.account ≡ Some c.kept.1.0.own_name) × (slice_get K.histories c.book.account ≡ Some c.shown.history) × MayFollow c.shown.last c.past.events c.kept.1.1 };
 }
 
 impl<'t, R: Wait, K: PoolIds> PoolAccount<'t, R, K> {
-    /// An account whose journal has no entries, with a new book; no ticket of it is out.
+    /// An account whose journal has no entries, with a new book, of which no journal was shown; no ticket of it is out.
     pub fn new(
         kept: JournaledAccount<NamedAtoms<'t, K>, SharedCodes<'t, R>>,
         book: BookSeat,
+        shown: ShownHistory,
     ) -> Self
         requires seat { IsSharedSeat K.table kept.0.badge.table_id K.seats (face_in kept.0.badge.views) kept.0.account }
         requires modules { ArePlaced (StandsIn K.codes) kept.1.0.modules }
@@ -76,6 +83,7 @@ impl<'t, R: Wait, K: PoolIds> PoolAccount<'t, R, K> {
         requires book { IsNewBook K.tally book }
         requires rules { kept.1.0.rules ≡ K.rules }
         requires name { slice_get K.names book.account ≡ Some kept.1.0.own_name }
+        requires shown { (slice_get K.histories book.account ≡ Some shown.history) × (shown.last ≡ None) }
         ensures held { result.held ≡ kept.entry.1 }
         ensures book { result.book ≡ book }
         ensures past { result.past ≡ no_past }
@@ -89,6 +97,7 @@ impl<'t, R: Wait, K: PoolIds> PoolAccount<'t, R, K> {
                 steps: 0,
             },
             is_out: false,
+            shown,
             of: PhantomData,
         }
     }
@@ -228,19 +237,6 @@ impl<'t, R: Wait, K: PoolIds> PoolAccount<'t, R, K> {
         ensures { result ≡ room_in self.now.book }
     {
         MOST_EVENTS - self.book.events()
-    }
-
-    /// Whether a ticket of the account is to be put, which from then on counts as out: the account isn't quiet, and no ticket was
-    /// out.
-    pub fn wants_ticket(&mut self) -> bool
-        ensures wants { (f : Reading) → Fits self.new.held.0.names f → result ≡ (not self.old.is_out && not (quiet (kept_of f self.new.held).state)) }
-        ensures new { self.new ≡ record self.old { is_out = (if result then true else self.old.is_out) } }
-    {
-        if self.is_out || self.kept.quiet() {
-            return false;
-        }
-        self.is_out = true;
-        true
     }
 
     /// Notes that no ticket of the account is out.

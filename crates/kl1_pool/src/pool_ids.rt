@@ -5,12 +5,14 @@ ghost use Rattle.atomic_table.specs.Seated.{TableId};
 ghost use Rattle.boxcar.specs.Table.{Shelves};
 ghost use Rattle.kl1_model.specs.declared.rules.Rules.{Rules};
 
+use kl1_journal_stamps::ShownIds;
 use kl1_pool_tickets::TicketIds;
 use std::marker::Brand;
 
-/// Which table of names and which table of codes the accounts of a pool have, beside what `TicketIds` names; for how many accounts that
-/// table of names was made; and which rules the accounts keep to, and what they are called, in the order of their numbers.
-pub trait PoolIds: TicketIds {
+/// Which table of names and which table of codes the accounts of a pool have, beside what `TicketIds` and `ShownIds` name; for how many accounts that
+/// table of names was made; which rules the accounts keep to, and what they are called, in the order of their numbers; and how many bytes each
+/// may take.
+pub trait PoolIds: TicketIds + ShownIds {
     ghost table: { TableId };
 
     ghost seats: { ℕ };
@@ -20,6 +22,8 @@ pub trait PoolIds: TicketIds {
     ghost rules: { Rules };
 
     ghost names: { List (List ℕ) };
+
+    ghost most_bytes: { ℕ };
 }
 
 impl PoolIds for Brand {
@@ -38,4 +42,6 @@ impl PoolIds for Brand {
     ghost rules = { One };
 
     ghost names = { [] };
+
+    ghost most_bytes = { 0 };
 }

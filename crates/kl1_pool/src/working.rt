@@ -24,7 +24,7 @@ impl<'p, 't, G: Gate, R: Wait, K: PoolIds> Accounts<K> for AtWork<'p, 't, G, R, 
     ghost use Rattle.std.specs.Prelude.{slice_get};
     ghost use Rattle.kl1_pool.specs.Stepping.{IsTurn};
 
-    ghost turned = { λ account slice _ _. IsTurn K.rules (slice_get K.names account) slice };
+    ghost turned = { λ account slice _ _. IsTurn K.rules (slice_get K.names account) K.most_bytes slice };
 
     fn turn<W: Wait>(&self, rt: &W, account: usize, share: &mut Share<K>) -> TimeSlice {
         self.pool.turn(rt, self.gate, self.number, account, share)
@@ -44,7 +44,7 @@ pub fn worker<'t, G: Gate, R: Wait, K: PoolIds, W: Wait>(
     number: u64,
     share: &mut Share<K>,
 )
-    ensures tickets { ServesTickets (λ account slice _ _. IsTurn K.rules (slice_get K.names account) slice) share.old share.new }
+    ensures tickets { ServesTickets (λ account slice _ _. IsTurn K.rules (slice_get K.names account) K.most_bytes slice) share.old share.new }
     ensures worked { Worked share.old share.new }
 {
     kl1_pool_tickets::worker(rt, &pool.common, &AtWork { pool, gate, number }, share)

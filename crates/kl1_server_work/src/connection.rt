@@ -5,12 +5,14 @@ ghost use Rattle.kl1_session.specs.Files.{found};
 ghost use Rattle.kl1_session.specs.Views.{entries_view};
 ghost use Rattle.kl1_session.specs.Conversations.{Done};
 ghost use Rattle.kl1_session.specs.Connections.{Serves};
+ghost use Rattle.kl1_pool_history.specs.Histories.{AreAnswered};
 ghost use Rattle.kl1_server_work.specs.declared.connection.TheConstants.{PIECE};
 
 use crate::pool_handler::PoolHandler;
 use kl1_lines::{FailureCounter, Sink, Source};
 use kl1_pool::{Pool, PoolIds, Share};
-use kl1_session::{Disconnect, History, Key, Keys};
+use kl1_pool_history::History;
+use kl1_session::{Disconnect, Key, Keys};
 use std::alloc::Global;
 use std::net::TcpStream;
 use std::sync::Wait;
@@ -22,7 +24,8 @@ pub(crate) const PIECE: usize = 4_096;
 /// How long a connection may be silent, in seconds: after that its read fails, and its session is closed.
 const MOST_SILENT_SECONDS: u64 = 3_600;
 
-/// Serves one connection, of the accounts of a pool with these keys.
+/// Serves one connection, of the accounts of a pool with these keys, and gives the share back. Each command that is answered is done once,
+/// by the account that was logged in to, and is counted in the share.
 pub fn serve<'t, S: Source, T: Sink, R: Wait, K: PoolIds>(
     rt: &R,
     alloc: Global,
@@ -30,26 +33,27 @@ pub fn serve<'t, S: Source, T: Sink, R: Wait, K: PoolIds>(
     sink: &mut T,
     pool: &Pool<'t, R, K>,
     keys: &[Key],
-    share: &mut Share<K>,
-) -> Disconnect
+    share: Share<K>,
+) -> (Disconnect, Share<K>)
     requires { length keys.now ≤ K.accounts }
-    ensures { (done : List Done) × Serves (found (entries_view keys.now)) PIECE result (S.remaining source.old) (S.remaining source.new) (T.contents sink.old) (T.contents sink.new) [] done }
+    ensures { (done : List Done) × Serves (found (entries_view keys.now)) PIECE result.0 (S.remaining source.old) (S.remaining source.new) (T.contents sink.old) (T.contents sink.new) [] done × AreAnswered K.rules K.names done share result.1 }
 {
     let mut handler = PoolHandler {
         rt,
         pool,
-        share,
-        history: History::new(),
+        history: History::new(share),
     };
     let mut buffer = [0u8; PIECE];
-    kl1_session::serve(
+    let served = kl1_session::serve(
         alloc,
         source,
         sink,
         &mut handler,
         &mut Keys { keys },
         &mut buffer,
-    )
+    );
+    let PoolHandler { history, .. } = handler;
+    (served, history.into_share())
 }
 
 /// Serves one connection over a socket, and gives the share back.
@@ -63,12 +67,11 @@ pub(crate) fn serve_stream<'t, R: Wait, K: PoolIds>(
 ) -> Share<K>
     requires { length keys.now ≤ K.accounts }
 {
-    let mut share = share;
     // Replies go out at once, and a peer that is gone holds no session for good. A socket that can't do this serves all the same.
     let _ = stream.set_nodelay(true);
     let _ = stream.set_read_timeout(Some(Duration::from_secs(MOST_SILENT_SECONDS)));
     let mut source = FailureCounter::new(&stream);
     let mut sink = FailureCounter::new(&stream);
-    let _ = serve(rt, alloc, &mut source, &mut sink, pool, keys, &mut share);
+    let (_, share) = serve(rt, alloc, &mut source, &mut sink, pool, keys, share);
     share
 }

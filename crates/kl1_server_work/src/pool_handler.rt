@@ -1,31 +1,31 @@
 // A pool as what does the commands of one connection.
 
-ghost use Rattle.kl1_session.specs.Histories.{done_in};
-
 use kl1_command::{Command, Performed};
-use kl1_pool::{Pool, PoolIds, Share};
-use kl1_session::{CommandHandler, History};
+use kl1_pool::{Pool, PoolIds};
+use kl1_pool_history::History;
+use kl1_session::CommandHandler;
 use std::sync::Wait;
 
-/// A pool with the share of one connection, and what was done for it.
+/// A pool, and what was done for one connection.
 #[derive(Drop)]
 pub struct PoolHandler<'p, 't, R: Wait, K: PoolIds> {
     pub rt: &'p R,
     pub pool: &'p Pool<'t, R, K>,
-    pub share: &'p mut Share<K>,
-    pub history: History,
+    pub history: History<K>,
 }
 
 impl<'p, 't, R: Wait, K: PoolIds> CommandHandler for PoolHandler<'p, 't, R, K> {
+    ghost use Rattle.kl1_pool_tickets.specs.Counts.{Counts};
+
     ghost accounts = { λ handler. K.accounts };
 
-    ghost done = { λ handler. done_in handler.history };
+    ghost done = { λ handler. handler.history.done };
+
+    ghost Beside = { Counts };
+
+    ghost beside = { λ handler. handler.history.begun };
 
     fn act(&mut self, account: usize, command: &Command) -> Performed {
-        let answer = self.pool.act(self.rt, account, command, self.share);
-        // What is noted is what the answer says of itself, not what was asked for.
-        let (performed, done_to, done) = answer.into_parts();
-        self.history.add(done_to, done, &performed);
-        performed
+        self.history.act(self.rt, self.pool, account, command)
     }
 }

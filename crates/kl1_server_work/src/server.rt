@@ -54,7 +54,9 @@ where
     R: Net<Listener = TcpListener, Stream = TcpStream> + Threads + Wait + Sync,
     requires tables { (parts.table ≡ K.table) × (parts.seats ≡ K.seats) × (parts.codes ≡ K.codes) }
     requires names { (parts.rules ≡ K.rules) × (parts.names ≡ K.names) }
+    requires bound { parts.most_bytes ≡ K.most_bytes }
     requires tickets { (parts.tally ≡ K.tally) × (parts.queue ≡ K.queue) × (parts.accounts ≡ K.accounts) × (parts.shares ≡ K.shares) }
+    requires shown { parts.histories ≡ K.histories }
     requires keys { length keys.now ≤ parts.accounts }
 {
     let (pool, shares) = Pool::<R, K>::new(rt, alloc, parts)?;

@@ -9,4 +9,3 @@ pub mod ActionViews
 pub mod Replies
 pub mod Conversations
 pub mod Connections
-pub mod Histories

@@ -18,10 +18,17 @@ pub trait CommandHandler {
     /// What was done, in order, with what was answered.
     ghost done: { Self → List Done };
 
+    /// What a handler has beside what was done.
+    ghost Beside: { Type 0 };
+
+    /// What a handler has beside what was done, which no command changes.
+    ghost beside: { Self → Beside };
+
     /// Does a command to the account of this number, from 0.
     fn act(&mut self, account: usize, command: &Command) -> Performed
         requires { account < accounts self.old }
         ensures accounts { accounts self.new ≡ accounts self.old }
+        ensures beside { beside self.new ≡ beside self.old }
         ensures done { done self.new ≡ done self.old ++ record { account = account; command = command_view command.now; answer = result } ∷ [] };
 }
 

@@ -65,6 +65,7 @@ pub fn serve<S: Source, T: Sink, D: CommandHandler, K: Door>(
 ) -> Disconnect
     requires { K.accounts door.old ≤ D.accounts handler.old }
     ensures accounts { D.accounts handler.new ≡ D.accounts handler.old }
+    ensures beside { D.beside handler.new ≡ D.beside handler.old }
     ensures keys { K.accounts door.new ≡ K.accounts door.old }
     ensures opens { K.opens door.new ≡ K.opens door.old }
     ensures serves { Serves (K.opens door.old) (length buffer.old) result (S.remaining source.old) (S.remaining source.new) (T.contents sink.old) (T.contents sink.new) (D.done handler.old) (D.done handler.new) }
@@ -93,6 +94,7 @@ fn converse<S: Source, T: Sink, D: CommandHandler, K: Door>(
     requires handler { K.accounts door.old ≤ D.accounts handler.old }
     requires fresh { (state.old.account ≡ None) × (state.old.replies.items ≡ []) }
     ensures handler { D.accounts handler.new ≡ D.accounts handler.old }
+    ensures beside { D.beside handler.new ≡ D.beside handler.old }
     ensures keys { K.accounts door.new ≡ K.accounts door.old }
     ensures opens { K.opens door.new ≡ K.opens door.old }
     ensures visitor { IsVisitor (K.accounts door.new) state.new.account }
@@ -123,6 +125,7 @@ fn serve_piece<S: Source, T: Sink, D: CommandHandler, K: Door>(
     requires empty { state.old.replies.items ≡ [] }
     requires quiet { inputs session.old ≡ [] }
     ensures handler { D.accounts handler.new ≡ D.accounts handler.old }
+    ensures beside { D.beside handler.new ≡ D.beside handler.old }
     ensures keys { K.accounts door.new ≡ K.accounts door.old }
     ensures opens { K.opens door.new ≡ K.opens door.old }
     ensures visitor { IsVisitor (K.accounts door.new) state.new.account }
@@ -156,6 +159,7 @@ fn answer_piece<T: Sink, D: CommandHandler, K: Door>(
     requires handler { K.accounts door.old ≤ D.accounts handler.old }
     requires visitor { IsVisitor (K.accounts door.old) state.old.account }
     ensures handler { D.accounts handler.new ≡ D.accounts handler.old }
+    ensures beside { D.beside handler.new ≡ D.beside handler.old }
     ensures keys { K.accounts door.new ≡ K.accounts door.old }
     ensures opens { K.opens door.new ≡ K.opens door.old }
     ensures visitor { IsVisitor (K.accounts door.new) state.new.account }
@@ -185,6 +189,7 @@ fn answer_all<T: Sink, D: CommandHandler, K: Door>(
     requires handler { K.accounts door.old ≤ D.accounts handler.old }
     requires visitor { IsVisitor (K.accounts door.old) state.old.account }
     ensures handler { D.accounts handler.new ≡ D.accounts handler.old }
+    ensures beside { D.beside handler.new ≡ D.beside handler.old }
     ensures keys { K.accounts door.new ≡ K.accounts door.old }
     ensures opens { K.opens door.new ≡ K.opens door.old }
     ensures visitor { IsVisitor (K.accounts door.new) state.new.account }
@@ -212,6 +217,7 @@ fn answer_next<T: Sink, D: CommandHandler, K: Door>(
     requires handler { K.accounts door.old ≤ D.accounts handler.old }
     requires visitor { IsVisitor (K.accounts door.old) state.old.account }
     ensures handler { D.accounts handler.new ≡ D.accounts handler.old }
+    ensures beside { D.beside handler.new ≡ D.beside handler.old }
     ensures keys { K.accounts door.new ≡ K.accounts door.old }
     ensures opens { K.opens door.new ≡ K.opens door.old }
     ensures visitor { IsVisitor (K.accounts door.new) state.new.account }
@@ -278,6 +284,7 @@ fn answer<D: CommandHandler, K: Door>(
     requires handler { K.accounts door.old ≤ D.accounts handler.old }
     requires visitor { IsVisitor (K.accounts door.old) state.old.account }
     ensures handler { D.accounts handler.new ≡ D.accounts handler.old }
+    ensures beside { D.beside handler.new ≡ D.beside handler.old }
     ensures keys { K.accounts door.new ≡ K.accounts door.old }
     ensures opens { K.opens door.new ≡ K.opens door.old }
     ensures visitor { IsVisitor (K.accounts door.new) state.new.account }
@@ -313,6 +320,7 @@ fn perform<D: CommandHandler>(
 ) -> Result<bool, AllocError>
     requires { account < D.accounts handler.old }
     ensures handler { D.accounts handler.new ≡ D.accounts handler.old }
+    ensures beside { D.beside handler.new ≡ D.beside handler.old }
     ensures visitor { state.new.account ≡ state.old.account }
     ensures takes { Takes (perform account (command_view command.now)) result (D.done handler.old) (D.done handler.new) state.old state.new }
 {
@@ -328,6 +336,7 @@ fn log_in<D: CommandHandler>(
 ) -> Result<bool, AllocError>
     requires { account < D.accounts handler.old }
     ensures handler { D.accounts handler.new ≡ D.accounts handler.old }
+    ensures beside { D.beside handler.new ≡ D.beside handler.old }
     ensures visitor { (n : ℕ) → account < n → IsVisitor n state.old.account → IsVisitor n state.new.account }
     ensures takes { Takes (log_in account) result (D.done handler.old) (D.done handler.new) state.old state.new }
 {
@@ -347,6 +356,7 @@ fn log_out<D: CommandHandler>(
 ) -> Result<bool, AllocError>
     requires { account < D.accounts handler.old }
     ensures handler { D.accounts handler.new ≡ D.accounts handler.old }
+    ensures beside { D.beside handler.new ≡ D.beside handler.old }
     ensures visitor { (n : ℕ) → IsVisitor n state.old.account → IsVisitor n state.new.account }
     ensures takes { Takes (log_out account) result (D.done handler.old) (D.done handler.new) state.old state.new }
 {

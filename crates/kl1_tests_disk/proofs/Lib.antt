@@ -1,1 +1,2 @@
 pub mod FilesOfKeys
+pub mod Growings

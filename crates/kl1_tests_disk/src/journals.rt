@@ -1,6 +1,7 @@
 // Checks of the journals of a host over files in memory: what waits, who writes, and replies that wait for it.
 
 mod failing;
+mod growing;
 mod opened;
 mod shelf;
 mod waiting;

@@ -17,6 +17,7 @@ use crate::report::Report;
 use std::alloc::Global;
 use std::io;
 use std::rt::Files;
+use std::time::Clock;
 
 /// Puts the line on a check of files in a folder.
 fn put_file_check(report: &mut Report, name: &[u8], done: io::Result<bool>) {
@@ -24,7 +25,7 @@ fn put_file_check(report: &mut Report, name: &[u8], done: io::Result<bool>) {
 }
 
 /// Puts the lines on files in a folder.
-fn put_file_checks<R: Files>(report: &mut Report, rt: &R, alloc: Global) {
+fn put_file_checks<R: Files + Clock>(report: &mut Report, rt: &R, alloc: Global) {
     put_file_check(
         report,
         b"file_that_is_cut_at_each_byte_is_restored_and_goes_on",
@@ -48,7 +49,7 @@ fn put_file_checks<R: Files>(report: &mut Report, rt: &R, alloc: Global) {
 }
 
 /// Puts the line on each check.
-pub(crate) fn put_checks<R: Files>(report: &mut Report, rt: &R, alloc: Global) {
+pub(crate) fn put_checks<R: Files + Clock>(report: &mut Report, rt: &R, alloc: Global) {
     report.put(
         b"journal_cut_at_each_byte_leaves_the_whole_lines",
         cut_at_each_byte_leaves_the_whole_lines(alloc),

@@ -1,4 +1,4 @@
-use Rattle.kl1_log.proofs.Growing.{events_grow, growth_begins, growth_goes_on}
+use Rattle.kl1_journal_stamps.proofs.Growing.{events_grow, growth_begins, growth_goes_on}
 use Rattle.kl1_log.proofs.journals_grow.Goals as goal
 
 pub returns-clause-events : goal.returns-clause-events

@@ -1,11 +1,9 @@
 -- What holds of a journal's file: of its fronts, of what is read from them, and of how journals grow.
 use Rattle.std.specs.Prelude.{◌≡◌, ◌≤◌, ℕ, List, ◌++◌, length, take, Some, IsTrue}
-use Rattle.kl1_model.specs.Event.{Event, reset}
-use Rattle.kl1_model_server.specs.Journal.{Journal, replay, Kept, done}
-use Rattle.kl1_model_server.specs.laws.HistoryLaws.{IsReplay}
+use Rattle.kl1_model_server.specs.Journal.{Journal, replay}
 use Rattle.kl1_model_server.specs.laws.TextLaws.{is_unbroken, IsWritten}
 use Rattle.kl1_log.specs.Deeds.{deeds_of, account_after, SaysSame, file_in}
-use Rattle.kl1_log.specs.Later.{IsLater}
+pub use Rattle.kl1_journal_stamps.specs.laws.GrowthLaws.{EventsGrow, GrowthGoesOn, GrowthBegins}
 use Rattle.kl1_log.specs.Cuts.{recovered, file_text, opening_text, front_of}
 
 -- A journal's file that is cut at any byte after its opening: there is recovered a front of the journal, with each entry whose line is whole.
@@ -27,15 +25,3 @@ AppendsAreFronts =
 -- The replay of a front is the account after so many deeds: so is that of a whole journal, whose runs may stand in pieces.
 abbrev pub ReplaysOfFronts : Type 0
 ReplaysOfFronts = (name : List ℕ) (j k : Journal) (m : ℕ) → SaysSame j k → replay name (record (front_of j m) { sessions = 0 }) ≡ account_after name k (length (deeds_of (front_of j m).entries))
-
--- Each event but a reset makes a journal grow, or leaves it.
-abbrev pub EventsGrow : Type 0
-EventsGrow = (k : Kept) (e : Event) → IsReplay k → (e ≡ reset → ⊥) → IsLater k.journal (done k e).kept.journal
-
--- Growing goes on.
-abbrev pub GrowthGoesOn : Type 0
-GrowthGoesOn = (i j k : Journal) → IsLater i j → IsLater j k → IsLater i k
-
--- A journal has grown into itself.
-abbrev pub GrowthBegins : Type 0
-GrowthBegins = (j : Journal) → IsLater j j

@@ -1,14 +1,16 @@
 // What is shown of an account with its book.
 
-ghost use Rattle.std.specs.Prelude.{◌≡◌, nat_lt, slice_get, IfOk, IsTrue, option_map};
+ghost use Rattle.std.specs.Prelude.{◌≡◌, [], nat_lt, Some, slice_get, IfOk, IsTrue, false, option_map};
 ghost use Rattle.kl1_command.specs.Commands.{command_view};
 ghost use Rattle.kl1_journal.specs.Keeping.{Reading, Fits, kept_of};
+ghost use Rattle.kl1_journal_stamps.specs.Stamps.{StampValue};
 ghost use Rattle.kl1_user_events.specs.Viewing.{shoen_page, goal_page, goal_text, goal_term, AreAwaited, IsPresence, usage_of};
 ghost use Rattle.kl1_pool.specs.Counted.{reduces_in};
-ghost use Rattle.kl1_pool.specs.Memory.{bytes_taken, IsBeyond};
+ghost use Rattle.kl1_pool.specs.Memory.{bytes_taken, IsBeyond, IsWithin, IsWithinTurn};
 ghost use Rattle.kl1_pool.specs.Showing.{IsFound};
 
-use crate::memory::{bytes_of, takes_memory};
+use crate::looking::JournalReader;
+use crate::memory::{bound_of, bytes_of, takes_memory, turn_bound};
 use crate::named_atoms::NamedAtoms;
 use crate::pool_account::PoolAccount;
 use crate::pool_ids::PoolIds;
@@ -123,13 +125,47 @@ impl<'t, R: Wait, K: PoolIds> PoolAccount<'t, R, K> {
         self.bytes() > most
     }
 
-    /// Whether the account takes more bytes than `most`, and a command may make it take more.
+    /// Whether a command may make the account take more bytes, and it takes more than the command may find: `most`, and those that are kept
+    /// for it.
     pub(crate) fn is_beyond(&self, most: u64, command: &Command) -> bool
-        ensures { IsTrue result → IsBeyond most self.now (command_view command.now) }
+        ensures beyond { IsTrue result → IsBeyond most self.now (command_view command.now) }
+        ensures within { result ≡ false → IsWithin most self.now (command_view command.now) }
     {
         if !takes_memory(command) {
             return false;
         }
-        self.is_over(most)
+        self.is_over(bound_of(most, command))
+    }
+
+    /// Whether the account may have a turn, which is a short one or not, if it may take `most` bytes.
+    pub(crate) fn may_turn(&self, most: u64, is_short: bool) -> bool
+        ensures { IsTrue result → IsWithinTurn most is_short self.now }
+    {
+        !self.is_over(turn_bound(most, is_short))
+    }
+
+    /// Whether the journal has no entries.
+    pub(crate) fn has_no_entries(&self) -> bool
+        ensures { IsTrue result → self.now.held.1.entries ≡ [] }
+    {
+        let mut entries = self.lent_journal().entries();
+        entries.next().is_none()
+    }
+
+    /// Lets a reader read the journal, and how many events were counted before the last reset. Answers whether it did: it didn't if
+    /// the history of the account has other journals, which never is so.
+    pub fn look<L: JournalReader>(&mut self, reader: &mut L) -> bool
+        requires { (s : StampValue) → slice_get K.histories self.old.book.account ≡ Some s.history → L.takes reader.old s }
+        ensures same { self.new ≡ self.old }
+        ensures seen { IsTrue result → L.reads reader.old reader.new self.old.held.1 self.old.past.events }
+        ensures none { result ≡ false → reader.new ≡ reader.old }
+    {
+        let ended = self.past.events;
+        let journal = self.kept.lent_journal();
+        let Some(stamp) = self.shown.show(journal, ended) else {
+            return false;
+        };
+        reader.read(journal, ended, &stamp);
+        true
     }
 }

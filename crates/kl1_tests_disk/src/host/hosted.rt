@@ -25,7 +25,9 @@ pub(crate) fn setup() -> Setup {
         connections: 4,
         limits: Limits {
             each: 4,
+            waiting_each: 4,
             idle: Duration::from_secs(30),
+            idle_login: Duration::from_secs(30),
         },
         syncing: Syncing {
             replies_wait: true,
@@ -33,6 +35,7 @@ pub(crate) fn setup() -> Setup {
         },
         codes_each: 1_000,
         memory_each: u64::MAX,
+        disk_each: u64::MAX,
     }
 }
 
@@ -63,11 +66,7 @@ fn accounts_of(
         };
         let disk = Memory::new(alloc, Vec::from_slice(alloc, text)?, left);
         match open_file(alloc, disk, Rules::Four, false) {
-            Ok((file, opened)) => accounts.push(AccountFile {
-                name,
-                file,
-                journal: opened.journal,
-            })?,
+            Ok(opened) => accounts.push(AccountFile { name, opened })?,
             Err(fault) => return Err(StartFault::Unopened { account, fault }),
         }
     }

@@ -64,7 +64,9 @@ where
     let setup = Setup {
         limits: Limits {
             each: 1,
+            waiting_each: 1,
             idle: Duration::from_secs(30),
+            idle_login: Duration::from_secs(30),
         },
         ..setup()
     };

@@ -1,11 +1,16 @@
 // Files when a host starts.
 
-use crate::journals::shelf::{ENOUGH, FRESH, journal_of, linked, on_disk};
-use crate::sums::file_of;
-use kl1_host_journals::{OpenFault, link, open_file};
+ghost use Rattle.std.specs.Prelude.{◌≡◌, Some, slice_get};
+ghost use Rattle.kl1_host_journals.specs.FreshHistories.{books_of};
+
+use crate::journals::growing::NewAccount;
+use crate::journals::shelf::{ENOUGH, FRESH, bytes_on_disk, linked};
+use crate::sums::{file_of, text_in};
+use kl1_host_journals::{Naming, OpenFault, open_file};
 use kl1_log::Memory;
 use kl1_model::Rules;
 use std::alloc::{AllocError, Global};
+use std::marker::Brand;
 
 /// What a file costs that is opened and linked, and is that of its journal: a read, a cut, two reads, an append of no bytes, a sync.
 const OPENED_AND_LINKED: usize = 6;
@@ -17,12 +22,48 @@ const IN_PIECES: &[u8] = b"journal 4 0 0\nrun 2\nrun 3\n";
 fn opened(alloc: Global, bytes: &[u8], repair: bool) -> Result<(usize, u64, u64), AllocError> {
     let disk = Memory::new(alloc, Vec::from_slice(alloc, bytes)?, ENOUGH);
     match open_file(alloc, disk, Rules::Four, repair) {
-        Ok((_, opened)) => {
-            let lines = opened.journal.text_lines(alloc)?.len();
-            Ok((lines, opened.repaired.unwrap_or(0), 0))
+        Ok(opened) => {
+            let lines = opened.journal().text_lines(alloc)?.len();
+            Ok((lines, opened.repaired().unwrap_or(0), 0))
         }
         Err(OpenFault::Line(line)) => Ok((0, 0, line)),
         Err(OpenFault::Failed(_)) => Err(AllocError),
+    }
+}
+
+/// The bytes on the disk of a file with these, once it was opened and linked with the journal of a text, as that of account 3. None if a call
+/// of it failed.
+fn linked_as<J: Naming>(
+    alloc: Global,
+    bytes: &[u8],
+    text: &[u8],
+    left: usize,
+    start: NewAccount,
+) -> Result<Option<Vec<u8>>, AllocError>
+    requires books { books_of start.fresh ≡ J.books 3 }
+    requires history { slice_get J.histories 3 ≡ Some start.shown.history }
+{
+    match linked::<J>(alloc, 3, bytes, text, left, start)? {
+        Some((linked, _journal)) => Ok(Some(bytes_on_disk(&linked.file)?)),
+        None => Ok(None),
+    }
+}
+
+/// Like `linked_as`, with a new history.
+fn linked_bytes(
+    alloc: Global,
+    bytes: &[u8],
+    text: &[u8],
+    left: usize,
+) -> Result<Option<Vec<u8>>, AllocError> {
+    linked_as::<Brand>(alloc, bytes, text, left, NewAccount::new())
+}
+
+/// Whether a file with these bytes has the journal of a text on its disk, once it was linked with that.
+fn is_linked(alloc: Global, bytes: &[u8], text: &[u8]) -> Result<bool, AllocError> {
+    match linked_bytes(alloc, bytes, text, ENOUGH)? {
+        Some(found) => Ok(text_in(alloc, found)?.as_slice() == text),
+        None => Ok(false),
     }
 }
 
@@ -31,10 +72,7 @@ pub(crate) fn file_without_bytes_begins_an_account(alloc: Global) -> Result<bool
     if opened(alloc, b"", false)? != (1, 0, 0) {
         return Ok(false);
     }
-    match linked(alloc, 3, b"", ENOUGH)? {
-        Some(linked) => Ok(on_disk(alloc, &linked.file)?.as_slice() == FRESH),
-        None => Ok(false),
-    }
+    is_linked(alloc, b"", FRESH)
 }
 
 /// Bytes after the last line feed are no line.
@@ -44,13 +82,7 @@ pub(crate) fn torn_line_is_cut(alloc: Global) -> Result<bool, AllocError> {
     }
     let mut file = file_of(alloc, b"journal 4 0 0\nrun 3\n")?;
     file.extend_from_slice(b"run 4")?;
-    match linked(alloc, 3, file.as_slice(), ENOUGH)? {
-        Some(linked) => {
-            let bytes = on_disk(alloc, &linked.file)?;
-            Ok(bytes.as_slice() == b"journal 4 0 0\nrun 3\n".as_slice())
-        }
-        None => Ok(false),
-    }
+    is_linked(alloc, file.as_slice(), b"journal 4 0 0\nrun 3\n")
 }
 
 /// A line that is none of a journal is told; or the account begins with the lines before it.
@@ -75,16 +107,11 @@ pub(crate) fn fault_is_told_or_repaired(alloc: Global) -> Result<bool, AllocErro
 /// A file in which lines have no sums is written again with them, though its text is that of its journal.
 pub(crate) fn file_without_sums_is_written_again(alloc: Global) -> Result<bool, AllocError> {
     let text = b"journal 4 0 0\nrun 5\n";
-    let fewer = linked(alloc, 3, text, OPENED_AND_LINKED)?.is_some();
-    match linked(alloc, 3, text, ENOUGH)? {
-        Some(linked) => {
-            let bytes = on_disk(alloc, &linked.file)?;
-            let has_sums = linked
-                .file
-                .disk()
-                .left_by_crash(0, false)?
-                .is_some_and(|file| file.len() > text.len());
-            Ok(!fewer && has_sums && bytes.as_slice() == text.as_slice())
+    let fewer = linked_bytes(alloc, text, text, OPENED_AND_LINKED)?.is_some();
+    match linked_bytes(alloc, text, text, ENOUGH)? {
+        Some(found) => {
+            let has_sums = found.len() > text.len();
+            Ok(!fewer && has_sums && text_in(alloc, found)?.as_slice() == text.as_slice())
         }
         None => Ok(false),
     }
@@ -92,17 +119,10 @@ pub(crate) fn file_without_sums_is_written_again(alloc: Global) -> Result<bool, 
 
 /// A file whose text is that of its journal is only read; one with a run in pieces is written again.
 pub(crate) fn same_text_is_not_written_again(alloc: Global) -> Result<bool, AllocError> {
-    let file = file_of(alloc, b"journal 4 0 0\nrun 5\n")?;
-    let same = linked(alloc, 3, file.as_slice(), OPENED_AND_LINKED)?.is_some();
-    let fewer = linked(alloc, 3, file.as_slice(), OPENED_AND_LINKED - 1)?.is_some();
-    let disk = Memory::new(alloc, file_of(alloc, IN_PIECES)?, ENOUGH);
-    let Ok((file, _)) = open_file(alloc, disk, Rules::Four, false) else {
-        return Ok(false);
-    };
-    let whole = journal_of(alloc, b"journal 4 0 0\nrun 5\n")?;
-    let Ok(linked) = link(alloc, file, 3, &whole, 0) else {
-        return Ok(false);
-    };
-    let bytes = on_disk(alloc, &linked.file)?;
-    Ok(same && !fewer && bytes.as_slice() == b"journal 4 0 0\nrun 5\n".as_slice())
+    let text = b"journal 4 0 0\nrun 5\n";
+    let file = file_of(alloc, text)?;
+    let same = linked_bytes(alloc, file.as_slice(), text, OPENED_AND_LINKED)?.is_some();
+    let fewer = linked_bytes(alloc, file.as_slice(), text, OPENED_AND_LINKED - 1)?.is_some();
+    let pieces = file_of(alloc, IN_PIECES)?;
+    Ok(same && !fewer && is_linked(alloc, pieces.as_slice(), text)?)
 }

@@ -1,11 +1,18 @@
 // Files in memory with their keepers.
 
+ghost use Rattle.std.specs.Prelude.{◌≡◌, Some, slice_get};
+ghost use Rattle.kl1_host_journals.specs.FreshHistories.{books_of};
+
+use crate::journals::growing::{Growing, NewAccount};
 use crate::sums::{file_of, text_in};
-use kl1_host_journals::{FaultTeller, Keeper, LinkFault, Linked, Scribe, link, open_file};
+use kl1_host_journals::{
+    FaultTeller, Keeper, KeptFile, LinkFault, Linked, Naming, Scribe, link, open_file,
+};
 use kl1_journal_entries::Journal;
-use kl1_log::{LogError, LogFile, Memory};
+use kl1_log::{LogError, Memory};
 use kl1_model::Rules;
 use std::alloc::{AllocError, Global};
+use std::sync::Wait;
 use std::sync::atomic::{AtomicU64, Ordering};
 
 /// What a file costs that does all that is asked of it.
@@ -49,72 +56,122 @@ pub(crate) fn journal_of(alloc: Global, text: &[u8]) -> Result<Journal, AllocErr
     }
 }
 
-/// A file in memory with these bytes, which does `left` calls and bytes, opened and linked with the journal that it holds, of generation 0.
-pub(crate) fn linked(
+/// A file in memory with these bytes, which does `left` calls and bytes, opened and linked with the journal of this text, of generation 0;
+/// and that journal. None if a call of it failed.
+pub(crate) fn linked<J: Naming>(
     alloc: Global,
     account: u32,
     bytes: &[u8],
+    text: &[u8],
     left: usize,
-) -> Result<Option<Linked<Memory>>, AllocError> {
-    let disk = Memory::new(alloc, Vec::from_slice(alloc, bytes)?, left);
-    let Ok((file, opened)) = open_file(alloc, disk, Rules::Four, false) else {
+    start: NewAccount,
+) -> Result<Option<(Linked<Memory, J>, Growing<J>)>, AllocError>
+    requires books { books_of start.fresh ≡ J.books account }
+    requires history { slice_get J.histories account ≡ Some start.shown.history }
+{
+    let NewAccount { fresh, shown } = start;
+    let mut growing = Growing::<J>::new(account, journal_of(alloc, text)?, shown);
+    let Some(stamp) = growing.show() else {
         return Ok(None);
     };
-    match link(alloc, file, account, &opened.journal, 0) {
-        Ok(linked) => Ok(Some(linked)),
+    let disk = Memory::new(alloc, Vec::from_slice(alloc, bytes)?, left);
+    let Ok(opened) = open_file(alloc, disk, Rules::Four, false) else {
+        return Ok(None);
+    };
+    match link(
+        alloc,
+        opened.into_file(),
+        account,
+        growing.journal(),
+        0,
+        fresh,
+        &stamp,
+    ) {
+        Ok(linked) => Ok(Some((linked, growing))),
         Err(LinkFault::Memory) => Err(AllocError),
         Err(_) => Ok(None),
     }
 }
 
-/// Files and keepers of accounts.
+/// Files, keepers and journals of accounts.
 #[derive(Drop)]
-pub(crate) struct Shelf {
-    pub(crate) files: Vec<LogFile<Memory>>,
-    pub(crate) keepers: Vec<Keeper>,
+pub(crate) struct Shelf<J: Naming> {
+    pub(crate) files: Vec<KeptFile<Memory, J>>,
+    pub(crate) keepers: Vec<Keeper<J>>,
+    pub(crate) journals: Vec<Growing<J>>,
 }
 
-impl Shelf {
-    /// A fresh account for each number, whose file does as many calls and bytes as this number says. `None` if one fails at once.
-    pub(crate) fn new(alloc: Global, lefts: &[usize]) -> Result<Option<Self>, AllocError> {
-        let mut files = Vec::new(alloc);
-        let mut keepers = Vec::new(alloc);
-        let mut account = 0u32;
-        let fresh = file_of(alloc, FRESH)?;
-        for left in lefts {
-            let Some(
-                Linked {
-                    file,
-                    notes,
-                    receipt,
-                },
-            ) = linked(alloc, account, fresh.as_slice(), *left)?
-            else {
-                return Ok(None);
-            };
-            files.push(file)?;
-            keepers.push(Keeper::new(notes, receipt))?;
-            account = account.saturating_add(1);
+impl<J: Naming> Shelf<J> {
+    /// No account.
+    pub(crate) fn new(alloc: Global) -> Self {
+        Shelf {
+            files: Vec::new(alloc),
+            keepers: Vec::new(alloc),
+            journals: Vec::new(alloc),
         }
-        Ok(Some(Shelf { files, keepers }))
+    }
+
+    /// Puts a fresh account after the others, whose file does `left` calls and bytes; whether they were enough for its start.
+    pub(crate) fn add(
+        &mut self,
+        alloc: Global,
+        account: u32,
+        left: usize,
+        start: NewAccount,
+    ) -> Result<bool, AllocError>
+        requires books { books_of start.fresh ≡ J.books account }
+        requires history { slice_get J.histories account ≡ Some start.shown.history }
+    {
+        let bytes = file_of(alloc, FRESH)?;
+        let Some((linked, journal)) = linked(alloc, account, bytes.as_slice(), FRESH, left, start)?
+        else {
+            return Ok(false);
+        };
+        let Linked {
+            file,
+            notebook,
+            written,
+        } = linked;
+        self.files.push(file)?;
+        self.keepers.push(Keeper::new(notebook, written))?;
+        self.journals.push(journal)?;
+        Ok(true)
     }
 }
 
 /// The scribe of a shelf that has one account.
-pub(crate) fn only_scribe(
-    keepers: &[Keeper],
-    files: Vec<LogFile<Memory>>,
-) -> Option<Scribe<'_, Memory>> {
+pub(crate) fn only_scribe<J: Naming>(
+    keepers: &[Keeper<J>],
+    files: Vec<KeptFile<Memory, J>>,
+) -> Option<Scribe<'_, Memory, J>> {
     let mut files = files;
     let file = files.pop()?;
     let keeper = keepers.first()?;
     Some(Scribe::new(0, keeper, file))
 }
 
-/// The text of the journal that is surely on the disk of a file, if each of its lines has its sum; else the bytes there.
-pub(crate) fn on_disk(alloc: Global, file: &LogFile<Memory>) -> Result<Vec<u8>, AllocError> {
-    match file.disk().left_by_crash(0, false)? {
-        Some(bytes) => text_in(alloc, bytes),
+/// Has a scribe write what waits.
+pub(crate) fn write<R: Wait, J: Naming>(
+    rt: &R,
+    scribe: &mut Scribe<'_, Memory, J>,
+    faults: &Faults,
+) {
+    let noted = scribe.file().place().again();
+    scribe.write(rt, faults, &noted);
+}
+
+/// The bytes that are surely on the disk of a file.
+pub(crate) fn bytes_on_disk<J: Naming>(file: &KeptFile<Memory, J>) -> Result<Vec<u8>, AllocError> {
+    match file.file().disk().left_by_crash(0, false)? {
+        Some(bytes) => Ok(bytes),
         None => Err(AllocError),
     }
+}
+
+/// The text of the journal that is surely on the disk of a file, if each of its lines has its sum; else the bytes there.
+pub(crate) fn on_disk<J: Naming>(
+    alloc: Global,
+    file: &KeptFile<Memory, J>,
+) -> Result<Vec<u8>, AllocError> {
+    text_in(alloc, bytes_on_disk(file)?)
 }

@@ -1,22 +1,123 @@
 // Replies that wait for the disk.
 
-use crate::journals::shelf::{ENOUGH, Faults, Shelf, journal_of, on_disk, only_scribe};
-use kl1_host_journals::{Keeper, Outgoing, SyncedWriter};
+ghost use Rattle.std.specs.Prelude.{◌≡◌, Some, slice_get};
+ghost use Rattle.kl1_host_journals.specs.FreshHistories.{books_of};
+
+use crate::journals::growing::{Change, Growing, NewAccount};
+use crate::journals::shelf::{ENOUGH, Faults, Shelf, on_disk, only_scribe, write};
+use kl1_host_journals::{
+    Connecting, FreshConnection, Keeper, Naming, Outgoing, Scribe, SyncedWriter,
+};
+use kl1_log::Memory;
 use std::alloc::{AllocError, Global};
 use std::cell::Cell;
 use std::io::Write;
+use std::marker::Brand;
 use std::sync::Wait;
 use std::thread;
 use std::thread::Threads;
 use std::time::{Clock, Duration};
 
 /// Whether a reply may be sent at once.
-fn is_free<R: Wait>(rt: &R, keeper: &Keeper, outgoing: &Outgoing) -> bool {
+fn is_free<R: Wait, J: Naming, C: Connecting>(
+    rt: &R,
+    keeper: &Keeper<J>,
+    outgoing: &Outgoing<J, C>,
+) -> bool {
     match outgoing {
         Outgoing::Free(_) => true,
-        Outgoing::Waits(_, unsent) => keeper.on_disk().is_done(rt, unsent),
+        Outgoing::Waits(held) => keeper.on_disk().is_done(rt, held),
         Outgoing::Lost => false,
     }
+}
+
+/// Whether the first reply of a connection waits, which tells of this journal.
+fn first_waits<R: Wait, J: Naming, C: Connecting>(
+    rt: &R,
+    keeper: &Keeper<J>,
+    journal: &mut Growing<J>,
+    connection: FreshConnection,
+) -> bool
+    requires { connection.pen.book ≡ C.connection }
+{
+    let outgoing = Outgoing::<J, C>::new(connection);
+    let reply = journal.note(rt, keeper, outgoing);
+    !is_free(rt, keeper, &reply)
+}
+
+/// Whether a reply of a connection waits, which tells of a journal after each of these rows of changes, until the scribe has written, and no
+/// longer.
+fn waits_for_all<R: Wait, J: Naming, C: Connecting>(
+    rt: &R,
+    alloc: Global,
+    keeper: &Keeper<J>,
+    scribe: &mut Scribe<'_, Memory, J>,
+    faults: &Faults,
+    journal: &mut Growing<J>,
+    rows: &[&[Change]],
+    connection: FreshConnection,
+) -> Result<bool, AllocError>
+    requires { connection.pen.book ≡ C.connection }
+{
+    let mut reply = Outgoing::<J, C>::new(connection);
+    let mut waits = true;
+    for changes in rows {
+        journal.changed(alloc, *changes)?;
+        reply = journal.note(rt, keeper, reply);
+        waits = waits && !is_free(rt, keeper, &reply);
+    }
+    write(rt, scribe, faults);
+    Ok(waits && is_free(rt, keeper, &reply))
+}
+
+/// `reply_waits_for_its_lines`, with a new history.
+fn waits_for_its_lines<R: Wait, J: Naming>(
+    rt: &R,
+    alloc: Global,
+    start: NewAccount,
+) -> Result<bool, AllocError>
+    requires books { books_of start.fresh ≡ J.books 0 }
+    requires history { slice_get J.histories 0 ≡ Some start.shown.history }
+{
+    let mut shelf = Shelf::<J>::new(alloc);
+    if !shelf.add(alloc, 0, ENOUGH, start)? {
+        return Ok(false);
+    }
+    let Shelf {
+        files,
+        keepers,
+        mut journals,
+    } = shelf;
+    let Some(mut journal) = journals.pop() else {
+        return Ok(false);
+    };
+    let faults = Faults::new();
+    let Some(mut scribe) = only_scribe(keepers.as_slice(), files) else {
+        return Ok(false);
+    };
+    let Some(keeper) = keepers.as_slice().first() else {
+        return Ok(false);
+    };
+    let reading_waits = first_waits::<R, J, Brand>(
+        rt,
+        keeper,
+        &mut journal,
+        FreshConnection::new(),
+    );
+    let waits = waits_for_all::<R, J, Brand>(
+        rt,
+        alloc,
+        keeper,
+        &mut scribe,
+        &faults,
+        &mut journal,
+        &[&[Change::Run(3)], &[Change::Run(4), Change::Reduction]],
+        FreshConnection::new(),
+    )?;
+    let again_waits = first_waits::<R, J, Brand>(rt, keeper, &mut journal, FreshConnection::new());
+    let bytes = on_disk(alloc, scribe.file())?;
+    let is_right = bytes.as_slice() == b"journal 4 0 0\nrun 3\nrun 4\nreduce 1 0\n".as_slice();
+    Ok(!reading_waits && waits && !again_waits && is_right && faults.told() == 0)
 }
 
 /// A reply waits until the scribe has written its lines, and one that tells nothing new doesn't wait.
@@ -24,7 +125,28 @@ pub(crate) fn reply_waits_for_its_lines<R: Wait>(
     rt: &R,
     alloc: Global,
 ) -> Result<bool, AllocError> {
-    let Some(Shelf { files, keepers }) = Shelf::new(alloc, &[ENOUGH])? else {
+    waits_for_its_lines::<R, Brand>(rt, alloc, NewAccount::new())
+}
+
+/// `reset_begins_the_file_anew`, with a new history.
+fn begins_anew<R: Wait, J: Naming>(
+    rt: &R,
+    alloc: Global,
+    start: NewAccount,
+) -> Result<bool, AllocError>
+    requires books { books_of start.fresh ≡ J.books 0 }
+    requires history { slice_get J.histories 0 ≡ Some start.shown.history }
+{
+    let mut shelf = Shelf::<J>::new(alloc);
+    if !shelf.add(alloc, 0, ENOUGH, start)? {
+        return Ok(false);
+    }
+    let Shelf {
+        files,
+        keepers,
+        mut journals,
+    } = shelf;
+    let Some(mut journal) = journals.pop() else {
         return Ok(false);
     };
     let faults = Faults::new();
@@ -34,21 +156,23 @@ pub(crate) fn reply_waits_for_its_lines<R: Wait>(
     let Some(keeper) = keepers.as_slice().first() else {
         return Ok(false);
     };
-    let fresh = journal_of(alloc, b"journal 4 0 0\n")?;
-    let reading = keeper.note_for(rt, &fresh, 0, 0, Outgoing::new());
-    let reading_waits = !is_free(rt, keeper, &reading);
-    let grown = journal_of(alloc, b"journal 4 0 0\nrun 3\n")?;
-    let reply = keeper.note_for(rt, &grown, 0, 0, Outgoing::new());
-    let waits = !is_free(rt, keeper, &reply);
-    let longer = journal_of(alloc, b"journal 4 0 0\nrun 7\nstop 1\n")?;
-    let reply = keeper.note_for(rt, &longer, 0, 0, reply);
-    scribe.write(rt, &faults);
-    let is_sent = is_free(rt, keeper, &reply);
-    let again = keeper.note_for(rt, &longer, 0, 0, Outgoing::new());
-    let again_waits = !is_free(rt, keeper, &again);
+    let waits = waits_for_all::<R, J, Brand>(
+        rt,
+        alloc,
+        keeper,
+        &mut scribe,
+        &faults,
+        &mut journal,
+        &[
+            &[Change::Run(3)],
+            &[Change::Reset, Change::Run(1)],
+            &[Change::Reduction],
+        ],
+        FreshConnection::new(),
+    )?;
     let bytes = on_disk(alloc, scribe.file())?;
-    let is_right = bytes.as_slice() == b"journal 4 0 0\nrun 3\nrun 4\nstop 1\n".as_slice();
-    Ok(!reading_waits && waits && is_sent && !again_waits && is_right && faults.told() == 0)
+    let is_right = bytes.as_slice() == b"journal 4 0 1\nname f\nrun 1\nreduce 1 0\n".as_slice();
+    Ok(waits && is_right)
 }
 
 /// A journal of another generation begins the file anew.
@@ -56,38 +180,26 @@ pub(crate) fn reset_begins_the_file_anew<R: Wait>(
     rt: &R,
     alloc: Global,
 ) -> Result<bool, AllocError> {
-    let Some(Shelf { files, keepers }) = Shelf::new(alloc, &[ENOUGH])? else {
-        return Ok(false);
-    };
-    let faults = Faults::new();
-    let Some(mut scribe) = only_scribe(keepers.as_slice(), files) else {
-        return Ok(false);
-    };
-    let Some(keeper) = keepers.as_slice().first() else {
-        return Ok(false);
-    };
-    let before = journal_of(alloc, b"journal 4 0 0\nrun 3\n")?;
-    let reply = keeper.note_for(rt, &before, 0, 0, Outgoing::new());
-    let after = journal_of(alloc, b"journal 4 0 1\nname f\nrun 1\n")?;
-    let reply = keeper.note_for(rt, &after, 3, 0, reply);
-    let later = journal_of(alloc, b"journal 4 0 1\nname f\nrun 1\nstop 1\n")?;
-    let reply = keeper.note_for(rt, &later, 3, 0, reply);
-    scribe.write(rt, &faults);
-    let is_sent = is_free(rt, keeper, &reply);
-    let bytes = on_disk(alloc, scribe.file())?;
-    Ok(is_sent && bytes.as_slice() == b"journal 4 0 1\nname f\nrun 1\nstop 1\n".as_slice())
+    begins_anew::<R, Brand>(rt, alloc, NewAccount::new())
 }
 
 /// Writes a reply that tells of a journal, and then calls the scribe for the last time. Answers whether it was written.
-fn write_reply<R: Wait>(rt: &R, alloc: Global, keepers: &[Keeper]) -> bool {
-    let outgoing = Cell::new(Outgoing::new());
+fn write_reply<R: Wait, J: Naming, C: Connecting>(
+    rt: &R,
+    alloc: Global,
+    keepers: &[Keeper<J>],
+    journal: Growing<J>,
+    connection: FreshConnection,
+) -> bool
+    requires { connection.pen.book ≡ C.connection }
+{
+    let outgoing = Cell::new(Outgoing::<J, C>::new(connection));
     let mut out = Vec::new(alloc);
     let mut is_written = false;
-    if let (Some(keeper), Ok(grown)) = (
-        keepers.first(),
-        journal_of(alloc, b"journal 4 0 0\nrun 3\n"),
-    ) {
-        outgoing.set(keeper.note_for(rt, &grown, 0, 0, Outgoing::new()));
+    let mut journal = journal;
+    if let (Some(keeper), Ok(())) = (keepers.first(), journal.changed(alloc, &[Change::Run(3)])) {
+        let leave = outgoing.replace(Outgoing::Lost);
+        outgoing.set(journal.note(rt, keeper, leave));
         let mut writer = SyncedWriter::new(&mut out, rt, keepers, &outgoing);
         is_written = writer.write_all(b"+ ran 3\n").is_ok();
     }
@@ -97,12 +209,35 @@ fn write_reply<R: Wait>(rt: &R, alloc: Global, keepers: &[Keeper]) -> bool {
     is_written && out.as_slice() == b"+ ran 3\n".as_slice()
 }
 
-/// A writer waits for the scribe, which it calls.
-pub(crate) fn writer_waits_for_the_scribe<R: Threads + Wait + Clock + Sync>(
+/// `write_reply` of a new connection.
+fn reply_is_written<R: Wait, J: Naming>(
     rt: &R,
     alloc: Global,
-) -> Result<bool, AllocError> {
-    let Some(Shelf { files, keepers }) = Shelf::new(alloc, &[ENOUGH])? else {
+    keepers: &[Keeper<J>],
+    journal: Growing<J>,
+) -> bool {
+    write_reply::<R, J, Brand>(rt, alloc, keepers, journal, FreshConnection::new())
+}
+
+/// `writer_waits_for_the_scribe`, with a new history.
+fn waits_for_the_scribe<R: Threads + Wait + Clock + Sync, J: Naming + Send + Sync>(
+    rt: &R,
+    alloc: Global,
+    start: NewAccount,
+) -> Result<bool, AllocError>
+    requires books { books_of start.fresh ≡ J.books 0 }
+    requires history { slice_get J.histories 0 ≡ Some start.shown.history }
+{
+    let mut shelf = Shelf::<J>::new(alloc);
+    if !shelf.add(alloc, 0, ENOUGH, start)? {
+        return Ok(false);
+    }
+    let Shelf {
+        files,
+        keepers,
+        mut journals,
+    } = shelf;
+    let Some(journal) = journals.pop() else {
         return Ok(false);
     };
     let faults = Faults::new();
@@ -111,7 +246,7 @@ pub(crate) fn writer_waits_for_the_scribe<R: Threads + Wait + Clock + Sync>(
         return Ok(false);
     };
     let is_written = thread::scope(thread::scope_env(), rt, |scope| {
-        let Ok(writing) = scope.spawn(move || write_reply(rt, alloc, shared)) else {
+        let Ok(writing) = scope.spawn(move || reply_is_written(rt, alloc, shared, journal)) else {
             return false;
         };
         scribe.work(rt, Duration::from_secs(3_600), &faults);
@@ -119,4 +254,12 @@ pub(crate) fn writer_waits_for_the_scribe<R: Threads + Wait + Clock + Sync>(
     });
     let bytes = on_disk(alloc, scribe.file())?;
     Ok(is_written && bytes.as_slice() == b"journal 4 0 0\nrun 3\n".as_slice())
+}
+
+/// A writer waits for the scribe, which it calls.
+pub(crate) fn writer_waits_for_the_scribe<R: Threads + Wait + Clock + Sync>(
+    rt: &R,
+    alloc: Global,
+) -> Result<bool, AllocError> {
+    waits_for_the_scribe::<R, Brand>(rt, alloc, NewAccount::new())
 }

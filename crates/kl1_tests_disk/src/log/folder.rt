@@ -6,6 +6,7 @@ use kl1_log::{Batch, Change, Disk, FolderFile, Found, LogError, LogFile, restore
 use std::alloc::Global;
 use std::os::unix::fs::symlink;
 use std::rt::Files;
+use std::time::Clock;
 use std::{fs, io};
 
 /// What is written after the lines that were restored.
@@ -25,7 +26,12 @@ fn first_batch(change: Change) -> Batch {
 }
 
 /// Whether the journal in the file `cut.journal` has the text of a file of these bytes, and then this one.
-fn has_text<R: Files>(rt: &R, alloc: Global, front: &[u8], last: &[u8]) -> io::Result<bool> {
+fn has_text<R: Files + Clock>(
+    rt: &R,
+    alloc: Global,
+    front: &[u8],
+    last: &[u8],
+) -> io::Result<bool> {
     let mut wanted = text_in(alloc, Vec::from_slice(alloc, front)?)?;
     wanted.extend_from_slice(last)?;
     let mut disk = FolderFile::open(rt, alloc, ".", "cut")?;
@@ -34,7 +40,7 @@ fn has_text<R: Files>(rt: &R, alloc: Global, front: &[u8], last: &[u8]) -> io::R
 }
 
 /// Whether a file of these bytes is restored to its whole lines, and goes on; or is begun anew if its opening isn't whole.
-fn is_restored<R: Files>(rt: &R, alloc: Global, bytes: &[u8]) -> io::Result<bool> {
+fn is_restored<R: Files + Clock>(rt: &R, alloc: Global, bytes: &[u8]) -> io::Result<bool> {
     fs::write(rt, "cut.journal", bytes)?;
     let mut disk = FolderFile::open(rt, alloc, ".", "cut")?;
     let found = restore(alloc, &mut disk)?;
@@ -62,7 +68,10 @@ fn is_restored<R: Files>(rt: &R, alloc: Global, bytes: &[u8]) -> io::Result<bool
 }
 
 /// Cuts a file at each of its bytes.
-pub(crate) fn file_cut_at_each_byte_goes_on<R: Files>(rt: &R, alloc: Global) -> io::Result<bool> {
+pub(crate) fn file_cut_at_each_byte_goes_on<R: Files + Clock>(
+    rt: &R,
+    alloc: Global,
+) -> io::Result<bool> {
     let file = file_of(alloc, TEXT)?;
     for count in 0..file.len() + 1 {
         if !is_restored(rt, alloc, &file[..count])? {
@@ -73,7 +82,7 @@ pub(crate) fn file_cut_at_each_byte_goes_on<R: Files>(rt: &R, alloc: Global) -> 
 }
 
 /// Whether a file fails when it is changed, and then gets nothing more.
-fn is_stopped<R: Files>(
+fn is_stopped<R: Files + Clock>(
     rt: &R,
     alloc: Global,
     folder: &str,
@@ -94,14 +103,17 @@ fn is_stopped<R: Files>(
 }
 
 /// Writes to a file that takes nothing but a number: it can be read to its end, as a device that is full can't.
-pub(crate) fn refused_bytes_stop_a_file<R: Files>(rt: &R, alloc: Global) -> io::Result<bool> {
+pub(crate) fn refused_bytes_stop_a_file<R: Files + Clock>(
+    rt: &R,
+    alloc: Global,
+) -> io::Result<bool> {
     let _gone = fs::remove_file(rt, "number.journal");
     symlink(rt, "/proc/self/oom_score_adj", "number.journal")?;
     is_stopped(rt, alloc, ".", "number", false)
 }
 
 /// Writes to a folder in which no file can be made.
-pub(crate) fn folder_without_files_stops_a_file<R: Files>(
+pub(crate) fn folder_without_files_stops_a_file<R: Files + Clock>(
     rt: &R,
     alloc: Global,
 ) -> io::Result<bool> {
@@ -109,6 +121,6 @@ pub(crate) fn folder_without_files_stops_a_file<R: Files>(
 }
 
 /// Opens a file in a folder that isn't there.
-pub(crate) fn missing_folder_is_told<R: Files>(rt: &R, alloc: Global) -> io::Result<bool> {
+pub(crate) fn missing_folder_is_told<R: Files + Clock>(rt: &R, alloc: Global) -> io::Result<bool> {
     Ok(FolderFile::open(rt, alloc, "no_folder", "none").is_err())
 }

@@ -136,8 +136,8 @@ fn account_of(name: &[u8]) -> usize {
 }
 
 /// Does what a record asks for. Beside commands, `rest` waits until the account is quiet, `turns N` until N turns have ended, and
-/// `replay` puts how the replay of its journal ends, `look` puts its journal as it is looked at, `restore NAME` does the entries of
-/// another account's journal to it, `memory` puts whether it takes more bytes than it may, and `grow` waits until it does.
+/// `replay` puts how the replay of its journal ends, `look` puts its journal as it is looked at, `restore NAME COUNT` does the entries of
+/// another account's journal to it, but for the first COUNT of them, 0 if it isn't given, `memory` puts whether it takes more bytes than it may, and `grow` waits until it does.
 fn play_record<'t, R: Wait, K: PoolIds>(
     rt: &R,
     pool: &Pool<'t, R, K>,
@@ -162,8 +162,10 @@ fn play_record<'t, R: Wait, K: PoolIds>(
             }
         }
         Request::Line(line) if line.starts_with(b"restore ") => {
-            let (_, from) = cut(line, b' ');
-            put_restored(rt, pool, account, account_of(from), share, out);
+            let (_, what) = cut(line, b' ');
+            let (from, left_out) = cut(what, b' ');
+            let (from, left_out) = (account_of(from), number_of(left_out));
+            put_restored(rt, pool, account, from, left_out, share, out);
         }
         Request::Line(line) if line.starts_with(b"turns ") => {
             let (_, count) = cut(line, b' ');

@@ -3,7 +3,9 @@
 use crate::gate::LOOKS;
 use crate::pool::play::answered;
 use crate::report::Text;
+use crate::rows::cut;
 use kl1_journal_entries::Journal;
+use kl1_journal_stamps::Stamp;
 use kl1_pool::{Command, JournalReader, Performed, Pool, PoolIds, RestoreEnd, Restored, Share};
 use std::sync::Wait;
 use std::thread;
@@ -16,9 +18,11 @@ struct Copy {
 }
 
 impl JournalReader for Copy {
+    ghost takes = { λ _ _. Unit {0} };
+
     ghost reads = { λ _ _ _ _. Unit {0} };
 
-    fn read(&mut self, journal: &Journal, ended: u64) {
+    fn read(&mut self, journal: &Journal, ended: u64, _stamp: &Stamp) {
         self.ended = ended;
         match journal.text_lines(self.text.alloc) {
             Ok(lines) => {
@@ -77,18 +81,36 @@ fn put_end(out: &mut Text, restored: Restored) {
     });
 }
 
-/// Does the entries of the journal of account `from` to another account, and puts how many were done whole, how many first steps of the
-/// next one, and why no more were.
+/// The text of a journal without its first `count` entries; each of these is a line, and no names stand before them.
+fn without_first(journal: &Text, count: u64) -> Text {
+    let mut left = Text::new(journal.alloc);
+    let (heading, entries) = cut(journal.bytes.as_slice(), b'\n');
+    left.put(heading);
+    left.put(b"\n");
+    let mut entries = entries;
+    for _ in 0..count {
+        let (_, after) = cut(entries, b'\n');
+        entries = after;
+    }
+    left.put(entries);
+    left
+}
+
+/// Does the entries of the journal of account `from`, but for its first `left_out`, to another account, and puts how many were done whole,
+/// how many first steps of the next one, and why no more were.
 pub fn put_restored<'t, R: Wait, K: PoolIds>(
     rt: &R,
     pool: &Pool<'t, R, K>,
     account: usize,
     from: usize,
+    left_out: u64,
     share: &mut Share<K>,
     out: &mut Text,
 ) {
     let copy = seen(rt, pool, from, out);
-    match Journal::read(out.alloc, copy.text.bytes.as_slice()) {
+    let text = without_first(&copy.text, left_out);
+    match Journal::read(out.alloc, text.bytes.as_slice()) {
+        _ if text.has_failed => out.fail(),
         Ok(Some(journal)) if account < pool.accounts() => {
             let restored = pool.restore(rt, out.alloc, account, &journal, share);
             put_end(out, restored);

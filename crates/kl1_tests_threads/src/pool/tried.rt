@@ -20,17 +20,17 @@ fn done<'t, J: Job + Sync, R: Threads + Wait + Clock + Sync, K: PoolIds + Send +
     rt: &'t R,
     alloc: Global,
     parts: PoolParts<'t>,
-    most_bytes: u64,
     job: &J,
     out: &mut Text,
 ) -> Result<Totals, AllocError>
     requires tables { (parts.table ≡ K.table) × (parts.seats ≡ K.seats) × (parts.codes ≡ K.codes) }
     requires names { (parts.rules ≡ K.rules) × (parts.names ≡ K.names) }
+    requires bound { parts.most_bytes ≡ K.most_bytes }
     requires tickets { (parts.tally ≡ K.tally) × (parts.queue ≡ K.queue) × (parts.accounts ≡ K.accounts) × (parts.shares ≡ K.shares) }
+    requires shown { parts.histories ≡ K.histories }
     requires some { 0 < parts.shares }
 {
     let (pool, mut shares) = Pool::<R, K>::new(rt, alloc, parts)?;
-    let pool = pool.bounded(most_bytes);
     job.begin(rt, &pool, &mut shares[0], out);
     match work(rt, alloc, &pool, job, shares, out) {
         Ok(mut shares) => {
@@ -49,13 +49,12 @@ fn done_of<'t, J: Job + Sync, R: Threads + Wait + Clock + Sync>(
     rt: &'t R,
     alloc: Global,
     parts: PoolParts<'t>,
-    most_bytes: u64,
     job: &J,
     out: &mut Text,
 ) -> Result<Totals, AllocError>
     requires some { 0 < parts.shares }
 {
-    done::<J, R, Brand>(rt, alloc, parts, most_bytes, job, out)
+    done::<J, R, Brand>(rt, alloc, parts, job, out)
 }
 
 /// The names `a`, `b` and so on.
@@ -97,6 +96,7 @@ pub fn tried<J: Job + Sync, R: Threads + Wait + Clock + Sync>(
         setup.rules,
         seats,
         threads,
-    )?;
-    done_of(rt, alloc, parts, setup.most_bytes, job, out)
+    )?
+    .bounded(setup.most_bytes);
+    done_of(rt, alloc, parts, job, out)
 }

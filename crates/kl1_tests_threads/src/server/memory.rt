@@ -55,7 +55,9 @@ fn is_same_by<'t, K: PoolIds, R: Wait>(
 ) -> Result<bool, AllocError>
     requires tables { (parts.table ≡ K.table) × (parts.seats ≡ K.seats) × (parts.codes ≡ K.codes) }
     requires names { (parts.rules ≡ K.rules) × (parts.names ≡ K.names) }
+    requires bound { parts.most_bytes ≡ K.most_bytes }
     requires tickets { (parts.tally ≡ K.tally) × (parts.queue ≡ K.queue) × (parts.accounts ≡ K.accounts) × (parts.shares ≡ K.shares) }
+    requires shown { parts.histories ≡ K.histories }
     requires accounts { 1 ≤ parts.accounts }
 {
     let keys = [alice(alloc)?];
@@ -70,15 +72,19 @@ fn is_same_by<'t, K: PoolIds, R: Wait>(
         bytes: Vec::new(alloc),
         fails: way.write,
     });
-    let is_right = match shares.as_mut_slice() {
-        [share] => {
-            let served = serve(rt, alloc, &mut source, &mut sink, &pool, &keys, share);
-            is_right(served, sink.inner.bytes.as_slice(), way) && is_closed(rt, &pool, share)
+    let mut went_right = false;
+    if let Some(share) = shares.pop() {
+        let (served, mut share) = serve(rt, alloc, &mut source, &mut sink, &pool, &keys, share);
+        went_right = shares.is_empty()
+            && is_right(served, sink.inner.bytes.as_slice(), way)
+            && is_closed(rt, &pool, &mut share);
+        if shares.push(share).is_err() {
+            // There is room for as many as there were.
+            unreachable!()
         }
-        _ => false,
-    };
+    }
     let totals = gather(rt, pool, shares);
-    Ok(is_right && totals.events[0] == 0 && totals.steps[0] == 0)
+    Ok(went_right && totals.events[0] == 0 && totals.steps[0] == 0)
 }
 
 /// `is_same_by` of parts that no type names yet.

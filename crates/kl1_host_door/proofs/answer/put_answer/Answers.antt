@@ -8,7 +8,7 @@ returns c =
     let out = c.args.out.now.items in
     let head = c.put_head.new.out.items in
     let told = c.extend_from_slice.new.self.items in
-    let text = head_text c.args.answer.now in
+    let text = head_text c.args.answer.now c.args.secure in
     let connection = connection_of c.args.goes_on in
     part out told c.extend_from_slice-2.new.self.items (text ++ connection) c.args.answer.now.body.items
     (part out head told text connection c.in_ok-put_head.ensures (c.in_ok-extend_from_slice.ensures.items ∙ ap (λ t. head ++ t) c.connection_of.ensures))

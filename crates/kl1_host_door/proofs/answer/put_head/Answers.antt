@@ -27,4 +27,4 @@ returns c =
     let p5 = part out m4 m5 t4 (line_end ++ codes "content-length: ") p4 c.in_ok-extend_from_slice-5.ensures.items in
     let p6 = part out m5 m6 t5 (decimal (length a.body.items)) p5 (c.in_ok-put_decimal.ensures.ok ∙ ap (λ n. m5 ++ decimal n) (ap length c.as_slice.ensures.value)) in
     let p7 = part out m6 m7 t6 guards p6 c.in_ok-extend_from_slice-6.ensures.items in
-    part out m7 c.put_cookie.new.out.items (t6 ++ guards) (cookie_text a.cookie) p7 c.in_ok-put_cookie.ensures
+    part out m7 c.put_cookie.new.out.items (t6 ++ guards) (cookie_text c.args.secure a.cookie) p7 c.in_ok-put_cookie.ensures

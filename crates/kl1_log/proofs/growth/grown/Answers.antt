@@ -1,7 +1,9 @@
-use Rattle.std.proofs.Common.{◌≡◌, ◌+◌, ◌≤◌, ◌∷◌, length, sym, ap, ◌∙◌, arith}
-use Rattle.kl1_log.specs.Later.{run_of_lines}
+use Rattle.std.proofs.Common.{ℕ, List, ◌≡◌, ◌+◌, ◌≤◌, ◌∷◌, length, sym, ap, ◌∙◌, arith}
+use Rattle.kl1_model_server.specs.JournalText.{lines_of}
+use Rattle.kl1_log.specs.Later.{run_of_line, run_of_lines}
 use Rattle.kl1_log.proofs.LinesPut.{bytes_in, others, texts_split, no_texts, counted, grown_put}
 use Rattle.kl1_log.proofs.GrownFiles.{page_all, page_some, grown_file, grown_mark}
+use Rattle.kl1_log.proofs.LinesWhole.{grown_whole, none_whole}
 use Rattle.kl1_log.proofs.growth.grown.Goals as goal
 
 pub returns-in_default-clause-file : goal.returns-in_default-clause-file
@@ -54,3 +56,14 @@ returns-clause-mark c = λ old mark later.
     let long = ap length split in
     let count : c.in_ok-end.end ≡ m.lines + length (last ∷ more) = omega (arith, sum.1, long, c.len.ensures) in
     grown_mark old j m last more c.in_ok-end.end c.in_ok-run.run' c.shows_written.ensures (split ∙ all) count (c.in_ok-run.ensures ∙ ap run_of_lines (c.texts-2.ensures ∙ sym split)) mark later
+
+pub returns-in_default-clause-whole : goal.returns-in_default-clause-whole
+returns-in_default-clause-whole c = none_whole c.new-bytes.result.items c.new-bytes.ensures.items
+
+pub returns-clause-whole : goal.returns-clause-whole
+returns-clause-whole c =
+    let m = c.args.mark in
+    let last = c.last-item.result.items in
+    let more = bytes_in (others c.texts.result.now) in
+    let put = grown_put c.new-bytes.result.items c.put_longer.new.out.items c.put_lines.new.out.items m.run c.in_ok-run_of.field-0 c.deref.result.now last more c.new-bytes.ensures.items c.in_ok-put_longer.ensures c.in_ok-put_lines.ensures c.in_ok-run_of.ensures c.deref.ensures.value in
+    ap (λ (x : List ℕ). (lines_of x).rest) put ∙ grown_whole m.run (run_of_line last) more

@@ -44,6 +44,7 @@ loop-input-preserved g c =
     let P : List Input → Type 0 = λ x. TalksOn (g.K.Door.opens c.args.door.now) x false s u in
     record {
       handler = c.in-All.ensures.handler ∙ c.loop-input.invariant.handler;
+      beside = c.in-All.ensures.beside ∙ c.loop-input.invariant.beside;
       keys = c.in-All.ensures.keys ∙ c.loop-input.invariant.keys;
       opens = c.in-All.ensures.opens ∙ c.loop-input.invariant.opens;
       visitor = c.in-All.ensures.visitor;

@@ -15,6 +15,7 @@ loop-init g c =
     let Q : Option ℕ → Type 0 = λ v. IsVisitor (g.K.Door.accounts c.args.door.now) v in
     record {
       handler = refl;
+      beside = refl;
       keys = refl;
       opens = refl;
       visitor = subst Q (sym c.requires.fresh.0) tt;
@@ -47,6 +48,7 @@ loop-preserved g c =
     let k : GoesOn (g.K.Door.opens c.args.door.now) [] c.serve_piece-ended.new.session (remaining c.args.source.now) (remaining c.serve_piece-ended.new.source) s u = more_pieces (g.K.Door.opens c.args.door.now) (length c.args.buffer.now) None [] c.loop.session c.serve_piece-ended.new.session (remaining c.args.source.now) (remaining c.loop.source) (remaining c.serve_piece-ended.new.source) s t u c.loop.invariant.talk (subst O c.loop.invariant.opens c.in_default.ensures.talk) in
     record {
       handler = c.in_default.ensures.handler ∙ c.loop.invariant.handler;
+      beside = c.in_default.ensures.beside ∙ c.loop.invariant.beside;
       keys = c.in_default.ensures.keys ∙ c.loop.invariant.keys;
       opens = c.in_default.ensures.opens ∙ c.loop.invariant.opens;
       visitor = c.in_default.ensures.visitor;

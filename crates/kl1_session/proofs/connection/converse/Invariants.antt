@@ -4,7 +4,7 @@ use Rattle.kl1_session.specs.ActionViews.{IsVisitor}
 use Rattle.kl1_session.specs.Connections.{standing, GoesOn}
 use Rattle.kl1_session.proofs.connection.converse.Given as goal
 
--- handler and door have the accounts that they had, the door opens to whom it did, the visitor is at one of its accounts, and the pieces so far are answered
+-- handler and door have the accounts that they had, the handler has what it has beside, the door opens to whom it did, the visitor is at one of its accounts, and the pieces so far are answered
 abbrev pub invariant-loop : goal.invariant-loop
 invariant-loop g l =
     let done = g.D.CommandHandler.done in
@@ -12,6 +12,7 @@ invariant-loop g l =
     let remaining = g.S.Source.remaining in
     record {
       handler : g.D.CommandHandler.accounts l.handler ≡ g.D.CommandHandler.accounts l.fn.handler;
+      beside : g.D.CommandHandler.beside l.handler ≡ g.D.CommandHandler.beside l.fn.handler;
       keys : g.K.Door.accounts l.door ≡ g.K.Door.accounts l.fn.door;
       opens : g.K.Door.opens l.door ≡ g.K.Door.opens l.fn.door;
       visitor : IsVisitor (g.K.Door.accounts l.door) l.state.account;

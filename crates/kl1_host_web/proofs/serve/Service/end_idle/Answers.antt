@@ -15,5 +15,5 @@ loop-preserved g c =
     let closed = subst L same c.log_out.ensures.asked in
     record {
       house = c.log_out.ensures.house ∙ same;
-      ended = one_more_ends (g.M.Machine.tells c.args.self.now.machine.now) c.args.self.now.page.idle (house c.args.accounts.now).accounts c.loop.invariant.ended.0 (asked c.args.accounts.now) (asked c.loop.accounts) (asked c.take_idle.new.accounts) (asked c.log_out.new.accounts) c.take_idle.result session c.take_idle.ensures.seeks.0 closed.0 c.loop.invariant.ended.1 c.in-Some-take_idle.is c.take_idle.ensures.seeks.1 c.take_idle.ensures.seeks.2 closed.1;
+      ended = one_more_ends (g.M.Machine.tells c.args.self.now.machine.now) c.args.self.now.page.idle c.args.account (house c.args.accounts.now).accounts c.loop.invariant.ended.0 (asked c.args.accounts.now) (asked c.loop.accounts) (asked c.take_idle.new.accounts) (asked c.log_out.new.accounts) c.take_idle.result session c.take_idle.ensures.seeks.0 closed.0 c.loop.invariant.ended.1 c.in-Some-take_idle.is c.take_idle.ensures.seeks.1 c.take_idle.ensures.seeks.2 closed.1;
     }

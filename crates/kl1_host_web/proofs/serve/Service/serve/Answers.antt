@@ -26,8 +26,8 @@ returns-then-not-send-clause-served g c =
     let is_local = c.args.self.now.is_local in
     let middle : Option (List ℕ) = prepend_known c.loop.inbox.kept.items (remaining c.loop.source) in
     let new : Option (List ℕ) = prepend_known c.serve_request.new.inbox.kept.items (remaining c.serve_request.new.source) in
-    let S : House → Type 0 = λ h. Steps (g.M.Machine.tells c.args.self.now.machine.now) c.args.self.now.page.idle h sites is_local middle new (asked c.loop.accounts) (asked c.serve_request.new.accounts) c.serve_request.result in
-    stepped (g.M.Machine.tells c.args.self.now.machine.now) c.args.self.now.page.idle (house c.args.accounts.now) sites is_local c.loop.invariant.served.0 (remaining c.args.source.now) middle new (asked c.args.accounts.now) (asked c.loop.accounts) (asked c.serve_request.new.accounts) c.serve_request.result c.loop.invariant.served.1 (subst S c.loop.invariant.house c.serve_request.ensures.steps)
+    let S : House → Type 0 = λ h. Steps (g.M.Machine.tells c.args.self.now.machine.now) (g.M.Machine.gives c.args.self.now.machine.now) c.args.self.now.page.idle h sites is_local middle new (asked c.loop.accounts) (asked c.serve_request.new.accounts) c.serve_request.result in
+    stepped (g.M.Machine.tells c.args.self.now.machine.now) (g.M.Machine.gives c.args.self.now.machine.now) c.args.self.now.page.idle (house c.args.accounts.now) sites is_local c.loop.invariant.served.0 (remaining c.args.source.now) middle new (asked c.args.accounts.now) (asked c.loop.accounts) (asked c.serve_request.new.accounts) c.serve_request.result c.loop.invariant.served.1 (subst S c.loop.invariant.house c.serve_request.ensures.steps)
 
 pub returns-in-Ok-Refused-clause-served : goal.returns-in-Ok-Refused-clause-served
 returns-in-Ok-Refused-clause-served g c =
@@ -38,8 +38,8 @@ returns-in-Ok-Refused-clause-served g c =
     let is_local = c.args.self.now.is_local in
     let middle : Option (List ℕ) = prepend_known c.loop.inbox.kept.items (remaining c.loop.source) in
     let new : Option (List ℕ) = prepend_known c.serve_request.new.inbox.kept.items (remaining c.serve_request.new.source) in
-    let S : House → Type 0 = λ h. Steps (g.M.Machine.tells c.args.self.now.machine.now) c.args.self.now.page.idle h sites is_local middle new (asked c.loop.accounts) (asked c.serve_request.new.accounts) c.serve_request.result in
-    stepped (g.M.Machine.tells c.args.self.now.machine.now) c.args.self.now.page.idle (house c.args.accounts.now) sites is_local c.loop.invariant.served.0 (remaining c.args.source.now) middle new (asked c.args.accounts.now) (asked c.loop.accounts) (asked c.serve_request.new.accounts) c.serve_request.result c.loop.invariant.served.1 (subst S c.loop.invariant.house c.serve_request.ensures.steps)
+    let S : House → Type 0 = λ h. Steps (g.M.Machine.tells c.args.self.now.machine.now) (g.M.Machine.gives c.args.self.now.machine.now) c.args.self.now.page.idle h sites is_local middle new (asked c.loop.accounts) (asked c.serve_request.new.accounts) c.serve_request.result in
+    stepped (g.M.Machine.tells c.args.self.now.machine.now) (g.M.Machine.gives c.args.self.now.machine.now) c.args.self.now.page.idle (house c.args.accounts.now) sites is_local c.loop.invariant.served.0 (remaining c.args.source.now) middle new (asked c.args.accounts.now) (asked c.loop.accounts) (asked c.serve_request.new.accounts) c.serve_request.result c.loop.invariant.served.1 (subst S c.loop.invariant.house c.serve_request.ensures.steps)
 
 pub returns-in-Ok-Ended-clause-served : goal.returns-in-Ok-Ended-clause-served
 returns-in-Ok-Ended-clause-served g c =
@@ -50,8 +50,8 @@ returns-in-Ok-Ended-clause-served g c =
     let is_local = c.args.self.now.is_local in
     let middle : Option (List ℕ) = prepend_known c.loop.inbox.kept.items (remaining c.loop.source) in
     let new : Option (List ℕ) = prepend_known c.serve_request.new.inbox.kept.items (remaining c.serve_request.new.source) in
-    let S : House → Type 0 = λ h. Steps (g.M.Machine.tells c.args.self.now.machine.now) c.args.self.now.page.idle h sites is_local middle new (asked c.loop.accounts) (asked c.serve_request.new.accounts) c.serve_request.result in
-    stepped (g.M.Machine.tells c.args.self.now.machine.now) c.args.self.now.page.idle (house c.args.accounts.now) sites is_local c.loop.invariant.served.0 (remaining c.args.source.now) middle new (asked c.args.accounts.now) (asked c.loop.accounts) (asked c.serve_request.new.accounts) c.serve_request.result c.loop.invariant.served.1 (subst S c.loop.invariant.house c.serve_request.ensures.steps)
+    let S : House → Type 0 = λ h. Steps (g.M.Machine.tells c.args.self.now.machine.now) (g.M.Machine.gives c.args.self.now.machine.now) c.args.self.now.page.idle h sites is_local middle new (asked c.loop.accounts) (asked c.serve_request.new.accounts) c.serve_request.result in
+    stepped (g.M.Machine.tells c.args.self.now.machine.now) (g.M.Machine.gives c.args.self.now.machine.now) c.args.self.now.page.idle (house c.args.accounts.now) sites is_local c.loop.invariant.served.0 (remaining c.args.source.now) middle new (asked c.args.accounts.now) (asked c.loop.accounts) (asked c.serve_request.new.accounts) c.serve_request.result c.loop.invariant.served.1 (subst S c.loop.invariant.house c.serve_request.ensures.steps)
 
 pub returns-in-Err-clause-served : goal.returns-in-Err-clause-served
 returns-in-Err-clause-served g c =
@@ -62,8 +62,8 @@ returns-in-Err-clause-served g c =
     let is_local = c.args.self.now.is_local in
     let middle : Option (List ℕ) = prepend_known c.loop.inbox.kept.items (remaining c.loop.source) in
     let new : Option (List ℕ) = prepend_known c.serve_request.new.inbox.kept.items (remaining c.serve_request.new.source) in
-    let S : House → Type 0 = λ h. Steps (g.M.Machine.tells c.args.self.now.machine.now) c.args.self.now.page.idle h sites is_local middle new (asked c.loop.accounts) (asked c.serve_request.new.accounts) c.serve_request.result in
-    stepped (g.M.Machine.tells c.args.self.now.machine.now) c.args.self.now.page.idle (house c.args.accounts.now) sites is_local c.loop.invariant.served.0 (remaining c.args.source.now) middle new (asked c.args.accounts.now) (asked c.loop.accounts) (asked c.serve_request.new.accounts) c.serve_request.result c.loop.invariant.served.1 (subst S c.loop.invariant.house c.serve_request.ensures.steps)
+    let S : House → Type 0 = λ h. Steps (g.M.Machine.tells c.args.self.now.machine.now) (g.M.Machine.gives c.args.self.now.machine.now) c.args.self.now.page.idle h sites is_local middle new (asked c.loop.accounts) (asked c.serve_request.new.accounts) c.serve_request.result in
+    stepped (g.M.Machine.tells c.args.self.now.machine.now) (g.M.Machine.gives c.args.self.now.machine.now) c.args.self.now.page.idle (house c.args.accounts.now) sites is_local c.loop.invariant.served.0 (remaining c.args.source.now) middle new (asked c.args.accounts.now) (asked c.loop.accounts) (asked c.serve_request.new.accounts) c.serve_request.result c.loop.invariant.served.1 (subst S c.loop.invariant.house c.serve_request.ensures.steps)
 
 pub loop-preserved : goal.loop-preserved
 loop-preserved g c =
@@ -74,12 +74,12 @@ loop-preserved g c =
     let is_local = c.args.self.now.is_local in
     let middle : Option (List ℕ) = prepend_known c.loop.inbox.kept.items (remaining c.loop.source) in
     let new : Option (List ℕ) = prepend_known c.serve_request.new.inbox.kept.items (remaining c.serve_request.new.source) in
-    let is : c.serve_request.result ≡ Ok (served_as.Answered c.in-Ok-Answered.answer c.in-Ok-Answered.goes_on) = cc in
-    let S : House → Type 0 = λ h. Steps (g.M.Machine.tells c.args.self.now.machine.now) c.args.self.now.page.idle h sites is_local middle new (asked c.loop.accounts) (asked c.serve_request.new.accounts) c.serve_request.result in
-    let R : Result Served AllocError → Type 0 = λ r. Steps (g.M.Machine.tells c.args.self.now.machine.now) c.args.self.now.page.idle (house c.args.accounts.now) sites is_local middle new (asked c.loop.accounts) (asked c.serve_request.new.accounts) r in
+    let is : c.serve_request.result ≡ Ok (served_as.Answered c.in-Ok-Answered.answer c.in-Ok-Answered.secure c.in-Ok-Answered.goes_on) = cc in
+    let S : House → Type 0 = λ h. Steps (g.M.Machine.tells c.args.self.now.machine.now) (g.M.Machine.gives c.args.self.now.machine.now) c.args.self.now.page.idle h sites is_local middle new (asked c.loop.accounts) (asked c.serve_request.new.accounts) c.serve_request.result in
+    let R : Result Served AllocError → Type 0 = λ r. Steps (g.M.Machine.tells c.args.self.now.machine.now) (g.M.Machine.gives c.args.self.now.machine.now) c.args.self.now.page.idle (house c.args.accounts.now) sites is_local middle new (asked c.loop.accounts) (asked c.serve_request.new.accounts) r in
     record {
       house = c.serve_request.ensures.house ∙ c.loop.invariant.house;
-      served = answered (g.M.Machine.tells c.args.self.now.machine.now) c.args.self.now.page.idle (house c.args.accounts.now) sites is_local c.loop.invariant.served.0 (remaining c.args.source.now) middle new (asked c.args.accounts.now) (asked c.loop.accounts) (asked c.serve_request.new.accounts) c.in-Ok-Answered.answer c.in-Ok-Answered.goes_on c.loop.invariant.served.1 (subst R is (subst S c.loop.invariant.house c.serve_request.ensures.steps));
+      served = answered (g.M.Machine.tells c.args.self.now.machine.now) (g.M.Machine.gives c.args.self.now.machine.now) c.args.self.now.page.idle (house c.args.accounts.now) sites is_local c.loop.invariant.served.0 (remaining c.args.source.now) middle new (asked c.args.accounts.now) (asked c.loop.accounts) (asked c.serve_request.new.accounts) c.in-Ok-Answered.answer c.in-Ok-Answered.secure c.in-Ok-Answered.goes_on c.loop.invariant.served.1 (subst R is (subst S c.loop.invariant.house c.serve_request.ensures.steps));
     }
 
 pub returns-clause-served : goal.returns-clause-served

@@ -10,5 +10,5 @@ invariant-loop g l =
     let asked = g.A.Accounts.asked in
     record {
       house : g.A.Accounts.house l.accounts ≡ g.A.Accounts.house l.fn.accounts;
-      served : (served : List Exchange) × Serves (g.M.Machine.tells l.self.machine.now) l.self.page.idle (g.A.Accounts.house l.fn.accounts) l.self.page.sites.now l.self.is_local served (remaining l.fn.source) (prepend_known l.inbox.kept.items (remaining l.source)) (asked l.fn.accounts) (asked l.accounts);
+      served : (served : List Exchange) × Serves (g.M.Machine.tells l.self.machine.now) (g.M.Machine.gives l.self.machine.now) l.self.page.idle (g.A.Accounts.house l.fn.accounts) l.self.page.sites.now l.self.is_local served (remaining l.fn.source) (prepend_known l.inbox.kept.items (remaining l.source)) (asked l.fn.accounts) (asked l.accounts);
     }

@@ -8,4 +8,6 @@ invariant_of-result c = (
   search rules,
   search rules,
   search rules,
+  search rules,
+  search rules,
 )

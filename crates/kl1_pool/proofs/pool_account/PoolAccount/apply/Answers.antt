@@ -5,6 +5,10 @@ use Rattle.kl1_tally.specs.declared.amounts.TheConstants.{MOST_ACCOUNTS}
 use Rattle.kl1_journal.specs.Keeping.{Held, kept_of}
 use Rattle.kl1_pool.specs.PoolAccounts.{StandsIn, PoolAccountValue}
 use Rattle.kl1_command.specs.Told.{events_by, steps_by}
+use Rattle.std.specs.Prelude.{slice_get}
+use Rattle.kl1_tally.specs.Seats.{Book}
+use Rattle.kl1_pool.proofs.Shown.{held_follows}
+use Rattle.kl1_pool.proofs.Tells.{ended_is}
 use Rattle.kl1_pool.proofs.PoolAccounts.{held_counts, kept_counts, of_tally, within, placed_in, held_stays, named_still}
 use Rattle.kl1_pool.proofs.pool_account.PoolAccount.apply.Goals as goal
 
@@ -32,6 +36,9 @@ invariant_of-self-2 g c =
       kept_counts p c.past_after-self-inside.result b c.count.new.book old.1 new.1 r c.self.invariant.4 counts.0 c.past_after-self-inside.ensures c.count.ensures.book,
       stays.0 ∙ c.self.invariant.5,
       named_still g.K.PoolIds.names b c.count.new.book (events_by r) (steps_by r) old.0.own_name new.0.own_name c.count.ensures.book stays.1 c.self.invariant.6,
+      ap (λ (x : Book). slice_get g.K.ShownIds.histories x.account) c.count.ensures.book ∙ c.self.invariant.7,
+      held_follows c.self.inside.shown.last p c.past_after-self-inside.result old new (event_of c.args.event.now) r c.shows_replay.ensures.kept c.shows_replay-2.ensures.names c.apply.ensures.before c.in_ok-reply.ensures.step
+          (c.past_after-self-inside.ensures ∙ ended_is p old.1 b r c.self.invariant.4) c.self.invariant.8,
     )
 
 pub returns-clause-step : goal.returns-clause-step

@@ -3,10 +3,12 @@ use Rattle.kl1_model.specs.Event.{reduce as reduce_event}
 use Rattle.kl1_codes.specs.Numbered.{Numbered, ArePlaced}
 use Rattle.kl1_user_events.specs.Views.{reduced_or}
 use Rattle.kl1_tally.specs.declared.amounts.TheConstants.{MOST_ACCOUNTS}
+use Rattle.std.specs.Prelude.{slice_get}
 use Rattle.kl1_tally.specs.Seats.{Book}
 use Rattle.kl1_pool.specs.PoolAccounts.{StandsIn, PoolAccountValue}
 use Rattle.kl1_command.specs.Told.{events_by, steps_by}
-use Rattle.kl1_pool.proofs.PoolAccounts.{held_counts, kept_counts, of_tally, within, step_ended, held_stays, named_still}
+use Rattle.kl1_pool.proofs.Shown.{held_follows}
+use Rattle.kl1_pool.proofs.PoolAccounts.{held_counts, kept_counts, of_tally, within, step_past, step_ended, held_stays, named_still}
 use Rattle.kl1_pool.proofs.pool_account.PoolAccount.reduce.Goals as goal
 
 pub invariant_of-self-2 : goal.invariant_of-self-2
@@ -26,4 +28,7 @@ invariant_of-self-2 g c =
       kept_counts p p b c.count_step.new.book old.1 new.1 r c.self.invariant.4 counts.0 (sym (step_ended p b c.in_ok-refused.refused)) c.count_step.ensures.book,
       stays.0 ∙ c.self.invariant.5,
       named_still g.K.PoolIds.names b c.count_step.new.book (events_by r) (steps_by r) old.0.own_name new.0.own_name c.count_step.ensures.book stays.1 c.self.invariant.6,
+      ap (λ (x : Book). slice_get g.K.ShownIds.histories x.account) c.count_step.ensures.book ∙ c.self.invariant.7,
+      held_follows c.self.inside.shown.last p p old new (reduce_event c.args.goal.0 c.args.clause.0) r c.shows_replay.ensures.kept c.shows_replay-2.ensures.names c.reduce.ensures.before c.in_ok-refused.ensures.step
+          (sym (step_past p old.1 c.in_ok-refused.refused)) c.self.invariant.8,
     )

@@ -1,0 +1,4 @@
+pub mod Growing
+pub mod Prefixes
+pub mod Chains
+pub mod Adding

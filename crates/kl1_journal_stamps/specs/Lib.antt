@@ -1,0 +1,4 @@
+pub mod Later
+pub mod Stamps
+pub mod Histories
+pub mod laws
