@@ -53,6 +53,7 @@ pub mod UnifyDerivation
 pub mod UnifyFails
 pub mod Renaming
 pub mod RenamedVerdicts
+pub mod RenamedControl
 pub mod RenamedMoves
 pub mod RelabelledStates
 pub mod RelabelledChoices

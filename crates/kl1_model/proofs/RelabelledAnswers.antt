@@ -1,40 +1,28 @@
 -- Loads, starts, messages and answers, with other numbers.
-use Rattle.std.proofs.Common.{◌≡◌, ℕ, zero, suc, ◌+◌, ◌-◌, ◌==◌, not, ◌&&◌, Bool, true, false, if◌then◌else◌, List, [], ◌∷◌, ◌++◌, refl, sym, ap, ap₂, ◌∙◌, subst}
-use Rattle.std.specs.Prelude.{nat_le, nat_lt, bytes_eq, codes, map, find, filter, take, length, cond, slice_get, Option, Some, None, option_map, option_and_then, is_some}
-use Rattle.std.specs.List.{list_any}
-use Rattle.std.proofs.lemmas.List.{map-append}
-use Rattle.kl1_model.specs.declared.limits.TheConstants.{MOST_MODULES, MOST_SOURCE_BYTES, MOST_SESSIONS}
+use Rattle.std.proofs.Common.{◌≡◌, ℕ, zero, suc, ◌+◌, ◌-◌, not, ◌&&◌, Bool, true, false, if◌then◌else◌, List, [], ◌∷◌, refl, sym, ap, ap₂, ◌∙◌, subst}
+use Rattle.std.specs.Prelude.{nat_le, nat_lt, bytes_eq, codes, map, length, slice_get, Option, Some, None, option_map, option_and_then, is_some}
+use Rattle.kl1_model.specs.declared.limits.TheConstants.{MOST_MODULES}
 use Rattle.kl1_model.specs.declared.message.Message.{Message}
 use Rattle.kl1_model.specs.declared.message.Message.TheVariants.{Stop, Start, Abort, Allow}
-use Rattle.kl1_model.specs.Term.{Term, variable, integer, atom, structure, none, more, substituted, Replacement}
-use Rattle.kl1_model.specs.Meaning.{nil, cell, highest}
-use Rattle.kl1_model.specs.Nodes.{goal_nodes, goals_nodes, structures_of}
-use Rattle.kl1_model.specs.Unify.{mgu}
-use Rattle.kl1_model.specs.Module.{Clause, goals_of, Module, Reading, good, bad, read_module}
-use Rattle.kl1_model.specs.Match.{Call, call_of, Candidate, candidates_of, module_of, term_at}
-use Rattle.kl1_model.specs.Instance.{head_variables, fresh_variables, body_variable, body_instance, body_priorities}
-use Rattle.kl1_model.specs.Look.{ExecuteArguments, number_of_term, goal_look}
-use Rattle.kl1_model.specs.Control.{Control, awaits_message, tells, tells_other, ends, breaks_off, control_of, message_term, message_nodes}
-use Rattle.kl1_model.specs.State.{Task, monitor, reduces, substitutes, Goal, Origin, Shoen, State, has_substitutes, has_runs, has_told, has_forgetting, limits_of, fresh_with, goal_at, shoen_at, names_of, names_of_module, with_name, with_names, replace_in_state, change_shoen, without_goal, is_living}
-use Rattle.kl1_model.specs.Tree.{charge, is_enabled, is_on_path}
-use Rattle.kl1_model.specs.Event.{Refusal, syntax, exists, no_shoen, shoen_ended, step_refused, too_many_names, limit_passed, journal_full, sessions_refused, answer_refused, Event, load, start, control, reduce, read, login, logout, reset, answer, forget, Reply, loaded, opened, sent, reduced, was_reset, forgot, Transition, refuse, is_number, unless, are_too_many, is_full, needs_entry, with_entry, with_reduction}
-use Rattle.kl1_model.specs.Report.{report, is_reported, exception, exception_with, failure, illegal_input, exhaustion, started_report, exhausted_report, stopped_report, resumed_report}
-use Rattle.kl1_model.specs.Ending.{without_monitor, settle, after_reduction}
-use Rattle.kl1_model.specs.Opening.{may_start, with_shoen, open_shoen, with_next_variables, started_shoen, has_room_to_start, start_goal, clipped_to, child_shoen, has_room_for_child, open_child}
-use Rattle.kl1_model.specs.Reduction.{Move, commits, raises, unifies, names, opens, goes, gives_way, Action, moves, reads, read_action, task_action, action_of, term_move, move_found, goals_from, has_room_for, committed, replaced_by, substituted_by, raised, unified, equation, or_exhaustion, moved, grown, obeyed, with_control, heard, acted, reduce_goal}
-use Rattle.kl1_model.specs.Choice.{task_clauses, clause_for, can_step, quiet, goes_before, first_of_goals, Chosen, first, is_in_run}
-use Rattle.kl1_model.specs.Sending.{may_send, has_room_to_send, with_control_tail, sent_on, send_living, send_to}
+use Rattle.kl1_model.specs.Term.{Term, variable, integer, atom, structure, none, more}
+use Rattle.kl1_model.specs.Meaning.{cell, highest}
+use Rattle.kl1_model.specs.Nodes.{goal_nodes, structures_of}
+use Rattle.kl1_model.specs.Module.{Module, Reading, good, bad}
+use Rattle.kl1_model.specs.Match.{module_of}
+use Rattle.kl1_model.specs.Control.{message_term, message_nodes}
+use Rattle.kl1_model.specs.State.{Origin, Shoen, State, has_told, limits_of, names_of, names_of_module, with_names, replace_in_state, change_shoen, is_living}
+use Rattle.kl1_model.specs.Event.{Refusal, syntax, exists, no_shoen, shoen_ended, too_many_names, limit_passed, journal_full, answer_refused, start, loaded, opened, sent, Transition, unless, are_too_many, is_full, with_entry}
+use Rattle.kl1_model.specs.Report.{report}
+use Rattle.kl1_model.specs.Opening.{may_start, open_shoen, with_next_variables, started_shoen, has_room_to_start, start_goal}
+use Rattle.kl1_model.specs.Sending.{has_room_to_send, with_control_tail, sent_on, send_living, send_to}
 use Rattle.kl1_model.specs.Telling.{Asked, Given, given_told}
-use Rattle.kl1_model.specs.Answering.{may_answer, has_room_to_answer, asked, asked_at, given, answered, answer_by, answer_with, answer_asked, answer_living, answer_to}
+use Rattle.kl1_model.specs.Answering.{has_room_to_answer, asked, asked_at, given, answered, answer_by, answer_with, answer_asked, answer_living, answer_to}
 use Rattle.kl1_model.specs.Asking.{elements_of}
-use Rattle.kl1_model.specs.Forgetting.{may_forget, without_cells, waits, can_go, without_reports, with_origin, empty_place, gone_below, gone, may_go, forget_by, forget_of}
 use Rattle.kl1_model.specs.Step.{load_module, start_by, step}
-use Rattle.kl1_model.specs.code.Steps.{stopped_of, resumed_of, reduced_by, send_by, answer_in, with_module, named_by, monitor_action, opening_goals, priority_of}
-use Rattle.kl1_model.specs.laws.RelabelLaws.{renamed, place_renamed, replacement_renamed, task_renamed, goal_renamed, origin_renamed, shoen_renamed, relabelled, transition_relabelled, asked_renamed, IsIncreasing, ShiftsFrom, IsBlind, is_reset, StepRelabelled, ShiftsStay, FirstRelabelled, QuietRelabelled, RunRelabelled, AnswerRelabelled}
-use Rattle.kl1_model.proofs.GuardStays.{then_substituted, everywhere}
-use Rattle.kl1_model.proofs.Renaming.{next_number, shifts_next, shifts_later, mgu_renamed}
-use Rattle.kl1_model.proofs.RenamedMoves.{candidate_renamed, call_renamed, order_renamed, move_renamed, control_renamed, candidates_renamed, call_is, number_is, term_move_is, way_is, control_is}
-use Rattle.kl1_model.proofs.RelabelledStates.{count_cons, AreAlike, like, Fits, Becomes, same, then_does, either, map_same, any_same, filter_same, shoen_found, path_is, on_path_is, changed, replaced, all_replaced, report_is, is_reported_is, without_goal_is, without_monitor_is, settle_is, after_reduction_is, abort_is, enabled_is, alive_is}
+use Rattle.kl1_model.specs.code.Steps.{send_by, answer_in, with_module}
+use Rattle.kl1_model.specs.laws.RelabelLaws.{renamed, origin_renamed, shoen_renamed, asked_renamed, ShiftsFrom}
+use Rattle.kl1_model.proofs.Renaming.{next_number, shifts_next, shifts_later}
+use Rattle.kl1_model.proofs.RelabelledStates.{like, Fits, Becomes, same, changed, replaced, alive_is}
 use Rattle.kl1_model.proofs.RelabelledEffects.{open_is, term_instance, Turns, turns_refused, turns_or, turns_done, turns_unless}
 
 -- ---- loads and starts

@@ -6,8 +6,6 @@ use Rattle.std.proofs.lemmas.List.{map-append}
 use Rattle.kl1_model.specs.declared.rules.Rules.{Rules}
 use Rattle.kl1_model.specs.declared.number.Number.{Number}
 use Rattle.kl1_model.specs.declared.number.Number.TheVariants.{Value, Overflow, ZeroDivisor}
-use Rattle.kl1_model.specs.declared.message.Message.{Message}
-use Rattle.kl1_model.specs.declared.message.Message.TheVariants.{Stop, Start, Abort}
 use Rattle.kl1_model.specs.Text.{is_name_byte}
 use Rattle.kl1_model.specs.Term.{Term, variable, integer, atom, structure, Terms, none, more, count_of, Replacement}
 use Rattle.kl1_model.specs.Found.{Found, found, awaits, wrong, then_found, found_map, right_if}
@@ -17,7 +15,6 @@ use Rattle.kl1_model.specs.Goal.{is_called, is_execute}
 use Rattle.kl1_model.specs.Module.{Clause, Module, is_of}
 use Rattle.kl1_model.specs.Match.{is_no, places_of, verdict, Call, call_of, module_of, clauses_of, Candidate, candidate_by, candidates_of, fails}
 use Rattle.kl1_model.specs.Look.{spelled_by, spelling, callee_look, goal_look, priority_look, allowance_look, number_of_term, ExecuteArguments, arguments_look}
-use Rattle.kl1_model.specs.Control.{allow_word, word_of, Control, awaits_message, tells, tells_other, ends, breaks_off, control_of}
 use Rattle.kl1_model.specs.State.{most_spelled}
 use Rattle.kl1_model.specs.Reduction.{Move, commits, raises, unifies, names, opens, goes, gives_way, move_found, call_move, becomes, execute_move, built_in_move, term_move, failure}
 use Rattle.kl1_model.specs.code.Sections.{clauses_in, candidates_within, candidates_from}
@@ -54,13 +51,6 @@ move_renamed g (names text a) = names text (renamed g a)
 move_renamed g (opens o) = opens (order_renamed g o)
 move_renamed g goes = goes
 move_renamed g gives_way = gives_way
-
-abbrev pub control_renamed : (ℕ → ℕ) → Control → Control
-control_renamed g (awaits_message v) = awaits_message (g v)
-control_renamed g (tells m rest) = tells m (renamed g rest)
-control_renamed g (tells_other m rest) = tells_other (renamed g m) (renamed g rest)
-control_renamed g ends = ends
-control_renamed g (breaks_off t) = breaks_off (renamed g t)
 
 -- ---- candidates
 
@@ -155,7 +145,7 @@ call_is g (structure f (more a (more b (more c us)))) =
 
 -- ---- looks
 
-if_found : {A : Type 0} (g : ℕ → ℕ) (c : Bool) (x y u v : Found A) → x ≡ found_renamed g u → y ≡ found_renamed g v → (if c then x else y) ≡ found_renamed g (if c then u else v)
+pub if_found : {A : Type 0} (g : ℕ → ℕ) (c : Bool) (x y u v : Found A) → x ≡ found_renamed g u → y ≡ found_renamed g v → (if c then x else y) ≡ found_renamed g (if c then u else v)
 if_found g true x y u v e f = e
 if_found g false x y u v e f = f
 
@@ -368,52 +358,3 @@ term_move_is g rules modules t clause up = ap (term_move rules modules (renamed 
 -- a substitute, which gives way
 pub way_is : (g : ℕ → ℕ) (t : Term) → move_found (λ right. gives_way) (goal_look (renamed g t)) ≡ option_map (move_renamed g) (move_found (λ right. gives_way) (goal_look t))
 way_is g t = ap (move_found (λ right. gives_way)) (goal_look_renamed g t) ∙ moves_as g (λ right. gives_way) (λ right. gives_way) (goal_look t) (λ right. refl)
-
--- ---- control streams
-
-allow_is : (g : ℕ → ℕ) (t : Term) → allow_word (renamed g t) ≡ found_renamed g (allow_word t)
-allow_is g (variable v) = refl
-allow_is g (integer (pos n)) = refl
-allow_is g (integer (negsuc n)) = refl
-allow_is g (atom a) = refl
-allow_is g (structure f ts) = refl
-
-words_is : (g : ℕ → ℕ) (c d e : Bool) (x y z : Message) → (if c then found x else if d then found y else if e then found z else wrong) ≡ found_renamed g (if c then found x else if d then found y else if e then found z else wrong)
-words_is g true d e x y z = refl
-words_is g false true e x y z = refl
-words_is g false false true x y z = refl
-words_is g false false false x y z = refl
-
-word_is : (g : ℕ → ℕ) (t : Term) → word_of (renamed g t) ≡ found_renamed g (word_of t)
-word_is g (variable v) = refl
-word_is g (integer i) = refl
-word_is g (atom a) = words_is g (bytes_eq a (codes "stop")) (bytes_eq a (codes "start")) (bytes_eq a (codes "abort")) Stop Start Abort
-word_is g (structure f none) = refl
-word_is g (structure f (more n none)) = if_found g (bytes_eq f (codes "allow")) (allow_word (renamed g n)) wrong (allow_word n) wrong (allow_is g n) refl
-word_is g (structure f (more a (more b us))) = refl
-
-front_is : (g : ℕ → ℕ) (m rest : Term) (w : Found Message) →
-    elim (found_renamed g w) [ found message ↦ tells message (renamed g rest) | awaits v ↦ awaits_message v | wrong ↦ tells_other (renamed g m) (renamed g rest) ]
-    ≡ control_renamed g (elim w [ found message ↦ tells message rest | awaits v ↦ awaits_message v | wrong ↦ tells_other m rest ])
-front_is g m rest (found n) = refl
-front_is g m rest (awaits v) = refl
-front_is g m rest wrong = refl
-
-if_control : (g : ℕ → ℕ) (c : Bool) (x y u v : Control) → x ≡ control_renamed g u → y ≡ control_renamed g v → (if c then x else y) ≡ control_renamed g (if c then u else v)
-if_control g true x y u v e f = e
-if_control g false x y u v e f = f
-
-abbrev front : Term → Term → Found Message → Control
-front m rest w = elim w [ found message ↦ tells message rest | awaits v ↦ awaits_message v | wrong ↦ tells_other m rest ]
-
-pub control_is : (g : ℕ → ℕ) (t : Term) → control_of (renamed g t) ≡ control_renamed g (control_of t)
-control_is g (variable v) = refl
-control_is g (integer i) = refl
-control_is g (atom a) = if_control g (bytes_eq a (codes "[]")) ends (breaks_off (atom a)) ends (breaks_off (atom a)) refl refl
-control_is g (structure f none) = refl
-control_is g (structure f (more m none)) = refl
-control_is g (structure f (more m (more rest none))) =
-    if_control g (bytes_eq f (codes ".")) (front (renamed g m) (renamed g rest) (word_of (renamed g m))) (breaks_off (structure f (more (renamed g m) (more (renamed g rest) none))))
-    (front m rest (word_of m)) (breaks_off (structure f (more m (more rest none))))
-    (ap (front (renamed g m) (renamed g rest)) (word_is g m) ∙ front_is g m rest (word_of m)) refl
-control_is g (structure f (more a (more b (more c us)))) = refl

@@ -21,7 +21,6 @@ use Rattle.kl1_model.specs.laws.RelabelLaws.{renamed, each_renamed, task_renamed
 use Rattle.kl1_model.specs.laws.WorkLaws.{with_work, SameCounts, OrderOfWorkIsNothing, OrderOfWorkIsNotSeen}
 use Rattle.kl1_model.proofs.RelabelledStates.{count_cons, AreAlike, like, Fits, charged_is}
 use Rattle.kl1_model.proofs.RelabelledChoices.{quiet_is, first_is}
-use Rattle.kl1_model.proofs.RelabelledEffects.{transition_like, Turns}
 use Rattle.kl1_model.proofs.RelabelledSteps.{turns}
 
 -- ---- the same counts

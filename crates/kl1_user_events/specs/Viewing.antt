@@ -12,9 +12,8 @@ use Rattle.kl1_model.specs.State.{Task, monitor, reduces, substitutes, Goal, Ori
 use Rattle.kl1_model.specs.Tree.{charged_of, goals_alive}
 use Rattle.kl1_model.specs.Asking.{condition_of, origin_at}
 use Rattle.kl1_model.specs.Choice.{can_step}
-use Rattle.kl1_model.specs.code.Awaited.{awaited_by_control}
+use Rattle.kl1_model.specs.code.Waits.{awaited_by_control, awaited_by_term, awaited_by_substitute}
 use Rattle.kl1_model.specs.code.TermCode.{NodeCode, nodes_of}
-use Rattle.kl1_model.specs.code.Waits.{awaited_by_term, awaited_by_substitute}
 use Rattle.kl1_user_events.specs.declared.numbers.ShoenNo.{ShoenNo}
 use Rattle.kl1_user_events.specs.declared.shoen_view.ShoenView.{ShoenView}
 use Rattle.kl1_user_events.specs.declared.goal_view.TaskKind.{TaskKind}
