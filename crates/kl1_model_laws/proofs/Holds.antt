@@ -104,7 +104,7 @@ Candidates P ks = AllByRecursion (λ k. Places P k.places) ks
 one_candidate : (P : ℕ → Type 0) (n : ℕ) (c : Clause) (ps : List Replacement) (a : Answer) → Places P ps → Candidates P (candidate_by n c ps a)
 one_candidate P n c ps yes h = (h, tt)
 one_candidate P n c ps no h = tt
-one_candidate P n c ps wait h = tt
+one_candidate P n c ps (wait vs) h = tt
 
 both_candidates : (P : ℕ → Type 0) (ks ls : List Candidate) → Candidates P ks → Candidates P ls → Candidates P (ks ++ ls)
 both_candidates P [] ls a b = b

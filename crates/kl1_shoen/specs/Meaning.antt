@@ -9,7 +9,7 @@ use Rattle.kl1_shoen_paths.specs.declared.shoen.Shoen.{Shoen}
 
 -- what the console keeps, with the cells of a store, names read by f
 abbrev pub origin_of : {N : Type 0} → (N → List ℕ) → Held N → Origin N → model.Origin
-origin_of f h o = record { goal = term_of f h o.goal; reports = term_of f h o.reports; control = term_of f h o.control }
+origin_of f h o = record { goal = term_of f h o.goal; forgotten = o.forgotten; reports = term_of f h o.reports; control = term_of f h o.control }
 
 -- a shoen, with the cells of a store, names read by f
 abbrev pub shoen_of : {N : Type 0} → (N → List ℕ) → Held N → Shoen N → model.Shoen
