@@ -169,7 +169,7 @@ follows_end : (n : ℕ) (s t : State) → Follows s t → Follows (ended_at n s)
 follows_end n s t k =
     let u = without_monitor n (ended_at n t) in
     let a = alike_closing n terminated_report u in record {
-      nodes = a.nodes ∙ ended_nodes n t.shoens ∙ ap (map (ended_node n)) k.nodes ∙ sym (ended_nodes s.rules n s.shoens);
+      nodes = a.nodes ∙ ended_nodes t.rules n t.shoens ∙ ap (map (ended_node n)) k.nodes ∙ sym (ended_nodes s.rules n s.shoens);
       goals = λ m. (follows_alike u (terminate n t) a).goals m ∙ goal_aside n m (ended_at n t) ∙ k.goals m;
     }
 

@@ -9,7 +9,7 @@ use Rattle.kl1_shoen_paths.specs.declared.shoen.Shoen.{Shoen}
 use Rattle.kl1_shoen.specs.declared.change.Change.{Change}
 use Rattle.kl1_shoen.specs.declared.change.Change.TheVariants.{Tail, Control, OriginControl, Breaks, Stopped, Allows, Ends, Aborts}
 use Rattle.kl1_shoen.specs.Changes.{changed_by}
-use Rattle.kl1_shoen.specs.Shoens.{has_number, changed, AreNumbered, parents_in}
+use Rattle.kl1_shoen.specs.Shoens.{has_number, changed, ended_with, AreNumbered, parents_in}
 use Rattle.kl1_shoen_paths.proofs.Numbered.{found_none, found_at}
 use Rattle.kl1_shoen.proofs.Numbered.{number_is, numbered_set}
 
@@ -25,21 +25,21 @@ pub number_kept : {N : Type 0} (c : Change N) (s : Shoen N) → (changed_by c s)
 number_kept (Tail x) s = refl
 number_kept (Control x) s = refl
 number_kept (OriginControl x) s = refl
-number_kept Breaks s = refl
+number_kept (Breaks x) s = refl
 number_kept (Stopped x) s = refl
 number_kept (Allows x) s = refl
-number_kept (Ends x) s = refl
-number_kept Aborts s = if_number (is_living s.life) s (record s { life = Aborted }) refl
+number_kept (Ends x y) s = refl
+number_kept (Aborts x) s = if_number (is_living s.life) s (ended_with x Aborted s) refl
 
 pub parent_kept : {N : Type 0} (c : Change N) (s : Shoen N) → (changed_by c s).parent ≡ s.parent
 parent_kept (Tail x) s = refl
 parent_kept (Control x) s = refl
 parent_kept (OriginControl x) s = refl
-parent_kept Breaks s = refl
+parent_kept (Breaks x) s = refl
 parent_kept (Stopped x) s = refl
 parent_kept (Allows x) s = refl
-parent_kept (Ends x) s = refl
-parent_kept Aborts s = if_parent (is_living s.life) s (record s { life = Aborted }) refl
+parent_kept (Ends x y) s = refl
+parent_kept (Aborts x) s = if_parent (is_living s.life) s (ended_with x Aborted s) refl
 
 -- a shoen that is found has a number from 1
 pub number_some : {N : Type 0} (n : ℕ) (s : Shoen N) (ss : List (Shoen N)) → AreNumbered 0 ss → find (has_number n) ss ≡ Some s → 0 < n

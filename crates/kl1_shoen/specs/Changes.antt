@@ -1,11 +1,12 @@
 -- What becomes of one shoen.
-use Rattle.std.specs.Prelude.{true, if◌then◌else◌, option_map}
+use Rattle.std.specs.Prelude.{true, if◌then◌else◌, option_map, unwrap_or}
 use Rattle.kl1_model.specs.declared.life.Life.TheVariants.{Aborted}
 use Rattle.kl1_model.specs.State.{is_living}
 use Rattle.kl1_model.specs.Reduction.{grown}
 use Rattle.kl1_store.specs.declared.cell.Cell.{Cell}
 use Rattle.kl1_shoen_paths.specs.declared.shoen.Shoen.{Shoen}
 use Rattle.kl1_shoen_paths.specs.declared.shoen.Origin.{Origin}
+use Rattle.kl1_shoen.specs.Shoens.{ended_with}
 use Rattle.kl1_shoen.specs.declared.change.Change.{Change}
 use Rattle.kl1_shoen.specs.declared.change.Change.TheVariants.{Tail, Control, OriginControl, Breaks, Stopped, Allows, Ends, Aborts}
 
@@ -18,8 +19,8 @@ abbrev pub changed_by : {N : Type 0} → Change N → Shoen N → Shoen N
 changed_by (Tail tail) h = record h { tail = tail }
 changed_by (Control control) h = record h { control = control }
 changed_by (OriginControl control) h = record h { origin = option_map (with_control control) h.origin }
-changed_by Breaks h = record h { is_broken = true }
+changed_by (Breaks left) h = record h { is_broken = true; tail = unwrap_or left h.tail }
 changed_by (Stopped is_stopped) h = record h { is_stopped = is_stopped }
 changed_by (Allows extra) h = record h { allowance = grown h.allowance extra }
-changed_by (Ends life) h = record h { life = life }
-changed_by Aborts h = if is_living h.life then record h { life = Aborted } else h
+changed_by (Ends life left) h = ended_with left life h
+changed_by (Aborts left) h = if is_living h.life then ended_with left Aborted h else h

@@ -2,7 +2,8 @@
 
 ghost use Rattle.std.specs.Prelude.{◌≡◌, ◌+◌, min, option_map};
 ghost use Rattle.kl1_model.specs.Reduction.{grown};
-ghost use Rattle.kl1_shoen.specs.declared.change.Change.TheVariants.{Aborts};
+ghost use Rattle.kl1_shoen.specs.declared.change.Change.TheVariants.{Aborts, Breaks};
+ghost use Rattle.kl1_shoen.specs.Shoens.{control_left, ended_with};
 ghost use Rattle.kl1_shoen.specs.Changes.{changed_by, with_control as kept_with};
 
 use crate::counted::is_living;
@@ -21,16 +22,16 @@ pub enum Change<N> {
     Control(Cell<N>),
     /// The console keeps this tail of its control stream.
     OriginControl(Cell<N>),
-    /// Its report stream is broken.
-    Breaks,
+    /// Its report stream is broken, and has this tail, if one is told.
+    Breaks(Option<Cell<N>>),
     /// It is stopped, or not.
     Stopped(bool),
     /// It may be charged this many reductions more, up to the greatest allowance.
     Allows(u64),
-    /// It has this life.
-    Ends(Life),
-    /// It is ended as aborted, if it lives.
-    Aborts,
+    /// It has this life, and this is left of its control stream, if it is told and the console doesn't keep the stream.
+    Ends(Life, Option<Cell<N>>),
+    /// It is ended so as aborted, if it lives.
+    Aborts(Option<Cell<N>>),
 }
 
 /// An allowance, in reductions, after it was raised: it ends at the greatest there is.
@@ -56,15 +57,47 @@ fn with_control<N: NameValue>(origin: Option<Origin<N>>, control: Cell<N>) -> Op
     }
 }
 
+/// What is left of the control stream of a shoen that ends: `left`, if it is told, unless the console keeps the stream.
+fn control_left<N: NameValue>(shoen: Shoen<N>, left: Option<Cell<N>>) -> Cell<N>
+    ensures { result ≡ control_left left shoen.origin shoen.control }
+{
+    match left {
+        None => shoen.control,
+        Some(left) => match shoen.origin {
+            None => left,
+            Some(_) => shoen.control,
+        },
+    }
+}
+
+/// A shoen that ended in this way, of whose control stream `left` is left.
+fn ended<N: NameValue>(shoen: Shoen<N>, life: Life, left: Option<Cell<N>>) -> Shoen<N>
+    ensures { result ≡ ended_with left life shoen }
+{
+    Shoen {
+        life,
+        control: control_left(shoen, left),
+        ..shoen
+    }
+}
+
 /// A shoen after an abort: ended, if it lives.
-fn aborted<N: NameValue>(shoen: Shoen<N>) -> Shoen<N>
-    ensures { result ≡ changed_by Aborts shoen }
+fn aborted<N: NameValue>(shoen: Shoen<N>, left: Option<Cell<N>>) -> Shoen<N>
+    ensures { result ≡ changed_by (Aborts left) shoen }
 {
     if !is_living(shoen.life) {
         return shoen;
     }
+    ended(shoen, Life::Aborted, left)
+}
+
+/// A shoen whose report stream is broken, with this tail, if one is told.
+fn broken<N: NameValue>(shoen: Shoen<N>, tail: Option<Cell<N>>) -> Shoen<N>
+    ensures { result ≡ changed_by (Breaks tail) shoen }
+{
     Shoen {
-        life: Life::Aborted,
+        is_broken: true,
+        tail: tail.unwrap_or(shoen.tail),
         ..shoen
     }
 }
@@ -80,10 +113,7 @@ pub fn changed<N: NameValue>(shoen: Shoen<N>, change: Change<N>) -> Shoen<N>
             origin: with_control(shoen.origin, control),
             ..shoen
         },
-        Change::Breaks => Shoen {
-            is_broken: true,
-            ..shoen
-        },
+        Change::Breaks(tail) => broken(shoen, tail),
         Change::Stopped(is_stopped) => Shoen {
             is_stopped,
             ..shoen
@@ -92,7 +122,7 @@ pub fn changed<N: NameValue>(shoen: Shoen<N>, change: Change<N>) -> Shoen<N>
             allowance: raised(shoen.allowance, extra),
             ..shoen
         },
-        Change::Ends(life) => Shoen { life, ..shoen },
-        Change::Aborts => aborted(shoen),
+        Change::Ends(life, left) => ended(shoen, life, left),
+        Change::Aborts(left) => aborted(shoen, left),
     }
 }

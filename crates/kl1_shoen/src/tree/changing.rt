@@ -1,9 +1,9 @@
 // Changes of shoens.
 
-ghost use Rattle.std.specs.Prelude.{◌≡◌, ◌<◌, ◌≤◌, ◌+◌, map, option_map, true, OnOk, OnErr};
+ghost use Rattle.std.specs.Prelude.{◌≡◌, ◌<◌, ◌≤◌, ◌+◌, map, option_map, unwrap_or, true, OnOk, OnErr};
 ghost use Rattle.kl1_model.specs.Reduction.{grown};
 ghost use Rattle.kl1_shoen_paths.specs.Below.{AreLinked};
-ghost use Rattle.kl1_shoen.specs.Shoens.{has_number, changed, aborted_below_in, parents_in, AreNumbered, AreLower};
+ghost use Rattle.kl1_shoen.specs.Shoens.{has_number, changed, ended_with, aborted_below_in, parents_in, AreNumbered, AreLower};
 ghost use Rattle.kl1_shoen.specs.Changes.{changed_by, with_control};
 
 use crate::change::{Change, changed};
@@ -49,12 +49,12 @@ impl<N: NameValue> ShoenTree<N> {
         self.change(number, Change::OriginControl(control))
     }
 
-    /// Breaks a shoen's report stream.
-    pub fn break_stream(&mut self, number: u64) -> Result<(), AllocError>
-        ensures ok { OnOk result (self.new ≡ record self.old { shoens = changed number (λ h. record h { is_broken = true }) self.old.shoens }) }
+    /// Breaks a shoen's report stream, which has the tail `tail` then, if one is told.
+    pub fn break_stream(&mut self, number: u64, tail: Option<Cell<N>>) -> Result<(), AllocError>
+        ensures ok { OnOk result (self.new ≡ record self.old { shoens = changed number (λ h. record h { is_broken = true; tail = unwrap_or tail h.tail }) self.old.shoens }) }
         ensures err { OnErr result (self.new ≡ self.old) }
     {
-        self.change(number, Change::Breaks)
+        self.change(number, Change::Breaks(tail))
     }
 
     /// Stops a shoen, or lets it go on.
@@ -73,20 +73,26 @@ impl<N: NameValue> ShoenTree<N> {
         self.change(number, Change::Allows(extra))
     }
 
-    /// Gives a shoen this life.
-    pub fn end(&mut self, number: u64, life: Life) -> Result<(), AllocError>
-        ensures ok { OnOk result (self.new ≡ record self.old { shoens = changed number (λ h. record h { life = life }) self.old.shoens }) }
+    /// Gives a shoen this life. `left` is left of its control stream, if it is told and the console doesn't keep the stream.
+    pub fn end(
+        &mut self,
+        number: u64,
+        life: Life,
+        left: Option<Cell<N>>,
+    ) -> Result<(), AllocError>
+        ensures ok { OnOk result (self.new ≡ record self.old { shoens = changed number (ended_with left life) self.old.shoens }) }
         ensures err { OnErr result (self.new ≡ self.old) }
     {
-        self.change(number, Change::Ends(life))
+        self.change(number, Change::Ends(life, left))
     }
 
-    /// Ends a shoen and all below it that live, as aborted.
-    pub fn abort(&mut self, number: u64) -> Result<(), AllocError>
-        ensures ok { OnOk result (self.new ≡ record self.old { shoens = map (aborted_below_in self.old.shoens number) self.old.shoens }) }
+    /// Ends a shoen and all below it that live, as aborted. `left` is left of the control stream of each, if it is told and the console
+    /// doesn't keep the stream.
+    pub fn abort(&mut self, number: u64, left: Option<Cell<N>>) -> Result<(), AllocError>
+        ensures ok { OnOk result (self.new ≡ record self.old { shoens = map (aborted_below_in left self.old.shoens number) self.old.shoens }) }
         ensures err { OnErr result (self.new ≡ self.old) }
     {
-        abort_all(&mut self.shoens, &self.links, number, &mut self.below)?;
+        abort_all(&mut self.shoens, &self.links, number, left, &mut self.below)?;
         Ok(())
     }
 }
@@ -132,12 +138,13 @@ fn abort_all<N: NameValue>(
     shoens: &mut CountedShoens<N>,
     links: &ChildLists,
     number: u64,
+    left: Option<Cell<N>>,
     below: &mut Vec<u64>,
 ) -> Result<(), AllocError>
     requires numbered { AreNumbered 0 shoens.old.now }
     requires lower { AreLower shoens.old.now }
     requires linked { AreLinked (parents_in shoens.old.now) links.now.first links.now.next }
-    ensures ok { OnOk result (shoens.new.now ≡ map (aborted_below_in shoens.old.now number) shoens.old.now) }
+    ensures ok { OnOk result (shoens.new.now ≡ map (aborted_below_in left shoens.old.now number) shoens.old.now) }
     ensures err { OnErr result (shoens.new.now ≡ shoens.old.now) }
     ensures kept { shoens.new.kept ≡ shoens.old.kept }
     ensures room { shoens.new.room ≡ shoens.old.room }
@@ -147,7 +154,7 @@ fn abort_all<N: NameValue>(
     links.below(shoens.items(), number, below)?;
     shoens.reserve_changes(below.len())?;
     while let Some(last) = below.pop() {
-        change_reserved(shoens, last, Change::Aborts);
+        change_reserved(shoens, last, Change::Aborts(left));
     }
     Ok(())
 }

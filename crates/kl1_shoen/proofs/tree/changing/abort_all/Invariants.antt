@@ -6,7 +6,7 @@ use Rattle.kl1_shoen.proofs.tree.changing.abort_all.Given as goal
 -- what is left to be ended comes to what the abort ends
 abbrev pub invariant-loop-last : goal.invariant-loop-last
 invariant-loop-last g l = record {
-  now : map (aborted_among l.below.items) l.shoens.now ≡ map (aborted_below_in l.fn.shoens.now l.number) l.fn.shoens.now;
+  now : map (aborted_among l.left l.below.items) l.shoens.now ≡ map (aborted_below_in l.left l.fn.shoens.now l.number) l.fn.shoens.now;
   numbered : AreNumbered 0 l.shoens.now;
   parents : parents_in l.shoens.now ≡ parents_in l.fn.shoens.now;
   changes : vec_len l.below ≤ l.shoens.changes;
