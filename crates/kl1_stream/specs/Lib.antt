@@ -6,3 +6,4 @@ pub mod Tops
 pub mod Controls
 pub mod Messages
 pub mod Elements
+pub mod Askings

@@ -11,7 +11,7 @@ mod sending;
 mod told;
 mod tops;
 
-pub use answers::unanswered_at;
+pub use answers::{Asking, asked_at};
 pub use console::send_message;
 pub use control::{Control, read_control};
 pub use elements::{keep_places, next_element, nth_cell};
