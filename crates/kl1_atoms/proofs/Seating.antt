@@ -3,6 +3,7 @@ use Rattle.std.proofs.Common.{◌≡◌, ◌≢◌, ℕ, zero, suc, ◌+◌, ◌
 use mathlib.Core.Option.{some, some-injective, some-ne-none}
 use lib.ListN.{get_elem?}
 use Rattle.std.proofs.lemmas.Bool.{cases_order}
+use Rattle.kl1_model.specs.declared.limits.TheConstants.{MOST_ACCOUNTS, MOST_NAMES}
 use Rattle.atomic_table.specs.Table.{opening, Splits}
 use Rattle.atomic_table.proofs.Lists.{at_set}
 use Rattle.kl1_atoms.specs.Rule.{words_each, Overlap}
@@ -12,16 +13,16 @@ use Rattle.kl1_atoms.specs.declared.face.View.{View}
 use Rattle.kl1_atoms.specs.Rule.{Fits, Mine, Kept}
 use Rattle.kl1_atoms.specs.Seats.{new_face, faces_from, all_faces, own_part, other_part}
 
-one_more : (a r p : ℕ) → a + r + p ≡ a + (r + p)
-one_more a r p = omega arith
+one_more : (a r k : ℕ) → a + r + k * r ≡ a + suc k * r
+one_more a r k = omega arith
 
 -- the face at a place of the first view
 face_at : (n r a count k : ℕ) (f : Face) → get_elem? (faces_from n r a count) k ≡ some f → (f ≡ new_face n r (a + k * r)) × (k < count)
 face_at n r a zero k f e = absurd (some-ne-none f (sym e))
-face_at n r a (suc count) zero f e = (sym (some-injective (new_face n r a) f e) ∙ ap (new_face n r) (let z : a ≡ a + 0 = omega arith in z), omega arith)
+face_at n r a (suc count) zero f e = (sym (some-injective (new_face n r a) f e) ∙ ap (new_face n r) (let z : a ≡ a + zero * r = omega arith in z), omega arith)
 face_at n r a (suc count) (suc k) f e =
     let q = face_at n r (a + r) count k f e in
-    (q.0 ∙ ap (new_face n r) (one_more a r (k * r)), (let h = q.1 in omega arith))
+    (q.0 ∙ ap (new_face n r) (one_more a r k), (let h = q.1 in omega arith))
 
 -- the only view is the first
 only_view : (v w : View) (id : ℕ) → get_elem? (v ∷ []) id ≡ some w → (id ≡ 0) × (v ≡ w)
@@ -149,10 +150,22 @@ part_from n r first c a h = let e : c - a ≡ suc (c - (a + 1)) = omega arith in
 pub range_step : (n r first c a : ℕ) → a < c → first + (c - a) * r ≤ n → (first + r ≤ n) × (first + r + (c - (a + 1)) * r ≤ n)
 range_step n r first c a h le =
     let e : c - a ≡ suc (c - (a + 1)) = omega arith in
-    both first r ((c - (a + 1)) * r) n (rw e at le)
+    let k : first + suc (c - (a + 1)) * r ≤ n = rw e at le in
+    both first r ((c - (a + 1)) * r) n (omega (arith, k))
   where
     both : (first r p n : ℕ) → first + (r + p) ≤ n → (first + r ≤ n) × (first + r + p ≤ n)
     both first r p n le = (omega (arith, le), omega (arith, le))
+
+-- a table has two entries or more, and no more than the most accounts can have
+pub some_entries : (a r : ℕ) → 0 < a → 1 < r → 1 < a * r
+some_entries zero r some more = absurd (omega arith)
+some_entries (suc a) r some more = omega arith
+
+pub few_entries : (a r : ℕ) → a ≤ MOST_ACCOUNTS → r ≤ MOST_NAMES → a * r ≤ MOST_ACCOUNTS * MOST_NAMES
+few_entries a r le few =
+    let e : MOST_ACCOUNTS ≡ a + (MOST_ACCOUNTS - a) = omega (arith, le) in
+    let k : a * r ≤ MOST_ACCOUNTS * r = subst (λ m. a * r ≤ m * r) (sym e) (omega arith) in
+    omega (arith, k, few)
 
 -- words of zeros
 pub zeros-length : (n : ℕ) → length {A = ℕ} (replicate n 0) ≡ n

@@ -33,7 +33,7 @@ pub struct AtomTable {
     pub(crate) entries: u64,
     pub ghost key: { table.shared.key.entries ≡ entries },
     pub ghost size: { table.shared.table_id.words ≡ words_each * entries },
-    pub ghost some: { 0 < entries },
+    pub ghost some: { 1 < entries },
     pub ghost few: { entries ≤ (MOST_ACCOUNTS * MOST_NAMES) },
     pub ghost counted: { accounts ≤ MOST_ACCOUNTS },
 }

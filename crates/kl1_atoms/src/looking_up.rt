@@ -31,14 +31,14 @@ impl AtomTable {
         AtomTable::with_room(alloc, accounts, MOST_NAMES_BEFORE)
     }
 
-    /// Like `new`, with room for `room` names of each account, 1 to 4,096.
+    /// Like `new`, with room for `room` names of each account, 2 to 4,096.
     pub fn with_room(
         alloc: Global,
         accounts: usize,
         room: usize,
     ) -> Result<(AtomTable, Vec<AtomSeat>), AllocError>
         requires accounts { (0 < accounts) × (accounts ≤ MOST_ACCOUNTS) }
-        requires room { (0 < room) × (room ≤ MOST_NAMES) }
+        requires room { (1 < room) × (room ≤ MOST_NAMES) }
         ensures accounts { IfOk result (λ made. made.0.accounts ≡ accounts) }
         ensures count { IfOk result (λ made. vec_len made.1 ≡ accounts) }
         ensures seats { IfOk result (λ made. (k : ℕ) (seat : AtomSeat) → slice_get made.1.items k ≡ Some seat → IsNewSharedSeat made.0.table.shared.table_id seat.badge.table_id made.0.accounts (face_in seat.badge.views) seat.account k) }
