@@ -13,12 +13,12 @@ use Rattle.kl1_match_guard.specs.Outcomes.{IsKnown, IsWaiting}
 
 -- what is known waits for nothing
 pub known_waits : {V : Type 0} (IsFree : V → Type 0) (o : Outcome V) → IsKnown o → IsWaiting IsFree o
-known_waits IsFree Agrees known = tt
-known_waits IsFree Clashes known = tt
-known_waits IsFree (Waits v) known = absurd known
+known_waits IsFree Agrees k = tt
+known_waits IsFree Clashes k = tt
+known_waits IsFree (Waits v) k = absurd k
 
 by_form : (i : TypeTest) (t u : Term) → t ≡ u → look i u ≡ known (is_found i u) → look i t ≡ known (is_found i t)
-by_form i t u e known = ap (look i) e ∙ known ∙ sym (ap (λ x. known (is_found i x)) e)
+by_form i t u e same = ap (look i) e ∙ same ∙ sym (ap (λ x. known (is_found i x)) e)
 
 -- a look at what is bound
 bound_looks : {N V S : Type 0} (f : N → List ℕ) (number : V → ℕ) (arguments : S → Terms) (i : TypeTest) (form : Form N V S) (t : Term) → IsForm f number arguments form t → ((v : V) → form ≡ Variable v → ⊥) → look i t ≡ known (is_found i t)
