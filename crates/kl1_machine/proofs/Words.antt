@@ -93,7 +93,7 @@ pub use Rattle.kl1_user_effects.proofs.States.{changed_count, changed_in, goals_
 pub use Rattle.kl1_user_effects.proofs.Streams.{clash_turns, closed_turns, grown_turns, raised_turns, solved_turns}
 pub use Rattle.kl1_user_effects.proofs.Substituting.{IsAsked, asked, asked_agree, has_grown, new_in, new_means, new_stays, next_grown, next_still, next_there, plain_turns, replaced_turns, reported_here, whole_turns}
 pub use Rattle.kl1_user_effects.proofs.Walking.{StillEnds, ending_read, ends_turn, first_end, last_end, next_end, parents_read, path_read, paths_all, reached_after, reached_read}
-pub use Rattle.kl1_user_effects.proofs.Words.{Aborted, Adds, AllByRecursion, AllowsMessage, AreBelow, AreGoalsIn, AreNeeds, AreNumbered, AreOwned, AreQualifiedIn, AreSettled, AreSmall, AreUpTo, Atom, AtomNo, Binding, Bound, Breaks, Broken, BuiltIn, Candidate, Clash, Dropped, EndsOne, Err, Fits, Grown-trans, Grown-variable, HasGrown, HasRoom, Integer, IsBody, IsCalm, IsException, IsMadeIn, HasLate, KeepsLate, IsOriginIn, IsOwned, IsShoenIn, IsWalked, IsWhole, Journal, KeepsBy, KeepsFree, KeepsOthers, KeepsOutlines, Kept, Known, Living, MONITOR_PRIORITY, MOST_NAMES, Means, Message, Needs, Ok, OnOk, Origin, RefusesMessage, Result, Sent, State, StaysFree, Structure, Terms, Told, ToldAs, Transition, Tree, aborted_below_in, after_reduction, aim_with, ap₂, atom, body_priorities, broken_at, bytes_eq-Decides, cases_lt, cell, change_shoen, changed, charged_in, clipped, close, close_late, close_of, closed_at, codes, committed, control, count_by, ended_each, ended_in, ending_in, ending_of, ends_in, eqb-false, equation, exception, exception_with, exchanged, exhausted_report, failure, false≢true, find, finished_each_late, finished_late, goal_with, goals_for, goals_of, grown, has_made_last, has_number, has_reached_in, has_substitutes, held_exchanged, inl, inr, integer, is_bound, is_goal_of, is_living, is_living_child_of, is_monitor_of, is_number, is_of_any, is_on_path_in, is_other, is_reported, is_reported_at, is_reported_of, is_late_tail, is_variable, journal_full, keeps_names, le-leb, le-ltb, leb-false, leb-true, length-append, length-map, length_push, limits_of, list_any, list_any-append, lives_in, lt-leb, lt-ltb, map-append, message_nodes, mgu, more, nat_le, nat_lt, newly_exhausted, none, not, number_by, occurs, or_cases, origin_with, outline, parents_in, path, path_in, plain, priorities_by, raised, reached_in, read_exchanged, refuse, replace, replace_in_state, replaced, replaced_by, report, report_each, report_each_late, report_late, report_of, report_tail, reported_at, reported_on, resumed_of, resumed_report, sent, sent_on, settle_charged_late, shoen_at, spare, state_with, step, still_known, stopped_of, stopped_report, structure, substituted_by, sum_by-cons, syntax, take, take_all, take_more, term_of-Atom, term_of-Integer, term_of-unbound, term_of-variable, terminate_each, terminated, terminated_report, texts_of, told_in, unheard, unified, unwrap_or, variable, with_entry, with_name, with_names, with_variable, without_monitor, zero, ◌+◌, ◌-◌, ◌<◌, ◌^◌, ◌≤◌}
+pub use Rattle.kl1_user_effects.proofs.Words.{Aborted, Adds, AllByRecursion, AllowsMessage, AreBelow, AreGoalsIn, AreNeeds, AreNumbered, AreOwned, AreQualifiedIn, AreSettled, AreSmall, AreUpTo, Atom, AtomNo, Binding, Bound, Breaks, Broken, BuiltIn, Candidate, Clash, Dropped, EndsOne, Err, Fits, Grown-trans, Grown-variable, HasGrown, HasRoom, Integer, IsBody, IsCalm, IsException, IsMadeIn, HasLate, KeepsLate, IsOriginIn, IsOwned, IsShoenIn, IsWalked, IsWhole, Journal, KeepsBy, KeepsFree, KeepsOthers, KeepsOutlines, Kept, Known, Living, MONITOR_PRIORITY, Means, Message, Needs, Ok, OnOk, Origin, RefusesMessage, Result, Sent, State, StaysFree, Structure, Terms, Told, ToldAs, Transition, Tree, aborted_below_in, after_reduction, aim_with, ap₂, atom, body_priorities, broken_at, bytes_eq-Decides, cases_lt, cell, change_shoen, changed, charged_in, clipped, close, close_late, close_of, closed_at, codes, committed, control, count_by, ended_each, ended_in, ending_in, ending_of, ends_in, eqb-false, equation, exception, exception_with, exchanged, exhausted_report, failure, false≢true, find, finished_each_late, finished_late, goal_with, goals_for, goals_of, grown, has_made_last, has_number, has_reached_in, has_substitutes, held_exchanged, inl, inr, integer, is_bound, is_goal_of, is_living, is_living_child_of, is_monitor_of, is_number, is_of_any, is_on_path_in, is_other, is_reported, is_reported_at, is_reported_of, is_late_tail, is_variable, journal_full, keeps_names, le-leb, le-ltb, leb-false, leb-true, length-append, length-map, length_push, limits_of, list_any, list_any-append, lives_in, lt-leb, lt-ltb, map-append, message_nodes, mgu, more, nat_le, nat_lt, newly_exhausted, none, not, number_by, occurs, or_cases, origin_with, outline, parents_in, path, path_in, plain, priorities_by, raised, reached_in, read_exchanged, refuse, replace, replace_in_state, replaced, replaced_by, report, report_each, report_each_late, report_late, report_of, report_tail, reported_at, reported_on, resumed_of, resumed_report, sent, sent_on, settle_charged_late, shoen_at, spare, state_with, step, still_known, stopped_of, stopped_report, structure, substituted_by, sum_by-cons, syntax, take, take_all, take_more, term_of-Atom, term_of-Integer, term_of-unbound, term_of-variable, terminate_each, terminated, terminated_report, texts_of, told_in, unheard, unified, unwrap_or, variable, with_entry, with_name, with_names, with_variable, without_monitor, zero, ◌+◌, ◌-◌, ◌<◌, ◌^◌, ◌≤◌}
 unfoldable pub use Rattle.kl1_user_effects.proofs.Words.{with_texts}
 pub use Rattle.kl1_user_effects.proofs.Works.{after_report, base, changed_turns, changes, finds, grown_made, last_made, next_in, no_report_turns, read_as, report_turns, rereads, tailed, torn, turns_as, turns_none, turns_then, unmade_turns}
 pub use Rattle.kl1_user_effects.proofs.KnownTexts.{added_new, collected, known_named, named_turns, new_named}
@@ -114,7 +114,7 @@ pub use Rattle.kl1_ready.specs.Ready.{ready_at}
 pub use Rattle.kl1_machine.specs.Bringing.{Brings, CanAnswer, CanStart, IsPublished, change_of, goal_of}
 pub use Rattle.kl1_machine.specs.Effects.{Becomes, Charges, Chosen, Commits, Puts, Tells, Turns, TurnsAs, any_reached, counting, having_goals, having_shoens, shifting_shoens, with_goal, with_goals, with_shoen}
 pub use Rattle.kl1_machine.specs.Ending.{LifeEnds, LivesEnd}
-pub use Rattle.kl1_machine.specs.Machines.{IsBack, IsBegun, IsMachine, Keeps, Trail, made, trail_of}
+pub use Rattle.kl1_machine.specs.Machines.{IsBack, IsBegun, IsMachine, Keeps, Trail, made, most_names, trail_of}
 pub use Rattle.kl1_machine.specs.Moving.{IsMade, JoinsAs, Making, MovesAs, OpensAs, OpensChild, UnifiesAs}
 pub use Rattle.kl1_machine.specs.Naming.{CanBecome, CanPublish, HasName, HoldsSpare, IsBoundLast, IsFree, IsNamed, IsNameless, LateAs, NamesIn, Patches, Publishes, ReadsAll, ReadsNew, ReadsText, SparesLast, Spells, StandsFor, UsesName, with_text}
 pub use Rattle.kl1_machine.specs.Plain.{ArePlain, IsPlain, IsPlainShoen, bare}
