@@ -7,7 +7,7 @@ use Rattle.kl1_model.specs.declared.life.Life.TheVariants.{Aborted}
 use Rattle.kl1_model.specs.State.{is_living}
 use Rattle.kl1_shoen_paths.specs.declared.shoen.Shoen.{Shoen}
 use Rattle.kl1_shoen.specs.declared.change.Change.{Change}
-use Rattle.kl1_shoen.specs.declared.change.Change.TheVariants.{Tail, Control, OriginControl, Breaks, Stopped, Allows, Ends, Aborts}
+use Rattle.kl1_shoen.specs.declared.change.Change.TheVariants.{Tail, Control, OriginControl, Breaks, Stopped, Allows, Ends, Leaves, Aborts}
 use Rattle.kl1_shoen.specs.Changes.{changed_by}
 use Rattle.kl1_shoen.specs.Shoens.{has_number, changed, ended_with, AreNumbered, parents_in}
 use Rattle.kl1_shoen_paths.proofs.Numbered.{found_none, found_at}
@@ -28,7 +28,8 @@ number_kept (OriginControl x) s = refl
 number_kept (Breaks x) s = refl
 number_kept (Stopped x) s = refl
 number_kept (Allows x) s = refl
-number_kept (Ends x y) s = refl
+number_kept (Ends x) s = refl
+number_kept (Leaves x) s = refl
 number_kept (Aborts x) s = if_number (is_living s.life) s (ended_with x Aborted s) refl
 
 pub parent_kept : {N : Type 0} (c : Change N) (s : Shoen N) → (changed_by c s).parent ≡ s.parent
@@ -38,7 +39,8 @@ parent_kept (OriginControl x) s = refl
 parent_kept (Breaks x) s = refl
 parent_kept (Stopped x) s = refl
 parent_kept (Allows x) s = refl
-parent_kept (Ends x y) s = refl
+parent_kept (Ends x) s = refl
+parent_kept (Leaves x) s = refl
 parent_kept (Aborts x) s = if_parent (is_living s.life) s (ended_with x Aborted s) refl
 
 -- a shoen that is found has a number from 1

@@ -1,14 +1,14 @@
 -- What becomes of one shoen.
-use Rattle.std.specs.Prelude.{true, if◌then◌else◌, option_map, unwrap_or}
+use Rattle.std.specs.Prelude.{true, if◌then◌else◌, Some, option_map, unwrap_or}
 use Rattle.kl1_model.specs.declared.life.Life.TheVariants.{Aborted}
 use Rattle.kl1_model.specs.State.{is_living}
 use Rattle.kl1_model.specs.Reduction.{grown}
 use Rattle.kl1_store.specs.declared.cell.Cell.{Cell}
 use Rattle.kl1_shoen_paths.specs.declared.shoen.Shoen.{Shoen}
 use Rattle.kl1_shoen_paths.specs.declared.shoen.Origin.{Origin}
-use Rattle.kl1_shoen.specs.Shoens.{ended_with}
+use Rattle.kl1_shoen.specs.Shoens.{control_left, ended_with}
 use Rattle.kl1_shoen.specs.declared.change.Change.{Change}
-use Rattle.kl1_shoen.specs.declared.change.Change.TheVariants.{Tail, Control, OriginControl, Breaks, Stopped, Allows, Ends, Aborts}
+use Rattle.kl1_shoen.specs.declared.change.Change.TheVariants.{Tail, Control, OriginControl, Breaks, Stopped, Allows, Ends, Leaves, Aborts}
 
 -- what the console keeps, with this tail of the control stream
 abbrev pub with_control : {N : Type 0} → Cell N → Origin N → Origin N
@@ -22,5 +22,6 @@ changed_by (OriginControl control) h = record h { origin = option_map (with_cont
 changed_by (Breaks left) h = record h { is_broken = true; tail = unwrap_or left h.tail }
 changed_by (Stopped is_stopped) h = record h { is_stopped = is_stopped }
 changed_by (Allows extra) h = record h { allowance = grown h.allowance extra }
-changed_by (Ends life left) h = ended_with left life h
+changed_by (Ends life) h = record h { life = life }
+changed_by (Leaves left) h = record h { control = control_left (Some left) h.origin h.control }
 changed_by (Aborts left) h = if is_living h.life then ended_with left Aborted h else h

@@ -3,7 +3,7 @@
 ghost use Rattle.std.specs.Prelude.{◌≡◌, ◌+◌, min, option_map};
 ghost use Rattle.kl1_model.specs.Reduction.{grown};
 ghost use Rattle.kl1_shoen.specs.declared.change.Change.TheVariants.{Aborts, Breaks};
-ghost use Rattle.kl1_shoen.specs.Shoens.{control_left, ended_with};
+ghost use Rattle.kl1_shoen.specs.Shoens.{control_left};
 ghost use Rattle.kl1_shoen.specs.Changes.{changed_by, with_control as kept_with};
 
 use crate::counted::is_living;
@@ -28,9 +28,11 @@ pub enum Change<N> {
     Stopped(bool),
     /// It may be charged this many reductions more, up to the greatest allowance.
     Allows(u64),
-    /// It has this life, and this is left of its control stream, if it is told and the console doesn't keep the stream.
-    Ends(Life, Option<Cell<N>>),
-    /// It is ended so as aborted, if it lives.
+    /// It has this life.
+    Ends(Life),
+    /// This is left of its control stream, unless the console keeps the stream.
+    Leaves(Cell<N>),
+    /// It is ended as aborted, if it lives, and this is left of its control stream, if it is told and the console doesn't keep the stream.
     Aborts(Option<Cell<N>>),
 }
 
@@ -70,17 +72,6 @@ fn control_left<N: NameValue>(shoen: Shoen<N>, left: Option<Cell<N>>) -> Cell<N>
     }
 }
 
-/// A shoen that ended in this way, of whose control stream `left` is left.
-fn ended<N: NameValue>(shoen: Shoen<N>, life: Life, left: Option<Cell<N>>) -> Shoen<N>
-    ensures { result ≡ ended_with left life shoen }
-{
-    Shoen {
-        life,
-        control: control_left(shoen, left),
-        ..shoen
-    }
-}
-
 /// A shoen after an abort: ended, if it lives.
 fn aborted<N: NameValue>(shoen: Shoen<N>, left: Option<Cell<N>>) -> Shoen<N>
     ensures { result ≡ changed_by (Aborts left) shoen }
@@ -88,7 +79,11 @@ fn aborted<N: NameValue>(shoen: Shoen<N>, left: Option<Cell<N>>) -> Shoen<N>
     if !is_living(shoen.life) {
         return shoen;
     }
-    ended(shoen, Life::Aborted, left)
+    Shoen {
+        life: Life::Aborted,
+        control: control_left(shoen, left),
+        ..shoen
+    }
 }
 
 /// A shoen whose report stream is broken, with this tail, if one is told.
@@ -122,7 +117,11 @@ pub fn changed<N: NameValue>(shoen: Shoen<N>, change: Change<N>) -> Shoen<N>
             allowance: raised(shoen.allowance, extra),
             ..shoen
         },
-        Change::Ends(life, left) => ended(shoen, life, left),
+        Change::Ends(life) => Shoen { life, ..shoen },
+        Change::Leaves(left) => Shoen {
+            control: control_left(shoen, Some(left)),
+            ..shoen
+        },
         Change::Aborts(left) => aborted(shoen, left),
     }
 }

@@ -1,9 +1,9 @@
 // Changes of shoens.
 
-ghost use Rattle.std.specs.Prelude.{◌≡◌, ◌<◌, ◌≤◌, ◌+◌, map, option_map, unwrap_or, true, OnOk, OnErr};
+ghost use Rattle.std.specs.Prelude.{◌≡◌, ◌<◌, ◌≤◌, ◌+◌, map, option_map, unwrap_or, true, Some, OnOk, OnErr};
 ghost use Rattle.kl1_model.specs.Reduction.{grown};
 ghost use Rattle.kl1_shoen_paths.specs.Below.{AreLinked};
-ghost use Rattle.kl1_shoen.specs.Shoens.{has_number, changed, ended_with, aborted_below_in, parents_in, AreNumbered, AreLower};
+ghost use Rattle.kl1_shoen.specs.Shoens.{has_number, changed, control_left, aborted_below_in, parents_in, AreNumbered, AreLower};
 ghost use Rattle.kl1_shoen.specs.Changes.{changed_by, with_control};
 
 use crate::change::{Change, changed};
@@ -73,17 +73,20 @@ impl<N: NameValue> ShoenTree<N> {
         self.change(number, Change::Allows(extra))
     }
 
-    /// Gives a shoen this life. `left` is left of its control stream, if it is told and the console doesn't keep the stream.
-    pub fn end(
-        &mut self,
-        number: u64,
-        life: Life,
-        left: Option<Cell<N>>,
-    ) -> Result<(), AllocError>
-        ensures ok { OnOk result (self.new ≡ record self.old { shoens = changed number (ended_with left life) self.old.shoens }) }
+    /// Gives a shoen this life.
+    pub fn end(&mut self, number: u64, life: Life) -> Result<(), AllocError>
+        ensures ok { OnOk result (self.new ≡ record self.old { shoens = changed number (λ h. record h { life = life }) self.old.shoens }) }
         ensures err { OnErr result (self.new ≡ self.old) }
     {
-        self.change(number, Change::Ends(life, left))
+        self.change(number, Change::Ends(life))
+    }
+
+    /// Leaves this of a shoen's control stream, unless the console keeps the stream.
+    pub fn leave(&mut self, number: u64, left: Cell<N>) -> Result<(), AllocError>
+        ensures ok { OnOk result (self.new ≡ record self.old { shoens = changed number (λ h. record h { control = control_left (Some left) h.origin h.control }) self.old.shoens }) }
+        ensures err { OnErr result (self.new ≡ self.old) }
+    {
+        self.change(number, Change::Leaves(left))
     }
 
     /// Ends a shoen and all below it that live, as aborted. `left` is left of the control stream of each, if it is told and the console
