@@ -1,7 +1,8 @@
 -- A goal that the console brings to an account, if nothing refuses it.
-use Rattle.kl1_user_account.proofs.Words.{◌≡◌, ℕ, suc, ◌+◌, ◌≤◌, ◌&&◌, true, List, [], length, sym, ap, ◌∙◌, arith, nat_le, and_parts, leb-true, Limits, MOST_NAMES, Term, is_goal, highest, goal_nodes, structures_of, names_of, with_names, with_texts, IsNameList, Reading, Account, state_of, texts_of, Answer, Starts, Answers, Start, Counted, HasNames, has_room_beside, IsFree, IsStartable, has_room_to_answer_beside, IsAnswerable, MayBring}
+use Rattle.kl1_user_account.proofs.Words.{◌≡◌, ℕ, suc, ◌+◌, ◌≤◌, ◌&&◌, true, List, [], length, sym, ap, ◌∙◌, arith, nat_le, and_parts, leb-true, Limits, Term, is_goal, highest, goal_nodes, structures_of, names_of, with_names, with_texts, IsNameList, Reading, Account, state_of, texts_of, Answer, Starts, Answers, Start, Counted, HasNames, has_room_beside, IsFree, IsStartable, has_room_to_answer_beside, IsAnswerable, MayBring}
 use Rattle.std.specs.Prelude.{nat_lt}
 use Rattle.kl1_model.specs.Meaning.{is_numbered}
+use Rattle.kl1_model.specs.Rules.{limits_of}
 use Rattle.kl1_user_account.proofs.Counting.{low_limits}
 use Rattle.kl1_user_account.proofs.StartChecks.{may_start_is, may_answer_is}
 
@@ -21,8 +22,8 @@ room_to_answer c variables nodes e =
     (leb-true (c.variables + variables) c.most.variables p.0, leb-true (c.nodes + nodes) c.most.nodes p.1)
 
 -- names of a goal by its code, which may be published
-few_names : (a : Account) (goal code : Term) (texts : List (List ℕ)) → code ≡ goal → texts ≡ with_names [] (names_of code) → length (with_texts (texts_of a.names) (with_names [] (names_of goal))) ≤ MOST_NAMES → length (with_texts (texts_of a.names) texts) ≤ MOST_NAMES
-few_names a goal code texts same are few = rw (are, same) few
+few_names : (a : Account) (most : ℕ) (goal code : Term) (texts : List (List ℕ)) → code ≡ goal → texts ≡ with_names [] (names_of code) → length (with_texts (texts_of a.names) (with_names [] (names_of goal))) ≤ most → length (with_texts (texts_of a.names) texts) ≤ most
+few_names a most goal code texts same are few = rw (are, same) few
 
 -- ---- the goal may be brought
 
@@ -38,7 +39,7 @@ may_start_it a c goal texts s may counts are list variables =
     record {
       texts_are = are;
       list = list;
-      few = few_names a goal s.code.now texts may.code_is are may.free.few;
+      few = few_names a (limits_of a.rules).names goal s.code.now texts may.code_is are (rw (ap (λ (l : Limits). l.names) at.most_are) may.free.few);
       can = λ numbers count.
           record {
             goal = ap is_goal may.code_is ∙ is.0;
@@ -64,7 +65,7 @@ may_answer_it a c n report goal texts s may counts are list sizes =
     record {
       texts_are = are;
       list = list;
-      few = few_names a goal s.code.now texts may.code_is are may.free.few;
+      few = few_names a (limits_of a.rules).names goal s.code.now texts may.code_is are (rw (ap (λ (l : Limits). l.names) at.most_are) may.free.few);
       can = λ numbers count.
           record {
             goal = ap is_goal may.code_is ∙ is.0;

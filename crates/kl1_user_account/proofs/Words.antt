@@ -95,7 +95,7 @@ pub use Rattle.kl1_machine.proofs.Planned.{enabled_read, found_holds, goal_read,
 pub use Rattle.kl1_machine.proofs.Published.{IsReduced, published_reduced}
 pub use Rattle.kl1_machine.proofs.Resting.{looked_read}
 pub use Rattle.kl1_machine.proofs.Sending.{refused_as}
-pub use Rattle.kl1_machine.proofs.Words.{Aborted, AllByRecursion, AllSettled, AreBelow, AreEnabled, AreGoalsIn, AreNames, AreNumbered, AreOwned, AreSettled, AreSmall, Ascend, Atom, Bool, Brings, CanPublish, Cell, CellName, Contains, Fits, Goal, Held, Hook, IsBegun, IsEnabled, IsFormed, IsIn, IsMachine, IsPublished, IsRested, IsSettled, IsTaskIn, Keeps, Known, Knows, List, Living, MONITOR_PRIORITY, MOST_NAMES, Means, Message, Monitor, NameShelf, None, Numbered, Option, Origin, Predicate, Program, Publishes, Qualified, Reading, Reads, ReadsAlike, Reduces, Refusal, Refuses, Reschedules, Shoen, Some, State, Substitutes, Task, Term, Terms, Trail, Transition, [], aim, aim_with, and_parts, answered, ap, append-nil, append_assoc, ap₂, arith, atom, breaks_off, built, bytes_eq, cases_lt, change_of, charged_in, codes, cond, contents, control, control_at, drop, drop_all, drop_more, eq-eqb, eqb-true, false, false≢true, find, found_in, get_or, goal_nodes, goal_of, goal_with, has_substitutes, highest, if◌then◌else◌, inl, inr, integer, is_after, is_among, is_full, is_goal, is_goal_of, is_in_run, is_living, is_monitor, is_number, is_of_any, is_some, is_text, journal_full, le-leb, le-ltb, leb-true, length, length-map, list_any, list_any-append, lives_in, lt-leb, lt-ltb, ltb-false, ltb-true, made, map, map-append, meaning, more, moves, names_of, names_with, nat_le, ne_eqb, needs_entry, nodes_of, none, not, occurs, occurs_in, on_ok_weaker, option_copied, option_map, origin_in, origin_with, parents_in, parents_read, point_of, reduce, reduced, refl, refusal_of, refuse, rules, sent, settled_alike, shoen_at, shoen_with, sizes, start_goal, state_with, step, structure, structures_of, subst, suc, sum_by-cons, sym, syntax, take, take_all, task_action, task_with, tells, tells_other, term_of-Atom, term_of-Integer, term_of-unbound, texts_of, told_in, true, unready, unwrap_or, variable, with_entry, with_last, with_names, with_reduction, worked, zero, ℕ, ℤ, ◌&&◌, ◌++◌, ◌+◌, ◌-◌, ◌<◌, ◌==◌, ◌^◌, ◌||◌, ◌∙◌, ◌∷◌, ◌≡◌, ◌≤◌}
+pub use Rattle.kl1_machine.proofs.Words.{Aborted, AllByRecursion, AllSettled, AreBelow, AreEnabled, AreGoalsIn, AreNames, AreNumbered, AreOwned, AreSettled, AreSmall, Ascend, Atom, Bool, Brings, CanPublish, Cell, CellName, Contains, Fits, Goal, Held, Hook, IsBegun, IsEnabled, IsFormed, IsIn, IsMachine, IsPublished, IsRested, IsSettled, IsTaskIn, Keeps, Known, Knows, List, Living, MONITOR_PRIORITY, Means, Message, Monitor, NameShelf, None, Numbered, Option, Origin, Predicate, Program, Publishes, Qualified, Reading, Reads, ReadsAlike, Reduces, Refusal, Refuses, Reschedules, Shoen, Some, State, Substitutes, Task, Term, Terms, Trail, Transition, [], aim, aim_with, and_parts, answered, ap, append-nil, append_assoc, ap₂, arith, atom, breaks_off, built, bytes_eq, cases_lt, change_of, charged_in, codes, cond, contents, control, control_at, drop, drop_all, drop_more, eq-eqb, eqb-true, false, false≢true, find, found_in, get_or, goal_nodes, goal_of, goal_with, has_substitutes, highest, if◌then◌else◌, inl, inr, integer, is_after, is_among, is_full, is_goal, is_goal_of, is_in_run, is_living, is_monitor, is_number, is_of_any, is_some, is_text, journal_full, le-leb, le-ltb, leb-true, length, length-map, list_any, list_any-append, lives_in, lt-leb, lt-ltb, ltb-false, ltb-true, made, map, map-append, meaning, more, moves, names_of, names_with, nat_le, ne_eqb, needs_entry, nodes_of, none, not, occurs, occurs_in, on_ok_weaker, option_copied, option_map, origin_in, origin_with, parents_in, parents_read, point_of, reduce, reduced, refl, refusal_of, refuse, rules, sent, settled_alike, shoen_at, shoen_with, sizes, start_goal, state_with, step, structure, structures_of, subst, suc, sum_by-cons, sym, syntax, take, take_all, task_action, task_with, tells, tells_other, term_of-Atom, term_of-Integer, term_of-unbound, texts_of, told_in, true, unready, unwrap_or, variable, with_entry, with_last, with_names, with_reduction, worked, zero, ℕ, ℤ, ◌&&◌, ◌++◌, ◌+◌, ◌-◌, ◌<◌, ◌==◌, ◌^◌, ◌||◌, ◌∙◌, ◌∷◌, ◌≡◌, ◌≤◌}
 unfoldable pub use Rattle.kl1_machine.proofs.Words.{path_within, with_texts}
 pub use Rattle.kl1_machine.specs.Bringing.{CanBring, PublishesNames}
 pub use Rattle.kl1_machine.specs.Sending.{IsRefusedMessage, Sends}

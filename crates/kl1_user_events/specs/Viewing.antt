@@ -3,7 +3,6 @@ use Rattle.std.specs.Prelude.{◌≡◌, ◌<◌, ◌↔◌, ℕ, zero, suc, ◌
 use Rattle.std.proofs.Common.{inl, inr}
 use Rattle.std.specs.List.{list_any}
 use Rattle.std.specs.List.Sorted.{IsStrictlyIncreasing}
-use Rattle.kl1_model.specs.declared.limits.TheConstants.{MOST_NAMES}
 use Rattle.kl1_model.specs.declared.limits.Limits.{Limits}
 use Rattle.kl1_model.specs.Term.{Term, occurs}
 use Rattle.kl1_model.specs.Print.{print, cut_text, cut_print}
@@ -161,7 +160,7 @@ used count most = record { count = count; most = most }
 abbrev pub usage_by : Limits → State → Usage
 usage_by limits s = record {
   goals = used (goals_alive s) limits.goals;
-  names = used (length s.names) MOST_NAMES;
+  names = used (length s.names) limits.names;
   shoens = used s.last_shoen limits.shoens;
   variables = used s.variables limits.variables;
   structures = used s.nodes limits.nodes;
