@@ -1,5 +1,5 @@
 -- A goal that comes in the place of a variable.
-use Rattle.kl1_machine.proofs.Words.{◌≡◌, ℕ, ◌+◌, ◌-◌, ◌≤◌, true, false, if◌then◌else◌, List, refl, sym, ap, ◌∙◌, arith, Some, None, ne_eqb, or_from, Term, variable, structure, Terms, none, more, occurs, occurs_in, replace, Replacement, each_substituted, replaced, highest, variables_of, variables_in, structures_of, mgu_within, highest_among, mgu, is_goal, answered, with_next_variables, State, names_of, with_names, Reads, CellName, Cell, Variable, Unified, Bound, Clash, Held, is_bound, IsIn, Kept, SettlesTo, IsSolved, OnlyBound, equation_of, Grown-bound, Reading, built, meaning, worked, replaced_state, base, read_as, rereads, Machine, made, IsMachine, ReadsNames, BuildsGoal, Answer, counting, CanAnswer, Brings, IsNoVariable, AreFromOne, numbered_from_one, one_left, one_right, front_solves, one_equation, one_by, sides}
+use Rattle.kl1_machine.proofs.Words.{◌≡◌, ℕ, ◌+◌, ◌-◌, ◌≤◌, true, false, if◌then◌else◌, List, refl, sym, ap, ◌∙◌, arith, Some, None, ne_eqb, or_from, Term, variable, structure, Terms, none, more, occurs, occurs_in, replace, Replacement, each_substituted, replaced, highest, variables_of, variables_in, structures_of, mgu_within, highest_among, mgu, is_goal, answered_anew, with_next_variables, State, names_of, with_names, Reads, CellName, Cell, Variable, Unified, Bound, Clash, Held, is_bound, IsIn, Kept, SettlesTo, IsSolved, OnlyBound, equation_of, Grown-bound, Reading, built, meaning, worked, replaced_state, base, read_as, rereads, Machine, made, IsMachine, ReadsNames, BuildsGoal, Answer, counting, CanAnswer, Brings, IsNoVariable, AreFromOne, numbered_from_one, one_left, one_right, front_solves, one_equation, one_by, sides}
 use Rattle.kl1_machine.proofs.Keeping.{Grows, grown_machine}
 
 -- ---- a goal with the next variables has none of those before
@@ -74,7 +74,7 @@ module _ (numbers : List CellName) (w : Answer) (m a : Machine) (x : Cell CellNa
 
   -- the state is what the answer makes of it
   put_state : (f : Reading) → Reads built f → ReadsNames numbers goal f → (s : State) →
-      answered w.variable goal (worked f s m.store.held (made m)) ≡ worked f s k (record (made m) { variables = m.counts.variables + w.variables; nodes = m.counts.nodes + w.nodes; names = with_names (made m).names (names_of goal) })
+      answered_anew w.variable goal (worked f s m.store.held (made m)) ≡ worked f s k (record (made m) { variables = m.counts.variables + w.variables; nodes = m.counts.nodes + w.nodes; names = with_names (made m).names (names_of goal) })
   put_state f reads names s =
       let h = m.store.held in
       let last = h.variables - 1 in
@@ -95,7 +95,7 @@ pub bound_grows : (a : Machine) (k : Kept CellName) → OnlyBound a.store.held k
 bound_grows a k only hooks = record { grown = Grown-bound a.store.held k.held only; hooks = hooks }
 
 -- the machine has come on by the answer
-pub put_brings : (numbers : List CellName) (w : Answer) (m a : Machine) (x : Cell CellName) (k : Kept CellName) → IsPut numbers w m a x k.held → k.hooks ≡ a.store.hooks → Brings (answered w.variable w.code.now) w.code.now numbers m (record a { store = k })
+pub put_brings : (numbers : List CellName) (w : Answer) (m a : Machine) (x : Cell CellName) (k : Kept CellName) → IsPut numbers w m a x k.held → k.hooks ≡ a.store.hooks → Brings (answered_anew w.variable w.code.now) w.code.now numbers m (record a { store = k })
 put_brings numbers w m a x k p hooks =
     rw p.builds.rest (record {
       states = λ f reads names s. put_state numbers w m a x k.held p f reads names s;

@@ -1,12 +1,13 @@
 -- Goals that the console brings, with numbers for their names of which some are spare ones, and what is so when these are published.
-use Rattle.std.specs.Prelude.{◌≡◌, ℕ, ◌+◌, ◌<◌, ◌≤◌, ◌^◌, true, IsTrue, List, [], length, None}
+use Rattle.std.specs.Prelude.{◌≡◌, ℕ, ◌+◌, ◌<◌, ◌≤◌, ◌^◌, true, false, IsTrue, List, [], length, None}
 use Rattle.kl1_model.specs.declared.limits.TheConstants.{MONITOR_PRIORITY}
 use Rattle.kl1_model.specs.Term.{Term}
 use Rattle.kl1_model.specs.Answering.{answered}
 use Rattle.kl1_model.specs.Goal.{is_goal}
 use Rattle.kl1_model.specs.Meaning.{highest, is_numbered}
+use Rattle.kl1_model.specs.Telling.{Given}
 use Rattle.kl1_model.specs.Nodes.{goal_nodes, structures_of}
-use Rattle.kl1_model.specs.Opening.{start_goal}
+use Rattle.kl1_model.specs.Opening.{start_goal, with_next_variables}
 use Rattle.kl1_model.specs.State.{State, names_of, with_names}
 use Rattle.kl1_text.specs.Reading.{Reads}
 use Rattle.kl1_text.specs.declared.cell_name.CellName.{CellName}
@@ -35,10 +36,18 @@ abbrev pub goal_of : Brought → Term
 goal_of (brought.Starts s) = s.code.now
 goal_of (brought.Answers a) = a.code.now
 
+-- what stands for a goal of which no variable is told: its variables take the next numbers
+abbrev pub given_anew : ℕ → Term → Given
+given_anew last t = record { goal = with_next_variables last t; new = highest t; tells_gone = false }
+
+-- such a goal in place of a variable
+abbrev pub answered_anew : ℕ → Term → State → State
+answered_anew v t s = answered v (given_anew s.last_variable t) t s
+
 -- what comes of it by the definitions
 abbrev pub change_of : Brought → State → State
 change_of (brought.Starts s) = λ z. start_goal z s.allowance s.low s.high s.code.now
-change_of (brought.Answers a) = answered a.variable a.code.now
+change_of (brought.Answers a) = answered_anew a.variable a.code.now
 
 -- a goal may be started with these numbers for its names, if this many variables and structures are counted
 pub record CanStart (variables nodes : ℕ) (numbers : List CellName) (s : Start) : Type 0 where

@@ -1,11 +1,10 @@
 // Answers from the console: goals that come in the place of variables for which substitutes wait.
 
 ghost use Rattle.std.specs.Prelude.{OnOk};
-ghost use Rattle.kl1_model.specs.Answering.{answered};
 ghost use Rattle.kl1_machine.specs.declared.machine.Machine.{Machine};
 ghost use Rattle.kl1_machine.specs.Machines.{IsMachine, Keeps};
 ghost use Rattle.kl1_machine.specs.Since.{Since, StillSince};
-ghost use Rattle.kl1_machine.specs.Bringing.{CanAnswer, Brings};
+ghost use Rattle.kl1_machine.specs.Bringing.{answered_anew, CanAnswer, Brings};
 
 use crate::machine::Machine;
 use kl1_clause::GoalCode;
@@ -24,8 +23,8 @@ pub struct Answer<'a> {
 }
 
 impl Machine {
-    /// Puts the goal of an answer, with these numbers for its names in order of first use, in the place of the variable. What the goal has
-    /// is counted.
+    /// Puts the goal of an answer, of which no variable is told, with these numbers for its names in order of first use, in the place of the
+    /// variable. What the goal has is counted.
     pub(crate) fn put_goal(
         &mut self,
         scratch: &mut Scratch<CellName>,
@@ -34,7 +33,7 @@ impl Machine {
     ) -> Result<(), AllocError>
         requires machine { IsMachine self.old }
         requires can { CanAnswer self.old.store.held self.old.counts.variables self.old.counts.nodes numbers.now answer.now }
-        ensures ok { OnOk result (Brings (answered answer.now.variable answer.now.code.now) answer.now.code.now numbers.now self.old self.new) }
+        ensures ok { OnOk result (Brings (answered_anew answer.now.variable answer.now.code.now) answer.now.code.now numbers.now self.old self.new) }
         ensures since { (b : Machine) → Since b self.old → StillSince result b self.new }
     {
         let cell = self.build_goal(
