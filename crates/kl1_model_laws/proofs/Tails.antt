@@ -300,12 +300,14 @@ each_gone c last n count h o (k ∷ hs) u there a = (reports_gone (k.number == n
 own_gone : (s : State) (n count : ℕ) (h : Shoen) (o : Origin) → IsTree s → shoen_at n s.shoens ≡ Some h → h.origin ≡ Some o → Tails s → Tails (gone n count o s)
 own_gone s n zero h o tree there e p =
     let c = p.0 in
-    let a = p.1 in
-    (c, record {
-      goals = a.goals;
-      shoens = all_map (Owned c s.last_variable) (Owned c s.last_variable) (gone_below s.shoens n) (λ (k : Shoen) own. gone_owned (not (is_living k.life) && is_on_path s.shoens n k.number) c s.last_variable k own) s.shoens a.shoens;
-      above = a.above;
-    })
+    let a = p.1 in (
+      c,
+      record {
+        goals = a.goals;
+        shoens = all_map (Owned c s.last_variable) (Owned c s.last_variable) (gone_below s.shoens n) (λ (k : Shoen) own. gone_owned (not (is_living k.life) && is_on_path s.shoens n k.number) c s.last_variable k own) s.shoens a.shoens;
+        above = a.above;
+      },
+    )
 own_gone s n (suc count) h o tree there e p =
     let c = p.0 in
     let a = p.1 in

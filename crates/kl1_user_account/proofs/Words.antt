@@ -15,7 +15,7 @@ pub use Rattle.kl1_model.specs.AccountName.{is_account_name}
 pub use Rattle.kl1_model.specs.Answering.{answer_by, answer_line, answer_living, answer_to, has_room_to_answer, may_answer, unanswered_at}
 pub use Rattle.kl1_model.specs.Asking.{condition_of, elements_of, module_line, origin_at}
 pub use Rattle.kl1_model.specs.Choice.{Chosen, can_step, clause_for, first, first_of_goals, goes_before, is_first, quiet, task_clauses}
-pub use Rattle.kl1_model.specs.Event.{answer, are_too_many, exists, is_range, listed, load, loaded, opened, read, refused, reports, run_after, start, status, status_is, too_many_names, unless}
+pub use Rattle.kl1_model.specs.Event.{answer, answer_refused, are_too_many, exists, is_range, listed, load, loaded, opened, read, refused, reports, run_after, start, status, status_is, too_many_names, unless}
 pub use Rattle.kl1_model.specs.Found.{Found, awaits, found, wrong}
 pub use Rattle.kl1_model.specs.Match.{call_of, module_of}
 pub use Rattle.kl1_model.specs.Meaning.{are_narrow, depth, highest_in, is_narrow, is_word, is_writable}
@@ -39,6 +39,7 @@ pub use Rattle.kl1_model.specs.declared.built_in.BuiltIn.TheVariants.{ListCell}
 pub use Rattle.kl1_model.specs.declared.condition.Condition.{Condition}
 pub use Rattle.kl1_model.specs.declared.condition.Condition.TheVariants.{Exhausted, Running, Stopped}
 pub use Rattle.kl1_model.specs.declared.life.Life.{Life}
+pub use Rattle.kl1_model.specs.declared.life.Life.TheVariants.{Forgotten}
 pub use Rattle.kl1_model.specs.declared.limits.TheConstants.{MOST_ACCOUNT_NAME_BYTES, MOST_ARGUMENTS, MOST_DEPTH, MOST_LINE_BYTES, MOST_LISTED, MOST_MODULES, MOST_NAME_BYTES, MOST_PRIORITY, MOST_RUN, MOST_SOURCE_BYTES, NUMBER_LIMIT}
 pub use Rattle.kl1_model.specs.declared.pair_form.PairForm.{PairForm}
 pub use Rattle.kl1_model.specs.declared.pair_form.PairForm.TheVariants.{Call}
@@ -104,7 +105,7 @@ pub use Rattle.kl1_machine.specs.declared.machine.bringing.Brought.TheVariants.{
 pub use Rattle.kl1_machine.specs.declared.machine.starting.Start.{Start}
 pub use Rattle.kl1_user_account.specs.Accounts.{kept_in}
 pub use Rattle.kl1_user_account.specs.Answering.{IsAnswerable, RefusesAnswer, has_room_to_answer_beside}
-pub use Rattle.kl1_user_account.specs.Asked.{cells_of, condition_at, is_alive_in}
+pub use Rattle.kl1_user_account.specs.Asked.{cells_of, condition_at, is_alive_in, is_forgotten}
 pub use Rattle.kl1_user_account.specs.Beginning.{begun}
 pub use Rattle.kl1_user_account.specs.Bringing.{MayBring}
 pub use Rattle.kl1_user_account.specs.Keeping.{CountsWork, IsKept}
