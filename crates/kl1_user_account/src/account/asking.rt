@@ -21,7 +21,8 @@ use kl1_user_events::{Extent, Refusal, Reply};
 use std::alloc::AllocError;
 
 impl<C: CodeSource> Account<C> {
-    /// The state of shoen `number`, if it wasn't let go, with what it was charged, its allowance, and how many goals there are in it and below it.
+    /// The state of shoen `number`, if it wasn't let go, with what it was charged, its allowance, and how many goals there are in it and
+    /// below it.
     pub fn status(&self, number: u64) -> Result<Reply, AllocError>
         ensures step { IfOk result (λ reply. (f : Reading) → Fits self.now.names f → step (state_of f self.now) (read (status number)) ≡ record { state = state_of f self.now; reply = reply_of reply }) }
     {
