@@ -1,0 +1,2 @@
+cd /work/five/crates
+for c in kl1_atoms kl1_goals_moves kl1_machine kl1_match kl1_match_guard kl1_match_verdict kl1_model kl1_model_laws kl1_read kl1_ready kl1_shoen kl1_shoen_paths kl1_store kl1_stream kl1_user_account kl1_user_effects kl1_user_events ; do (cd $c && timeout 300 nice -n 19 rt fmt > /tmp/five/fmt.out 2>&1 || { echo $c; cat /tmp/five/fmt.out; }) >> /tmp/five/fmt.log; echo "done $c $(date +%T)" >> /tmp/five/fmt.log; done; echo ALL >> /tmp/five/fmt.log
