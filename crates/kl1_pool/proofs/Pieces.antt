@@ -41,9 +41,9 @@ shifted (suc m) k n j s after is = go (λ t e. shifted m k (suc n) (suc j) t aft
 
 -- first steps, and more of them
 pub steps_more : (s mid after : Kept) (n m : ℕ) → AreFirstSteps s n mid → AreFirstSteps mid m after → AreFirstSteps s (n + m) after
-steps_more s mid after n m begun then =
+steps_more s mid after n m begun on =
     let whole : m ≡ m + 0 = omega arith in
-    shifted n m 0 0 s mid begun ∙ ap (λ i. run_from i n mid) whole ∙ shifted m 0 n 0 mid after then
+    shifted n m 0 0 s mid begun ∙ ap (λ i. run_from i n mid) whole ∙ shifted m 0 n 0 mid after on
 
 -- none
 pub no_steps : (s : Kept) → AreFirstSteps s 0 s
@@ -55,7 +55,7 @@ begun_none most s few = (s, 0, 0, refl, (let none : 0 ≤ STEPS_A_LOOK = omega a
 
 -- a piece that was begun within them, after others
 pub begun_piece : (most : ℕ) (s mid after : Kept) (n m : ℕ) → bytes_taken mid ≤ most → m ≤ STEPS_A_LOOK → AreFirstSteps s n mid → AreFirstSteps mid m after → IsBegunWithin most s (n + m) after
-begun_piece most s mid after n m few short begun then = (mid, n, m, refl, short, begun, then, few)
+begun_piece most s mid after n m few short begun on = (mid, n, m, refl, short, begun, on, few)
 
 -- the room of a book that is left after a piece is enough for the rest
 pub left_room : (all begun n : ℕ) (b c : Book) → c ≡ with_more b n n → all - begun ≤ room_in b → all - (begun + n) ≤ room_in c
