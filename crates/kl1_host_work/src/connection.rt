@@ -19,7 +19,7 @@ use crate::visit::{Visit, VisitReader, WatchedDoor};
 use kl1_host_journals::{Connecting, FreshConnection, Naming, Outgoing, SyncedWriter};
 use kl1_lines::{FailureCounter, Sink, Source};
 use kl1_pool::{Names, Pool, PoolIds, Share};
-use kl1_session::{Disconnect, Door, Key};
+use kl1_session::{Disconnect, Door};
 use std::alloc::Global;
 use std::cell::Cell;
 use std::marker::Brand;
@@ -130,12 +130,53 @@ where
     serve_lines_of::<F, W, R, K, D, Brand>(rt, desk, host, visit, door, share, connection)
 }
 
+/// `serve_pages_of` by a leave to write.
+fn serve_pages_by<'p, 'd, 't, F: Front, W: Wait + Clock, R: Wait, K, C: Connecting + Names>(
+    rt: &'p W,
+    desk: &'p Desk<'d, 't, F, R, K>,
+    host: Host<'p, K>,
+    outgoing: &'p Cell<Outgoing<K, C>>,
+    visit: &'p Visit,
+    address: SocketAddr,
+    share: Share<K>,
+) -> Share<K>
+where
+    K: PoolIds + Naming,
+    requires few { length host.keys.now ≤ K.accounts }
+    requires named { names_in (entries_view host.keys.now) ≡ C.names }
+{
+    let keys = host.keys;
+    let answers = desk.board.answers();
+    let mut source = FailureCounter::new(VisitReader::new(rt, visit, host.live.limits(), answers));
+    let writer = SyncedWriter::new(visit.stream(), rt, host.keepers, outgoing);
+    let mut sink = FailureCounter::new(writer);
+    let view = View {
+        rt,
+        desk,
+        edition: host.edition,
+        outgoing: Some(outgoing),
+        visit: Some(visit),
+    };
+    let exchange = Exchange::new(share, host.syncing.replies_wait);
+    let mut performer = HostHandler {
+        rt,
+        pool: desk.pool,
+        host,
+        outgoing,
+        exchange,
+    };
+    desk.front.serve_pages(address, keys, &mut source, &mut sink, &mut performer, &view);
+    visit.end_answer(rt, answers);
+    let HostHandler { exchange, .. } = performer;
+    let (share, _) = exchange.into_parts();
+    share
+}
+
 /// `serve_pages` of a connection that no type names yet.
 fn serve_pages_of<'p, 't, F: Front, W: Wait + Clock, R: Wait, K, C: Connecting + Names>(
     rt: &'p W,
     desk: &'p Desk<'p, 't, F, R, K>,
-    edition: u64,
-    keys: &'p [Key],
+    host: Host<'p, K>,
     visit: &'p Visit,
     address: SocketAddr,
     share: Share<K>,
@@ -143,39 +184,12 @@ fn serve_pages_of<'p, 't, F: Front, W: Wait + Clock, R: Wait, K, C: Connecting +
 ) -> Share<K>
 where
     K: PoolIds + Naming,
-    requires few { length keys.now ≤ K.accounts }
-    requires named { names_in (entries_view keys.now) ≡ C.names }
+    requires few { length host.keys.now ≤ K.accounts }
+    requires named { names_in (entries_view host.keys.now) ≡ C.names }
     requires connection { connection.pen.book ≡ C.connection }
 {
     let outgoing = Cell::new(Outgoing::<K, C>::new(connection));
-    let mut performer = HostHandler {
-        rt,
-        pool: desk.pool,
-        host: desk.host.with_keys(edition, keys),
-        outgoing: &outgoing,
-        exchange: Exchange::new(share, desk.host.syncing.replies_wait),
-    };
-    let view = View {
-        rt,
-        desk,
-        edition,
-        outgoing: Some(&outgoing),
-        visit: Some(visit),
-    };
-    let answers = desk.board.answers();
-    let mut source = FailureCounter::new(VisitReader::new(
-        rt,
-        visit,
-        desk.host.live.limits(),
-        answers,
-    ));
-    let writer = SyncedWriter::new(visit.stream(), rt, desk.host.keepers, &outgoing);
-    let mut sink = FailureCounter::new(writer);
-    desk.front.serve_pages(address, keys, &mut source, &mut sink, &mut performer, &view);
-    visit.end_answer(rt, answers);
-    let HostHandler { exchange, .. } = performer;
-    let (share, _) = exchange.into_parts();
-    share
+    serve_pages_by(rt, desk, host, &outgoing, visit, address, share)
 }
 
 /// Serves one connection of a browser over a socket, closes it if it is silent for too long, and gives the share back.
@@ -194,6 +208,7 @@ pub(crate) fn serve_pages<'p, 't, F: Front, W: Wait + Clock, R: Wait, K: PoolIds
     if keys.len() > desk.pool.accounts() {
         return share;
     }
+    let host = desk.host.with_keys(edition, keys);
     let connection = FreshConnection::new();
-    serve_pages_of::<F, W, R, K, Brand>(rt, desk, edition, keys, visit, address, share, connection)
+    serve_pages_of::<F, W, R, K, Brand>(rt, desk, host, visit, address, share, connection)
 }

@@ -155,7 +155,7 @@ impl<K: PoolIds + Naming, C: Connecting + Names> Exchange<K, C> {
             self.notice = Notice {
                 waiting: Waiting::Nothing,
             };
-            return (Performed::Memory, outgoing);
+            return (performed, outgoing);
         }
         let leave = if_held(outgoing, account, is_shown);
         self.notice = noted(&self.history, &leave);

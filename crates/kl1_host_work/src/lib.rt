@@ -4,6 +4,7 @@
 
 mod account_place;
 mod answers;
+mod attending;
 mod board;
 mod budget;
 mod connection;

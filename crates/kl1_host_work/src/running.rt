@@ -1,26 +1,17 @@
 // The threads of a host.
 
-ghost use Rattle.std.specs.Prelude.{◌≡◌, ◌≤◌, length};
-ghost use Rattle.kl1_session.specs.Views.{entries_view};
-ghost use Rattle.kl1_host_work.specs.Fronts.{names_in};
-
+use crate::attending::attend;
 use crate::connections::{Desk, Peers, serve_each};
-use crate::exchange::Exchange;
 use crate::filling::close_rooms;
 use crate::front::{Front, HostEvent};
-use crate::handler::HostHandler;
 use crate::host::Host;
 use crate::keeping::{Means, Opener, keep};
 use crate::noting::note;
 use crate::start_fault::StartFault;
-use crate::view::View;
 use crate::watching::{tell_waits, watch};
-use kl1_host_journals::{Bell, Connecting, FaultTeller, FreshConnection, Naming, Outgoing};
+use kl1_host_journals::{Bell, FaultTeller, Naming};
 use kl1_log::{Disk, LogError, LogFile};
-use kl1_pool::{Gate, Names, Pool, PoolIds, Share, worker};
-use kl1_session::Key;
-use std::cell::Cell;
-use std::marker::Brand;
+use kl1_pool::{Gate, Pool, PoolIds, Share, worker};
 use std::net::{Net, TcpListener, TcpStream};
 use std::sync::Wait;
 use std::thread;
@@ -110,78 +101,6 @@ fn wake<N: Net<Listener = TcpListener, Stream = TcpStream> + Clock>(
             return;
         }
         thread::sleep(rt, Duration::from_millis(WAKING_PAUSE_MILLISECONDS));
-    }
-}
-
-/// `attend_once` as a connection that no type names yet.
-fn attend_as<'p, 't, F: Front, N: Wait + Clock, R: Wait, K, C: Connecting + Names>(
-    rt: &'p N,
-    desk: &'p Desk<'p, 't, F, R, K>,
-    edition: u64,
-    keys: &'p [Key],
-    share: Share<K>,
-    connection: FreshConnection,
-) -> (bool, Share<K>)
-where
-    K: PoolIds + Naming,
-    requires few { length keys.now ≤ K.accounts }
-    requires named { names_in (entries_view keys.now) ≡ C.names }
-    requires connection { connection.pen.book ≡ C.connection }
-{
-    let outgoing = Cell::new(Outgoing::<K, C>::new(connection));
-    let mut performer = HostHandler {
-        rt,
-        pool: desk.pool,
-        host: desk.host.with_keys(edition, keys),
-        outgoing: &outgoing,
-        exchange: Exchange::new(share, desk.host.syncing.replies_wait),
-    };
-    let view = View::<F, N, R, K, C> {
-        rt,
-        desk,
-        edition,
-        outgoing: None,
-        visit: None,
-    };
-    let again = desk.front.attend(keys, &mut performer, &view);
-    let HostHandler { exchange, .. } = performer;
-    let (share, _) = exchange.into_parts();
-    (again, share)
-}
-
-/// Lets the program attend to a host by the newest keys; answers whether it is to do so again.
-fn attend_once<'p, 't, F: Front, N: Wait + Clock, R: Wait, K: PoolIds + Naming>(
-    rt: &'p N,
-    desk: &'p Desk<'p, 't, F, R, K>,
-    share: Share<K>,
-) -> (bool, Share<K>) {
-    // As in `serve_pages`.
-    let edition = desk.host.live.edition();
-    let keys = desk.front.keys();
-    if keys.len() > desk.pool.accounts() {
-        return (false, share);
-    }
-    let connection = FreshConnection::new();
-    attend_as::<F, N, R, K, Brand>(rt, desk, edition, keys, share, connection)
-}
-
-/// Lets the program attend to a host if all its threads are there, with a share for the commands that it does.
-fn attend<'p, 't, F: Front, N: Wait + Clock, R: Wait, K: PoolIds + Naming>(
-    rt: &'p N,
-    desk: &'p Desk<'p, 't, F, R, K>,
-    all_are_there: bool,
-    share: Share<K>,
-) {
-    if !all_are_there {
-        return;
-    }
-    let mut share = share;
-    for _ in rt.forever() {
-        let (again, back) = attend_once(rt, desk, share);
-        if !again {
-            return;
-        }
-        share = back;
     }
 }
 

@@ -6,4 +6,4 @@ abbrev pub ghosts-serve_pages_of-C-Connecting : goal.ghosts-serve_pages_of-C-Con
 ghosts-serve_pages_of-C-Connecting g a = record { connection = a.connection.pen.book }
 
 abbrev pub ghosts-serve_pages_of-C-Names : goal.ghosts-serve_pages_of-C-Names
-ghosts-serve_pages_of-C-Names g a = record { names = names_in (entries_view a.keys.now) }
+ghosts-serve_pages_of-C-Names g a = record { names = names_in (entries_view a.host.keys.now) }
