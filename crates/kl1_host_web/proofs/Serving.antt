@@ -22,7 +22,7 @@ use Rattle.kl1_host_web.specs.Wishes.{wish_view, IsWish}
 use Rattle.kl1_host_web.specs.Telling.{Grants, IsRefusal}
 use Rattle.kl1_host_web.specs.Beginning.{IsDrawn, IsWelcome, Begun}
 use Rattle.kl1_host_web.proofs.Wanting.{refusal_keeps}
-use Rattle.kl1_host_web.specs.Serving.{Admits, LooksAt, KeepsOut, Ends, Performs, AnswersWithin, Answers, Attends, Exchange, Exchanges, AsksNoMore, Steps, HasHead, HasNoBody, HasBody}
+use Rattle.kl1_host_web.specs.Serving.{Admits, LooksAt, KeepsOut, Ends, Performs, AnswersWithin, Answers, Attends, Exchanges, AsksNoMore, Steps, HasHead, HasNoBody, HasBody}
 use Rattle.kl1_host_web.specs.declared.serve.Served.{Served}
 use Rattle.kl1_host_web.specs.declared.wish.Wish.{Wish}
 use Rattle.kl1_host_web.specs.declared.outcome.Outcome.{Outcome}
