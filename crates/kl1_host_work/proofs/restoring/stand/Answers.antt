@@ -8,14 +8,14 @@ use Rattle.kl1_host_work.proofs.Restarts.{all_restored}
 use Rattle.kl1_host_work.proofs.restoring.stand.Goals as goal
 
 -- the history is the account's
-pub admit-requires-clause-takes : goal.admit-requires-clause-takes
-admit-requires-clause-takes g c = λ s at.
+pub admit-restored-requires-clause-takes : goal.admit-restored-requires-clause-takes
+admit-restored-requires-clause-takes g c = λ s at.
     let P : ℕ → Type 0 = λ (k : ℕ). slice_get g.K.ShownIds.histories k ≡ Some s.history in
-    takes_own c.args.own.account c.new-linking.result.linkage s c.new-linking.ensures.account (subst P (sym c.if-account.false) at)
+    takes_own c.args.own.account c.new-linking.result.linkage s c.new-linking.ensures.account (subst P (sym c.if-own-account.false) at)
 
 -- the journal that was restored is the file's, and the file was linked under the same lock
-pub returns-in-All-in-Ok : goal.returns-in-All-in-Ok
-returns-in-All-in-Ok g c =
+pub returns-in-Ok : goal.returns-in-Ok
+returns-in-Ok g c =
     let named = is_called c.args.found.name in
     let P : Rows → Type 0 = λ (j : Rows). IsAllRestored g.K.PoolIds.rules named j.journal c.admit-restored.result.entries in
     record {
