@@ -3,7 +3,7 @@ use Rattle.std.specs.Prelude.{Some, slice_get}
 use Rattle.kl1_journal_entries.specs.Lined.{Rows}
 use Rattle.kl1_pool.specs.Names.{is_called}
 use Rattle.kl1_host_work.specs.Restarts.{IsAllRestored}
-use Rattle.kl1_host_work.proofs.Linkages.{takes_own, linked_by}
+use Rattle.kl1_host_work.proofs.Linkages.{takes_own, linked_by, of_file}
 use Rattle.kl1_host_work.proofs.Restarts.{all_restored}
 use Rattle.kl1_host_work.proofs.restoring.stand.Goals as goal
 
@@ -20,5 +20,5 @@ returns-in-Ok g c =
     let P : Rows → Type 0 = λ (j : Rows). IsAllRestored g.K.PoolIds.rules named j.journal c.admit-restored.result.entries in
     record {
       restored = subst P c.new-linking.ensures.journal (all_restored g.K.PoolIds.rules named c.new-linking.result.opened.journal.journal c.admit-restored.result c.admit-restored.ensures.restored c.in-All.is);
-      linked = linked_by g.K.PoolIds.rules named c.args.own.account c.new-linking.result.linkage c.admit-restored.new.comer.linkage c.in-Ok.linked c.new-linking.ensures.account c.in-Ok.ensures c.admit-restored.ensures.seen;
+      linked = linked_by g.K.PoolIds.rules named c.args.own.account c.new-linking.result.linkage c.admit-restored.new.comer.linkage c.in-Ok.linked c.new-linking.ensures.account c.in-Ok.ensures (of_file c.new-linking.result c.admit-restored.new.comer c.admit-restored.ensures.seen);
     }

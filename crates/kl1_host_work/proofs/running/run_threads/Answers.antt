@@ -14,8 +14,8 @@ pub keep_while-requires-after_bounds : goal.keep_while-requires-after_bounds
 keep_while-requires-after_bounds g c κs within =
     let t = c.type_bounds in
     λ there. (
-      record { owned = t.send-K.owned; leaving = λ k. either_quiet (k (of_param 2)) },
-      record { owned = t.send-F-Entrance.owned; leaving = λ k. either_quiet (k (of_param 3)) },
+      record { owned = t.send-K.owned; leaving = λ k x w. tt },
+      record { owned = t.send-F-Entrance.owned; leaving = λ k x w. ?entrance },
       record { shared = t.sync-F.shared },
       record { shared = t.sync-R.shared },
       record { shared = t.sync-K.shared },
