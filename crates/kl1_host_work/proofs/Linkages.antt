@@ -1,5 +1,5 @@
 -- A file that comes with an account, and is linked with its journal.
-use Rattle.std.proofs.Common.{◌≡◌, ◌⊎◌, ◌×◌, ℕ, List, sym, ap, subst, ◌∙◌, inl, inr}
+use Rattle.std.proofs.Common.{◌≡◌, ◌⊎◌, ℕ, List, sym, ap, subst, ◌∙◌, inl, inr}
 use Rattle.std.specs.Prelude.{Some, slice_get}
 use Rattle.kl1_model.specs.declared.rules.Rules.{Rules}
 use Rattle.kl1_model_server.specs.Journal.{Journal}
@@ -11,6 +11,7 @@ use Rattle.kl1_host_journals.specs.declared.linking.Linked.{Linked as LinkedFile
 use Rattle.kl1_pool.specs.Showing.{IsSeenOfSome}
 use Rattle.kl1_host_work.specs.Linkages.{IsLinked, IsLinkedIf, IsOwnOf, IsRead, Takes}
 use Rattle.kl1_host_work.specs.declared.linking.Linkage.{Linkage}
+use Rattle.kl1_host_work.specs.declared.linking.Linking.{Linking}
 use Rattle.kl1_host_work.specs.declared.linking.Linkage.TheVariants.{Unlinked, Linked, Failed}
 
 module _ {D J : Type 0} {g : disk.Ghosts D} {h : naming.Ghosts J} {shown : shown_ids.Ghosts J} where
@@ -36,3 +37,8 @@ module _ {D J : Type 0} {g : disk.Ghosts D} {h : naming.Ghosts J} {shown : shown
   linked_by rules named account before after l of is (inr seen) =
       let s = seen.1 in
       (s.0, s.1, s.2, read_linked account before after l s.0.journal s.1 of is s.3)
+
+  -- what is known of who comes with an account is known of the file that comes
+  pub of_file : {A : Type 0} (before after : Linking D J g h shown) → (after ≡ before) ⊎ A → (after.linkage ≡ before.linkage) ⊎ A
+  of_file before after (inl same) = inl (ap (λ (l : Linking D J g h shown). l.linkage) same)
+  of_file before after (inr seen) = inr seen

@@ -1,5 +1,5 @@
 -- What the answers to a connection wait for.
-use Rattle.std.proofs.Common.{◌≡◌, ◌×◌, ◌∙◌, ℕ, Bool, true, List, ap, sym, subst}
+use Rattle.std.proofs.Common.{◌≡◌, ◌∙◌, ℕ, Bool, true, List, ap, sym, subst}
 use Rattle.kl1_model.specs.declared.rules.Rules.{Rules}
 use Rattle.kl1_model_server.specs.Journal.{Journal}
 use Rattle.kl1_session.specs.Conversations.{Done}

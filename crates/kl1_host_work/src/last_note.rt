@@ -50,7 +50,21 @@ fn last_note<'t, W: Wait, R: Wait, K: PoolIds + Naming, C: Connecting>(
     Some((shown, outgoing))
 }
 
-/// `last_note`, which nobody waits for; whether it was made.
+/// Whether `last_note` was made, for which nobody waits.
+fn has_noted<'t, W: Wait, R: Wait, K: PoolIds + Naming, C: Connecting>(
+    rt: &W,
+    pool: &Pool<'t, R, K>,
+    keeper: &Keeper<K>,
+    account: usize,
+    connection: FreshConnection,
+) -> bool
+    requires within { account < K.accounts }
+    requires connection { connection.pen.book ≡ C.connection }
+{
+    last_note::<W, R, K, C>(rt, pool, keeper, account, connection).is_some()
+}
+
+/// `has_noted` by a leave that no type names yet.
 pub(crate) fn note_last<'t, W: Wait, R: Wait, K: PoolIds + Naming>(
     rt: &W,
     pool: &Pool<'t, R, K>,
@@ -60,5 +74,5 @@ pub(crate) fn note_last<'t, W: Wait, R: Wait, K: PoolIds + Naming>(
     requires { account < K.accounts }
 {
     let connection = FreshConnection::new();
-    last_note::<W, R, K, Brand>(rt, pool, keeper, account, connection).is_some()
+    has_noted::<W, R, K, Brand>(rt, pool, keeper, account, connection)
 }

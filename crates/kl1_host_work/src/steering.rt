@@ -1,6 +1,7 @@
 // What a host is told to do while it runs.
 
 use crate::account_place::PlaceState;
+use crate::budget::Budget;
 use crate::filling::hurry_room;
 use crate::front::Front;
 use crate::live::Amounts;
@@ -35,6 +36,13 @@ pub trait Steering {
 
     /// Whether the host is to end, since an account of the start can't be restored.
     fn has_failed(&self) -> bool;
+}
+
+/// Each account may load so many bytes of sources in all, and not so many as before.
+fn change_budgets(budgets: &[Budget], before: u64, after: u64) {
+    for budget in budgets {
+        budget.change(before, after);
+    }
 }
 
 impl<F: Front, N: Wait + Clock, R: Wait, K: PoolIds + Naming, C: Connecting> Steering
@@ -89,9 +97,7 @@ impl<F: Front, N: Wait + Clock, R: Wait, K: PoolIds + Naming, C: Connecting> Ste
     fn set(&self, amounts: Amounts) {
         let host = self.desk.host;
         let before = host.live.codes_each();
-        for budget in host.budgets {
-            budget.change(before, amounts.codes_each);
-        }
+        change_budgets(host.budgets, before, amounts.codes_each);
         host.live.set(amounts);
     }
 
