@@ -43,7 +43,13 @@ shifted (suc m) k n j s after is = go (λ t e. shifted m k (suc n) (suc j) t aft
 pub steps_more : (s mid after : Kept) (n m : ℕ) → AreFirstSteps s n mid → AreFirstSteps mid m after → AreFirstSteps s (n + m) after
 steps_more s mid after n m begun on =
     let whole : m ≡ m + 0 = omega arith in
-    shifted n m 0 0 s mid begun ∙ ap (λ i. run_from i n mid) whole ∙ shifted m 0 n 0 mid after on
+    let first : n ≡ 0 + n = omega arith in
+    let second : m ≡ 0 + m = omega arith in
+    let P : ℕ → Type 0 = λ i. run_from n 0 s ≡ record { kept = mid; reply = ran i } in
+    let Q : ℕ → Type 0 = λ i. run_from m 0 mid ≡ record { kept = after; reply = ran i } in
+    let begin : run_from (n + m) 0 s ≡ run_from m (0 + n) mid = shifted n m 0 0 s mid (subst P first begun) in
+    let rest : run_from (m + 0) n mid ≡ run_from 0 (n + m) after = shifted m 0 n 0 mid after (subst Q second on) in
+    begin ∙ ap (λ i. run_from m i mid) (sym first) ∙ ap (λ i. run_from i n mid) whole ∙ rest
 
 -- none
 pub no_steps : (s : Kept) → AreFirstSteps s 0 s

@@ -13,7 +13,7 @@ use Rattle.kl1_pool.proofs.pool_account.PoolAccount.steps_within.Goals as goal
 pub loop-done-init : goal.loop-done-init
 loop-done-init g c = record {
   few = omega arith;
-  room = c.requires.room;
+  room = let all : c.args.most ≤ room_in c.args.self.now.book = c.requires.room in omega (arith, all);
   within = c.requires.within;
   steps = λ f fits. no_steps (kept_of f c.args.self.now.held);
   begun = λ f fits. begun_none c.args.most_bytes (kept_of f c.args.self.now.held) (c.requires.within f);
