@@ -62,6 +62,13 @@ fn taken_out<T>(place: &mut Option<T>) -> T
     tenant
 }
 
+/// Puts it there.
+fn put_in<T>(place: &mut Option<T>, tenant: T)
+    ensures { IsSome place.new }
+{
+    *place = Some(tenant);
+}
+
 impl<'t, R: Wait, K: PoolIds> PoolAccount<'t, R, K> {
     /// Lets who comes with an account that is restored read its journal, if it is called so. Answers whether it did, so that the account is to stay;
     /// and then its ticket that is to be put, if there is one.
@@ -189,17 +196,17 @@ impl<'t, R: Wait, K: PoolIds> Pool<'t, R, K> {
                 );
                 match came {
                     Ok(found) => {
-                        *tenant = Some(Tenant::Account(found));
+                        put_in(tenant, Tenant::Account(found));
                         (restored, due)
                     }
                     Err(left) => {
-                        *tenant = Some(Tenant::Nobody(left));
+                        put_in(tenant, Tenant::Nobody(left));
                         (restored, due)
                     }
                 }
             }
             Tenant::Account(found) => {
-                *tenant = Some(Tenant::Account(found));
+                put_in(tenant, Tenant::Account(found));
                 (NOT_RESTORED, None)
             }
         }
@@ -274,11 +281,11 @@ impl<'t, R: Wait, K: PoolIds> Pool<'t, R, K> {
         match taken_out(tenant) {
             Tenant::Nobody(place) => {
                 let (settled, ended) = self.settled(alloc, place, account, name);
-                *tenant = Some(settled);
+                put_in(tenant, settled);
                 ended
             }
             Tenant::Account(found) => {
-                *tenant = Some(Tenant::Account(found));
+                put_in(tenant, Tenant::Account(found));
                 Err(AllocError)
             }
         }
@@ -341,11 +348,11 @@ impl<'t, R: Wait, K: PoolIds> Pool<'t, R, K> {
         match taken_out(tenant) {
             Tenant::Account(found) => {
                 let (left, shown) = found.end(account, reader);
-                *tenant = Some(left);
+                put_in(tenant, left);
                 shown
             }
             Tenant::Nobody(place) => {
-                *tenant = Some(Tenant::Nobody(place));
+                put_in(tenant, Tenant::Nobody(place));
                 None
             }
         }
