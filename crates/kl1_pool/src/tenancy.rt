@@ -63,7 +63,7 @@ fn taken_out<T>(place: &mut Option<T>) -> T
 }
 
 /// Puts it there.
-fn put_in<T>(place: &mut Option<T>, tenant: T)
+fn put_in<T: Drop>(place: &mut Option<T>, tenant: T)
     ensures { IsSome place.new }
 {
     *place = Some(tenant);

@@ -1,4 +1,3 @@
--- Not run yet.
 use Rattle.std.proofs.Common.{[], ◌≡◌, ◌∙◌, ap, sym, List}
 use Rattle.kl1_tally.specs.Seats.{Book}
 use Rattle.kl1_journal.specs.Keeping.{Held}

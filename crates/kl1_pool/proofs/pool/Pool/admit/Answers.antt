@@ -13,5 +13,5 @@ returns-then-account-self-clause-counted g c = (0, omega arith, not_moved c.args
 pub returns-then-account-self-clause-seen : goal.returns-then-account-self-clause-seen
 returns-then-account-self-clause-seen g c = inl refl
 
-pub admit_at-restored-requires-clause-name : goal.admit_at-restored-requires-clause-name
-admit_at-restored-requires-clause-name g c = called_beyond g.K.Names.names c.args.account c.args.name (omega (arith, c.args.self.now.listed, c.if-account-self.false))
+pub admit_at-due-requires-clause-name : goal.admit_at-due-requires-clause-name
+admit_at-due-requires-clause-name g c = called_beyond g.K.Names.names c.args.account c.args.name (omega (arith, c.args.self.now.listed, c.if-account-self.false))

@@ -1,4 +1,3 @@
--- Not run yet.
 use Rattle.std.proofs.Common.{◌≡◌, ℕ, ap, subst, sym, ◌∙◌}
 use Rattle.std.specs.Prelude.{Some, slice_get}
 use Rattle.kl1_pool.specs.Names.{called_at}
