@@ -1,8 +1,7 @@
-use Rattle.std.proofs.Common.{◌≡◌, ℕ, ◌+◌, ◌-◌, ◌^◌, ◌<◌, ◌≤◌, sym, ap, ◌∙◌, refl, arith}
+use Rattle.std.proofs.Common.{◌≡◌, ◌+◌, ◌≤◌, sym, ◌∙◌, refl, arith}
 use Rattle.std.proofs.lemmas.Bool.{ltb-false}
 use Rattle.kl1_journal.specs.Keeping.{kept_of}
 use Rattle.kl1_command.proofs.Runs.{all_done}
-use Rattle.kl1_tally.specs.Seats.{Book}
 use Rattle.kl1_pool.specs.Counted.{room_in}
 use Rattle.kl1_pool.specs.Growing.{counted_none, counted_more}
 use Rattle.kl1_pool.specs.declared.turn.TheConstants.{STEPS_A_LOOK}
