@@ -1,4 +1,4 @@
-use Rattle.std.proofs.Common.{◌≡◌, ℕ, ◌+◌, ◌-◌, ◌<◌, ◌≤◌, min, refl, ◌∙◌, arith}
+use Rattle.std.proofs.Common.{◌≡◌, ◌+◌, ◌-◌, ◌≤◌, refl, ◌∙◌, arith}
 use Rattle.kl1_pool.proofs.RestoredEvents.{runs_lead, end_of_all, room_enough, room_less}
 use Rattle.kl1_pool.proofs.restoring.metered_steps.Goals as goal
 

@@ -1,10 +1,28 @@
-use Rattle.std.proofs.Common.{◌≡◌, Some, sym, ap, ◌∙◌, subst}
+use Rattle.std.proofs.Common.{◌≡◌, Some, refl, sym, ap, ◌∙◌, subst}
 use Rattle.std.specs.Prelude.{slice_get}
 use Rattle.kl1_model_server.specs.Journal.{Journal}
 use Rattle.kl1_journal_stamps.specs.Stamps.{HistoryId, ShownValue, ComesAfter, MayFollow}
 use Rattle.kl1_journal_stamps.proofs.Chains.{after_itself}
 use Rattle.kl1_pool.specs.PoolAccounts.{PoolAccountValue}
 use Rattle.kl1_pool.proofs.pool_account.PoolAccount.last_look.Goals as goal
+
+-- if it wasn't shown
+pub invariant_of-result : goal.invariant_of-result
+invariant_of-result g c =
+    let inv = c.self.invariant in
+    let events = c.self.inside.past.events in
+    let j = c.self.inside.kept.1.1 in
+    let same = c.in_default.ensures.none refl in (
+      inv.0,
+      inv.1,
+      inv.2,
+      inv.3,
+      inv.4,
+      inv.5,
+      inv.6,
+      subst (λ (x : ShownValue). slice_get g.K.ShownIds.histories c.self.inside.book.account ≡ Some x.history) (sym same) inv.7,
+      subst (λ (x : ShownValue). MayFollow x.last events j) (sym same) inv.8,
+    )
 
 -- after its journal was shown to a reader that asks to come again
 pub invariant_of-result-then-not-is_done : goal.invariant_of-result-then-not-is_done
