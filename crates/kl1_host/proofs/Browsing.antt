@@ -1,5 +1,5 @@
 -- Connections of browsers, and what is done for them.
-use Rattle.std.proofs.Common.{◌≡◌, ◌×◌, ℕ, Bool, List, [], subst}
+use Rattle.std.proofs.Common.{◌≡◌, ℕ, Bool, List, [], subst}
 use Rattle.std.specs.Prelude.{⊤}
 use Rattle.std.proofs.Math.Logic.{∥∥₁_map}
 use Rattle.std.specs.declared.option.Option.{Option}

@@ -1,6 +1,6 @@
 -- To which account a name and a key let in, whose sum is compared.
 use Rattle.std.proofs.Common.{◌≡◌, ℕ, suc, ◌+◌, Bool, true, false, List, [], ◌∷◌, Some, None, bytes_eq, ap, refl, ◌∙◌, arith}
-use Rattle.std.specs.Prelude.{Option}
+use Rattle.std.specs.Prelude.{Option, if◌then◌else◌}
 use Rattle.std.proofs.lemmas.Slice.Eq.{bytes_eq-Decides}
 use Rattle.kl1_session.specs.Files.{Entry, found, found_from}
 use Rattle.kl1_host_front.specs.Sums.{sum_of, opened_by_sum}

@@ -11,7 +11,7 @@ use Rattle.kl1_host_front.specs.Addresses.{IsCanonical}
 use Rattle.kl1_host_front.specs.Sums.{opened_by_sum, sum_of}
 use Rattle.kl1_host_door.specs.Doors.{mark_at}
 use Rattle.kl1_host_door.specs.declared.door.Site.{Site}
-use Rattle.kl1_host_web.specs.Asking.{Asked, House, AreDone}
+use Rattle.kl1_host_web.specs.Asking.{Asked, AreDone}
 use Rattle.kl1_host_web.specs.Writing.{Connects}
 
 -- what the account of a number is called
