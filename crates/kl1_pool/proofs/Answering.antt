@@ -1,5 +1,5 @@
 -- Answers, and what commands leave.
-use Rattle.std.proofs.Common.{◌≡◌, ℕ, ◌≤◌, ◌⊎◌, inl, inr, Result, Ok, Err, IfOk, IfErr, Bool, true, false, List, [], Some, ap, sym, ◌∙◌, subst, refl}
+use Rattle.std.proofs.Common.{◌≡◌, ℕ, ◌≤◌, ◌⊎◌, inl, inr, Result, Ok, Err, IfOk, IfErr, Bool, true, false, List, [], Some, ap, ◌∙◌, subst, refl}
 use Rattle.kl1_model.specs.declared.rules.Rules.{Rules}
 use Rattle.kl1_model.specs.State.{State}
 use Rattle.kl1_model_server.specs.Command.{Command}
@@ -11,7 +11,6 @@ use Rattle.kl1_command.specs.declared.performed.Performed.{Performed}
 use Rattle.kl1_command.specs.declared.performed.Performed.TheVariants as performed
 use Rattle.kl1_command.specs.Performing.{IsUntouched}
 use Rattle.kl1_command.specs.Room.{PerformsWithin}
-use Rattle.kl1_pool_tickets.specs.declared.serving.TheConstants.{MOST_STEPS}
 use Rattle.kl1_pool_tickets.specs.declared.serving.TimeSlice.{TimeSlice}
 use Rattle.kl1_pool.specs.Answers.{IsAccount, IsGivenBySome, IsGiven}
 use Rattle.kl1_pool.specs.Showing.{IsFound, IsOfSome, IsSeenOfSome, IsCountedBySome, IsDone, IsShownAfter}

@@ -50,16 +50,16 @@ state_on n (suc m) s mid h =
 
 -- steps that are all done, and then more that are
 pub steps_on : (n m : ℕ) (s mid after : State) → first_steps n s ≡ moved mid (ran n) → first_steps m mid ≡ moved after (ran m) → first_steps (n + m) s ≡ moved after (ran (n + m))
-steps_on n zero s mid after begun then =
-    let at : mid ≡ after = ap (λ (x : Transition). x.state) then in
+steps_on n zero s mid after begun on =
+    let at : mid ≡ after = ap (λ (x : Transition). x.state) on in
     let none : n + 0 ≡ n = omega arith in
     let P : ℕ → Type 0 = λ k. first_steps k s ≡ moved after (ran k) in
     subst P (sym none) (begun ∙ ap (λ (t : State). moved t (ran n)) at)
-steps_on n (suc m) s mid after begun then =
+steps_on n (suc m) s mid after begun on =
     let x = first_step (first_steps m mid).state in
     let same : (first_steps (n + m) s).state ≡ (first_steps m mid).state = state_on n m s mid (ap (λ (y : Transition). y.state) begun) in
-    let at : x.state ≡ after = ap (λ (y : Transition). y.state) then in
-    let reply : (if is_refused x.reply then x.reply else ran (suc (n + m))) ≡ ran (suc (n + m)) = ran_by (is_refused x.reply) x.reply (suc m) (suc (n + m)) refl (ap (λ (y : Transition). y.reply) then) in
+    let at : x.state ≡ after = ap (λ (y : Transition). y.state) on in
+    let reply : (if is_refused x.reply then x.reply else ran (suc (n + m))) ≡ ran (suc (n + m)) = ran_by (is_refused x.reply) x.reply (suc m) (suc (n + m)) refl (ap (λ (y : Transition). y.reply) on) in
     let sum : n + suc m ≡ suc (n + m) = omega arith in
     let P : ℕ → Type 0 = λ k. first_steps k s ≡ moved after (ran k) in
     subst P (sym sum)

@@ -1,14 +1,14 @@
 -- Whether a turn is gone on, by what its account looks at after it.
-use Rattle.std.proofs.Common.{◌≡◌, ℕ, ◌≤◌, ◌⊎◌, inl, inr, ◌==◌, nat_le, not, ◌&&◌, ◌||◌, Bool, ap, sym, ◌∙◌, arith}
-use Rattle.std.proofs.lemmas.Bool.{le-leb, lt-leb}
-use Rattle.std.proofs.lemmas.Bool.Decides.{eqb_tells}
+use Rattle.std.proofs.Common.{◌≡◌, ℕ, ◌<◌, ◌≤◌, ◌⊎◌, inl, inr, ◌==◌, nat_le, not, ◌&&◌, ◌||◌, Bool, ap, sym, ◌∙◌, eq-or-lt_of_le, arith}
+use Rattle.std.proofs.lemmas.Bool.{le-leb, lt-leb, eq-eqb, ne_eqb}
 
 -- all of at most these steps were done
 all_of : (most n : ℕ) → n ≤ most → (n == most) ≡ nat_le most n
-all_of most n few = elim (eqb_tells n most) [
-  | inl yes ↦ yes.0 ∙ sym (le-leb most n (omega (arith, yes.1)))
-  | inr no ↦ no.0 ∙ sym (lt-leb most n (omega (arith, few, no.1)))
-]
+all_of most n few = by (eq-or-lt_of_le few)
+  where
+    by : (n ≡ most) ⊎ (n < most) → (n == most) ≡ nat_le most n
+    by (inl same) = eq-eqb n most same ∙ sym (le-leb most n (omega (arith, same)))
+    by (inr less) = ne_eqb n most (λ same. omega (arith, less, same)) ∙ sym (lt-leb most n less)
 
 -- whether a whole turn is gone on
 pub whole_on : (most n : ℕ) (over is_over none is_quiet : Bool) → n ≤ most → over ≡ is_over → none ≡ is_quiet → (((n == most) || over) && not none) ≡ ((nat_le most n || is_over) && not is_quiet)

@@ -1,6 +1,5 @@
 -- First steps that are done in pieces, one after another.
-use Rattle.std.proofs.Common.{◌≡◌, ℕ, zero, suc, ◌+◌, ◌-◌, ◌^◌, ◌<◌, ◌≤◌, ◌==◌, Bool, true, false, if◌then◌else◌, Option, Some, None, refl, sym, ap, ◌∙◌, subst, arith}
-use Rattle.kl1_model.specs.Event as model
+use Rattle.std.proofs.Common.{◌≡◌, ℕ, zero, suc, ◌+◌, ◌-◌, ◌^◌, ◌≤◌, ◌==◌, Bool, true, false, if◌then◌else◌, Option, Some, None, refl, sym, ap, ◌∙◌, subst, arith}
 use Rattle.kl1_model.specs.Event.{reduce, ran, is_refused}
 use Rattle.kl1_model.specs.Choice.{Chosen, first}
 use Rattle.kl1_model.specs.Step.{step}
@@ -17,7 +16,8 @@ use Rattle.kl1_pool.proofs.FirstSteps.{run_by, ran_same, not_stopped}
 shifted : (m k n j : ℕ) (s after : Kept) → run_from m j s ≡ record { kept = after; reply = ran (j + m) } → run_from (m + k) n s ≡ run_from k (n + m) after
 shifted zero k n j s after is =
     let none : n + 0 ≡ n = omega arith in
-    ap (λ (x : Kept). run_from k n x) (ap (λ (d : Done). d.kept) is) ∙ ap (λ i. run_from k i after) (sym none)
+    let all : 0 + k ≡ k = omega arith in
+    ap (λ i. run_from i n s) all ∙ ap (λ (x : Kept). run_from k n x) (ap (λ (d : Done). d.kept) is) ∙ ap (λ i. run_from k i after) (sym none)
 shifted (suc m) k n j s after is = go (λ t e. shifted m k (suc n) (suc j) t after e) (first s.state) refl is
   where
     Later : Type 0
@@ -31,7 +31,8 @@ shifted (suc m) k n j s after is = go (λ t e. shifted m k (suc n) (suc j) t aft
         let count : j + suc m ≡ suc j + m = omega arith in
         let more : n + suc m ≡ suc n + m = omega arith in
         let goes : run_by (m + k) n s (Some c) ≡ run_from (m + k) (suc n) x.kept = ap (λ b. if b then said s (if n == 0 then x.reply else ran n) else run_from (m + k) (suc n) x.kept) r in
-        ap (run_by (m + k) n s) found ∙ goes ∙ later x.kept (e ∙ ap (λ i. let d : Done = record { kept = after; reply = ran i } in d) count) ∙ ap (λ i. run_from k i after) (sym more)
+        let all : suc m + k ≡ suc (m + k) = omega arith in
+        ap (λ i. run_from i n s) all ∙ ap (run_by (m + k) n s) found ∙ goes ∙ later x.kept (e ∙ ap (λ i. let d : Done = record { kept = after; reply = ran i } in d) count) ∙ ap (λ i. run_from k i after) (sym more)
 
     go : Later → (o : Option Chosen) → first s.state ≡ o → run_by m j s o ≡ record { kept = after; reply = ran (j + suc m) } → run_from (suc m + k) n s ≡ run_from k (n + suc m) after
     go later None found e =
@@ -41,9 +42,15 @@ shifted (suc m) k n j s after is = go (λ t e. shifted m k (suc n) (suc j) t aft
 
 -- first steps, and more of them
 pub steps_more : (s mid after : Kept) (n m : ℕ) → AreFirstSteps s n mid → AreFirstSteps mid m after → AreFirstSteps s (n + m) after
-steps_more s mid after n m begun then =
+steps_more s mid after n m begun on =
     let whole : m ≡ m + 0 = omega arith in
-    shifted n m 0 0 s mid begun ∙ ap (λ i. run_from i n mid) whole ∙ shifted m 0 n 0 mid after then
+    let here : n ≡ 0 + n = omega arith in
+    let there : m ≡ 0 + m = omega arith in
+    let P : ℕ → Type 0 = λ i. run_from n 0 s ≡ record { kept = mid; reply = ran i } in
+    let Q : ℕ → Type 0 = λ i. run_from m 0 mid ≡ record { kept = after; reply = ran i } in
+    let begin : run_from (n + m) 0 s ≡ run_from m (0 + n) mid = shifted n m 0 0 s mid (subst P here begun) in
+    let rest : run_from (m + 0) n mid ≡ run_from 0 (n + m) after = shifted m 0 n 0 mid after (subst Q there on) in
+    begin ∙ ap (λ i. run_from m i mid) (sym here) ∙ ap (λ i. run_from i n mid) whole ∙ rest
 
 -- none
 pub no_steps : (s : Kept) → AreFirstSteps s 0 s
@@ -55,7 +62,7 @@ begun_none most s few = (s, 0, 0, refl, (let none : 0 ≤ STEPS_A_LOOK = omega a
 
 -- a piece that was begun within them, after others
 pub begun_piece : (most : ℕ) (s mid after : Kept) (n m : ℕ) → bytes_taken mid ≤ most → m ≤ STEPS_A_LOOK → AreFirstSteps s n mid → AreFirstSteps mid m after → IsBegunWithin most s (n + m) after
-begun_piece most s mid after n m few short begun then = (mid, n, m, refl, short, begun, then, few)
+begun_piece most s mid after n m few short begun on = (mid, n, m, refl, short, begun, on, few)
 
 -- the room of a book that is left after a piece is enough for the rest
 pub left_room : (all begun n : ℕ) (b c : Book) → c ≡ with_more b n n → all - begun ≤ room_in b → all - (begun + n) ≤ room_in c

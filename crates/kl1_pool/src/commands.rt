@@ -211,6 +211,7 @@ impl<'t, R: Wait, K: PoolIds> Pool<'t, R, K> {
         drop(guard);
         if let Some(due) = due {
             self.offer(rt, account, due, share);
+            return (answer, is_shown);
         }
         (answer, is_shown)
     }

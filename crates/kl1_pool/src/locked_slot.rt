@@ -143,6 +143,9 @@ pub struct LockedSlot<'t, R: Wait, K: PoolIds> {
     pub(crate) tenant: CachePadded<Option<Tenant<'t, R, K>>>,
     /// How many messages to its shoens, and answers, may be unread.
     pub(crate) unread: u64,
+    // What an account borrows and names, told here too: how long a struct may live is read off its own fields, not those of a tenant.
+    of: PhantomData<&'t R>,
+    ids: PhantomData<K>,
 }
 
 impl<'t, R: Wait, K: PoolIds> Model for LockedSlot<'t, R, K> {
@@ -162,6 +165,8 @@ impl<'t, R: Wait, K: PoolIds> LockedSlot<'t, R, K> {
         LockedSlot {
             tenant: CachePadded::new(Some(tenant)),
             unread: 0,
+            of: PhantomData,
+            ids: PhantomData,
         }
     }
 

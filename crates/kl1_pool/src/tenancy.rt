@@ -1,6 +1,6 @@
 // Accounts that come to places of a pool, and leave them.
 
-ghost use Rattle.std.specs.Prelude.{Bool, ◌≡◌, ◌⊎◌, ◌<◌, ◌≤◌, ◌&&◌, Some, None, IfSome, IfOk, IfErr, slice_get, length, is_some, not, true, false};
+ghost use Rattle.std.specs.Prelude.{Bool, ◌≡◌, ◌⊎◌, ◌<◌, ◌≤◌, ◌&&◌, Some, None, IsSome, IfSome, IfOk, IfErr, slice_get, length, is_some, not, true, false};
 ghost use Rattle.kl1_model.specs.Choice.{quiet};
 ghost use Rattle.kl1_journal.specs.Keeping.{Reading, Fits, kept_of};
 ghost use Rattle.kl1_journal_entries.specs.Lined.{Rows};
@@ -50,6 +50,23 @@ pub trait LastReader: JournalReader {
     /// That.
     fn is_done(&self) -> bool
         ensures { result ≡ has_read self.now };
+}
+
+/// Takes out what is there.
+fn taken_out<T>(place: &mut Option<T>) -> T
+    requires { IsSome place.old }
+{
+    let Some(tenant) = mem::replace(place, None) else {
+        unreachable!()
+    };
+    tenant
+}
+
+/// Puts it there.
+fn put_in<T: Drop>(place: &mut Option<T>, tenant: T)
+    ensures { IsSome place.new }
+{
+    *place = Some(tenant);
 }
 
 impl<'t, R: Wait, K: PoolIds> PoolAccount<'t, R, K> {
@@ -154,6 +171,47 @@ impl<'t, R: Wait, K: PoolIds> Pool<'t, R, K> {
         (Ok(found), restored, due)
     }
 
+    /// `admit` at a place under its lock; and the account's ticket that is to be put, if there is one.
+    fn admit_at<L: Newcomer>(
+        &self,
+        tenant: &mut Option<Tenant<'t, R, K>>,
+        alloc: Global,
+        account: usize,
+        name: AccountName,
+        comer: &mut L,
+        share: &mut Share<K>,
+    ) -> (Restored, Option<DueTicket<K>>)
+        requires some { IsSome tenant.old }
+        requires name { called_at K.names account name }
+        requires takes { (s : StampValue) → slice_get K.histories account ≡ Some s.history → L.takes comer.old s }
+        ensures some { IsSome tenant.new }
+        ensures restored { IsRestoredOf K.rules (is_called name) (L.brings comer.old).journal result.0 }
+        ensures counted { Moved account (events_of (L.brings comer.old).journal.entries result.0) (steps_of (L.brings comer.old).journal.entries result.0) 0 0 share.old share.new }
+        ensures seen { (comer.new ≡ comer.old) ⊎ ((result.0.end ≡ All) × IsSeenOfSome K.rules (is_called name) (λ j ended. L.reads comer.old comer.new j ended)) }
+    {
+        match taken_out(tenant) {
+            Tenant::Nobody(place) => {
+                let (came, restored, due) = self.admitted(
+                    alloc, place, account, name, comer, share,
+                );
+                match came {
+                    Ok(found) => {
+                        put_in(tenant, Tenant::Account(found));
+                        (restored, due)
+                    }
+                    Err(left) => {
+                        put_in(tenant, Tenant::Nobody(left));
+                        (restored, due)
+                    }
+                }
+            }
+            Tenant::Account(found) => {
+                put_in(tenant, Tenant::Account(found));
+                (NOT_RESTORED, None)
+            }
+        }
+    }
+
     /// Lets an account come to a place at which none was yet: it is begun as one of this name which had used the names of `comer`'s journal at its last
     /// reset, and all entries of that are done to it, one after another, under its lock; `comer` is told how far it is, and may end it, which is
     /// told as want of memory. If all were done, whole, `comer` reads the account's journal, and from then on the account may be commanded and gone on
@@ -179,26 +237,12 @@ impl<'t, R: Wait, K: PoolIds> Pool<'t, R, K> {
         }
         let mut guard = self.places[account].lock(rt);
         let slot = &mut *guard;
-        match mem::replace(&mut *slot.tenant, None) {
-            Some(Tenant::Nobody(place)) => {
-                let (came, restored, due) = self.admitted(
-                    alloc, place, account, name, comer, share,
-                );
-                *slot.tenant = Some(match came {
-                    Ok(found) => Tenant::Account(found),
-                    Err(left) => Tenant::Nobody(left),
-                });
-                drop(guard);
-                if let Some(due) = due {
-                    self.offer(rt, account, due, share);
-                }
-                restored
-            }
-            tenant => {
-                *slot.tenant = tenant;
-                NOT_RESTORED
-            }
+        let (restored, due) = self.admit_at(&mut *slot.tenant, alloc, account, name, comer, share);
+        drop(guard);
+        if let Some(due) = due {
+            self.offer(rt, account, due, share);
         }
+        restored
     }
 
     /// Lets accounts of these names come to the first places, in which nothing has happened.
@@ -219,14 +263,29 @@ impl<'t, R: Wait, K: PoolIds> Pool<'t, R, K> {
     {
         let mut guard = self.places[account].lock(self.rt);
         let slot = &mut *guard;
-        match mem::replace(&mut *slot.tenant, None) {
-            Some(Tenant::Nobody(place)) => {
-                let (tenant, ended) = self.settled(alloc, place, account, name);
-                *slot.tenant = Some(tenant);
+        self.settle_in(&mut *slot.tenant, alloc, account, name)
+    }
+
+    /// `settle_at` under the lock of the place.
+    fn settle_in(
+        &self,
+        tenant: &mut Option<Tenant<'t, R, K>>,
+        alloc: Global,
+        account: usize,
+        name: AccountName,
+    ) -> Result<(), AllocError>
+        requires some { IsSome tenant.old }
+        requires name { slice_get K.names account ≡ Some name }
+        ensures some { IsSome tenant.new }
+    {
+        match taken_out(tenant) {
+            Tenant::Nobody(place) => {
+                let (settled, ended) = self.settled(alloc, place, account, name);
+                put_in(tenant, settled);
                 ended
             }
-            tenant => {
-                *slot.tenant = tenant;
+            Tenant::Account(found) => {
+                put_in(tenant, Tenant::Account(found));
                 Err(AllocError)
             }
         }
@@ -269,14 +328,31 @@ impl<'t, R: Wait, K: PoolIds> Pool<'t, R, K> {
     {
         let mut guard = self.places[account].lock(rt);
         let slot = &mut *guard;
-        match mem::replace(&mut *slot.tenant, None) {
-            Some(Tenant::Account(found)) => {
-                let (tenant, shown) = found.end(account, reader);
-                *slot.tenant = Some(tenant);
+        self.close_at(&mut *slot.tenant, account, reader)
+    }
+
+    /// `close_account` of the account at a place under its lock, if there is one.
+    fn close_at<L: LastReader>(
+        &self,
+        tenant: &mut Option<Tenant<'t, R, K>>,
+        account: usize,
+        reader: &mut L,
+    ) -> Option<ShownHistory>
+        requires some { IsSome tenant.old }
+        requires takes { (s : StampValue) → slice_get K.histories account ≡ Some s.history → L.takes reader.old s }
+        ensures some { IsSome tenant.new }
+        ensures history { IfSome result (λ shown. slice_get K.histories account ≡ Some shown.history) }
+        ensures seen { IfSome result (λ shown. IsSeenOfSome K.rules (called_at K.names account) (λ j ended. L.reads reader.old reader.new j ended × IsLastOf shown j ended)) }
+        ensures read { IfSome result (λ shown. L.has_read reader.new ≡ true) }
+    {
+        match taken_out(tenant) {
+            Tenant::Account(found) => {
+                let (left, shown) = found.end(account, reader);
+                put_in(tenant, left);
                 shown
             }
-            tenant => {
-                *slot.tenant = tenant;
+            Tenant::Nobody(place) => {
+                put_in(tenant, Tenant::Nobody(place));
                 None
             }
         }

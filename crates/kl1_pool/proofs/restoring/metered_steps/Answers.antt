@@ -1,11 +1,11 @@
-use Rattle.std.proofs.Common.{◌≡◌, ℕ, ◌+◌, ◌-◌, ◌<◌, ◌≤◌, min, refl, ◌∙◌, arith}
+use Rattle.std.proofs.Common.{◌≡◌, ◌+◌, ◌-◌, ◌≤◌, refl, ◌∙◌, arith}
 use Rattle.kl1_pool.proofs.RestoredEvents.{runs_lead, end_of_all, room_enough, room_less}
 use Rattle.kl1_pool.proofs.restoring.metered_steps.Goals as goal
 
 pub loop-done-init : goal.loop-done-init
 loop-done-init g c = record {
   few = omega arith;
-  room = c.requires;
+  room = room_enough c.args.most (c.args.most - 0) (g.H.Host.room c.args.host.now) (omega arith) c.requires;
   goes = λ f fits. refl;
   counted = g.met.H.Host.none_counted c.args.host.now;
   before = λ f fits. fits;

@@ -1,5 +1,4 @@
--- Not run yet.
-use Rattle.std.proofs.Common.{[], ◌≡◌, ◌∙◌, ap, sym, List}
+use Rattle.std.proofs.Common.{[], ◌∙◌, ap, sym}
 use Rattle.kl1_tally.specs.Seats.{Book}
 use Rattle.kl1_journal.specs.Keeping.{Held}
 use Rattle.kl1_pool.proofs.Calling.{called_there}

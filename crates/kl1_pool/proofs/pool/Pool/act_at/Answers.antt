@@ -1,4 +1,3 @@
--- Not run yet.
 use Rattle.kl1_pool.proofs.Calling.{called_there}
 use Rattle.kl1_pool.proofs.pool.Pool.act_at.Goals as goal
 

@@ -1,4 +1,3 @@
--- Not run yet.
 use Rattle.std.proofs.Common.{sym, ◌∙◌}
 use Rattle.kl1_pool.specs.Counted.{room_in}
 use Rattle.kl1_pool.proofs.Calling.{called_there}

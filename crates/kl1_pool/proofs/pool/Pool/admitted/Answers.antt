@@ -1,4 +1,3 @@
--- Not run yet.
 use Rattle.std.proofs.Common.{◌≡◌, ℕ, ◌∙◌, sym, ap, subst}
 use Rattle.std.specs.Prelude.{Some, slice_get}
 use Rattle.kl1_journal_entries.specs.Lined.{Rows}

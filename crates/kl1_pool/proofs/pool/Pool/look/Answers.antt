@@ -1,5 +1,3 @@
--- Not run yet: the match's names are to be taken from the check.
-use Rattle.std.proofs.Common.{ℕ}
 use Rattle.kl1_pool.specs.Names.{called_at}
 use Rattle.kl1_pool.proofs.Answering.{seen_of_some}
 use Rattle.kl1_pool.proofs.pool.Pool.look.Goals as goal

@@ -1,4 +1,3 @@
--- Not run yet.
 use Rattle.std.proofs.Common.{◌≡◌, true, false, sym, ◌∙◌}
 use Rattle.kl1_command.specs.Commands.{command_view}
 use Rattle.kl1_pool.specs.Names.{called_at}

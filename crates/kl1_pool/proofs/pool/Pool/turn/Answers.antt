@@ -1,4 +1,3 @@
--- Not run yet.
 use Rattle.std.proofs.Common.{false, inr, refl}
 use Rattle.kl1_pool.proofs.pool.Pool.turn.Goals as goal
 

@@ -1,4 +1,3 @@
--- Not run yet.
 use Rattle.std.proofs.Common.{ℕ, nat_lt, inl, sym, subst, ◌∙◌}
 use Rattle.kl1_pool.specs.Names.{called_at}
 use Rattle.kl1_pool.specs.Stepping.{IsTurnOfSome}

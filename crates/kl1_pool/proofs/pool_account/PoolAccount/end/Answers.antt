@@ -1,5 +1,4 @@
--- Not run yet.
-use Rattle.std.proofs.Common.{◌≡◌, ℕ, ap, subst, sym, ◌∙◌}
+use Rattle.std.proofs.Common.{◌≡◌, ℕ, subst, sym, ◌∙◌}
 use Rattle.std.specs.Prelude.{Some, slice_get}
 use Rattle.kl1_pool.specs.Names.{called_at}
 use Rattle.kl1_pool.specs.Showing.{IsFound, IsLastOf}

@@ -1,4 +1,4 @@
-use Rattle.std.proofs.Common.{◌≡◌, ℕ, sym, subst, ◌∙◌}
+use Rattle.std.proofs.Common.{ℕ, sym, subst, ◌∙◌}
 use Rattle.kl1_pool.specs.Names.{called_at}
 use Rattle.std.proofs.lemmas.Bool.{eqb-true}
 use Rattle.kl1_pool.proofs.pool_account.PoolAccount.is_at.Goals as goal

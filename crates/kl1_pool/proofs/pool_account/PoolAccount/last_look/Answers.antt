@@ -1,5 +1,4 @@
--- Not run yet: the account is put together again at two returns, the first of which may need no answer.
-use Rattle.std.proofs.Common.{◌≡◌, Some, sym, ap, ◌∙◌, subst}
+use Rattle.std.proofs.Common.{◌≡◌, Some, refl, sym, ap, ◌∙◌, subst}
 use Rattle.std.specs.Prelude.{slice_get}
 use Rattle.kl1_model_server.specs.Journal.{Journal}
 use Rattle.kl1_journal_stamps.specs.Stamps.{HistoryId, ShownValue, ComesAfter, MayFollow}
@@ -7,9 +6,27 @@ use Rattle.kl1_journal_stamps.proofs.Chains.{after_itself}
 use Rattle.kl1_pool.specs.PoolAccounts.{PoolAccountValue}
 use Rattle.kl1_pool.proofs.pool_account.PoolAccount.last_look.Goals as goal
 
--- after its journal was shown
-pub invariant_of-result-2 : goal.invariant_of-result-2
-invariant_of-result-2 g c =
+-- if it wasn't shown
+pub invariant_of-result : goal.invariant_of-result
+invariant_of-result g c =
+    let inv = c.self.invariant in
+    let events = c.self.inside.past.events in
+    let j = c.self.inside.kept.1.1 in
+    let same = c.in_default.ensures.none refl in (
+      inv.0,
+      inv.1,
+      inv.2,
+      inv.3,
+      inv.4,
+      inv.5,
+      inv.6,
+      subst (λ (x : ShownValue). slice_get g.K.ShownIds.histories c.self.inside.book.account ≡ Some x.history) (sym same) inv.7,
+      subst (λ (x : ShownValue). MayFollow x.last events j) (sym same) inv.8,
+    )
+
+-- after its journal was shown to a reader that asks to come again
+pub invariant_of-result-then-not-is_done : goal.invariant_of-result-then-not-is_done
+invariant_of-result-then-not-is_done g c =
     let inv = c.self.invariant in
     let events = c.self.inside.past.events in
     let j = c.self.inside.kept.1.1 in
@@ -28,7 +45,8 @@ invariant_of-result-2 g c =
 
 pub returns-clause-history : goal.returns-clause-history
 returns-clause-history g c =
-    subst (λ (x : PoolAccountValue). slice_get g.K.ShownIds.histories x.book.account ≡ _) c.self.view_is (c.self.invariant.7 ∙ ap (λ (h : HistoryId). Some h) (sym (ap (λ (x : ShownValue). x.history) c.in-Some.ensures.shown)))
+    ap (λ (x : PoolAccountValue). slice_get g.K.ShownIds.histories x.book.account) (sym c.self.view_is)
+    ∙ c.self.invariant.7 ∙ ap (λ (h : HistoryId). Some h) (sym (ap (λ (x : ShownValue). x.history) c.in-Some.ensures.shown))
 
 -- what was shown last is the journal
 pub returns-clause-seen : goal.returns-clause-seen

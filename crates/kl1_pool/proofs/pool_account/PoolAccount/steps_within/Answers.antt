@@ -1,8 +1,7 @@
-use Rattle.std.proofs.Common.{◌≡◌, ℕ, ◌+◌, ◌-◌, ◌^◌, ◌<◌, ◌≤◌, sym, ap, ◌∙◌, refl, arith}
+use Rattle.std.proofs.Common.{◌≡◌, ◌+◌, ◌≤◌, sym, ◌∙◌, refl, arith}
 use Rattle.std.proofs.lemmas.Bool.{ltb-false}
 use Rattle.kl1_journal.specs.Keeping.{kept_of}
 use Rattle.kl1_command.proofs.Runs.{all_done}
-use Rattle.kl1_tally.specs.Seats.{Book}
 use Rattle.kl1_pool.specs.Counted.{room_in}
 use Rattle.kl1_pool.specs.Growing.{counted_none, counted_more}
 use Rattle.kl1_pool.specs.declared.turn.TheConstants.{STEPS_A_LOOK}
@@ -13,7 +12,7 @@ use Rattle.kl1_pool.proofs.pool_account.PoolAccount.steps_within.Goals as goal
 pub loop-done-init : goal.loop-done-init
 loop-done-init g c = record {
   few = omega arith;
-  room = c.requires.room;
+  room = let all : c.args.most ≤ room_in c.args.self.now.book = c.requires.room in omega (arith, all);
   within = c.requires.within;
   steps = λ f fits. no_steps (kept_of f c.args.self.now.held);
   begun = λ f fits. begun_none c.args.most_bytes (kept_of f c.args.self.now.held) (c.requires.within f);

@@ -1,4 +1,3 @@
--- Not run yet.
 use Rattle.std.proofs.Common.{Bool, subst}
 use Rattle.kl1_pool.specs.Memory.{IsWithinTurn}
 use Rattle.kl1_pool.proofs.pool_account.PoolAccount.turn_if.Goals as goal

@@ -1,4 +1,4 @@
-use Rattle.std.proofs.Common.{◌≡◌, not, ◌&&◌, ◌∙◌, ap}
+use Rattle.std.proofs.Common.{not, ◌&&◌, ◌∙◌, ap}
 use Rattle.kl1_model.specs.Choice.{quiet}
 use Rattle.kl1_journal.specs.Keeping.{kept_of}
 use Rattle.kl1_pool.specs.Names.{is_called}
