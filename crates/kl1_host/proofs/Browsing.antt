@@ -14,7 +14,7 @@ use Rattle.kl1_host.specs.Browsers.{name_at, IsLocal, IsServed}
 use Rattle.kl1_host.proofs.Doors.{found_by_mark}
 
 -- what was served, and done for it
-pub served_by : (entries : List Entry) (accounts idle : ℕ) (its_sites sites : List Site) (address : SocketAddr) (is_local local_now : Bool) (unread old new : Option (List ℕ)) (failed fails : ℕ) (before begun after : List Done) (from asked : List Asked) (house : House) → house ≡ record { accounts = accounts; names = name_at entries; opens = opened_by_sum entries; entries = entries; before = before } → its_sites ≡ sites → is_local ≡ local_now → IsLocal address local_now → from ≡ [] → begun ≡ before → Connects (λ second. ⊤) (λ bytes. ⊤) idle house its_sites is_local unread old new failed fails from asked → ∥ HasDone begun after asked ∥₁ → ∥ (n : ℕ) × IsServed entries accounts n sites address unread old new failed fails before after ∥₁
+pub served_by : (entries : List Entry) (accounts idle : ℕ) (its_sites sites : List Site) (address : SocketAddr) (is_local local_now : Bool) (unread old new : Option (List ℕ)) (failed fails : ℕ) (before begun after : List Done) (from asked : List Asked) (house : House) → house ≡ record { accounts = accounts; names = name_at entries; opens = opened_by_sum entries; entries = entries; before = before } → its_sites ≡ sites → is_local ≡ local_now → IsLocal address local_now → from ≡ [] → begun ≡ before → Connects (λ second. ⊤) (λ bytes. ⊤) idle house its_sites is_local unread old new failed fails from asked → ∥ HasDone begun after asked ∥₁ → ∥ ((n : ℕ) × IsServed entries accounts n sites address unread old new failed fails before after) ∥₁
 served_by entries accounts idle its_sites sites address is_local local_now unread old new failed fails before begun after from asked house is same_sites same_local by_address none same connects done =
     let own : House = record { accounts = accounts; names = name_at entries; opens = opened_by_sum entries; entries = entries; before = before } in
     let by_house = subst (λ (h : House). Connects (λ second. ⊤) (λ bytes. ⊤) idle h its_sites is_local unread old new failed fails from asked) is connects in

@@ -41,4 +41,4 @@ pub record IsSetUp (settings : Settings) (accounts places : ℕ) (s : Setup) : T
   pub memory : s.memory_each ≡ settings.memory_each
   pub disk : s.disk_each ≡ settings.disk_each
   pub here : s.accounts ≡ accounts
-  pub places : s.places ≡ places
+  pub in_all : s.places ≡ places

@@ -182,35 +182,68 @@ fn is_here(rt: &HostRuntime, folder: &str, name: &str) -> Result<bool, Fault> {
     Ok(is_here)
 }
 
+/// Brings an account that nobody has taken.
+fn bring_free(
+    rt: &HostRuntime,
+    folder: &str,
+    from: &str,
+    name: &str,
+    line: &[u8],
+    who: &[u8],
+) -> Result<(), Fault> {
+    refuse_line(rt, from, name, line)?;
+    copy_journal(rt, folder, from, name)?;
+    take(rt, from, name, line, who)?;
+    add_line(rt, folder, line)
+}
+
+/// Goes on with an account that was taken, if this folder took it.
+fn bring_taken(
+    rt: &HostRuntime,
+    folder: &str,
+    from: &str,
+    name: &str,
+    line: &[u8],
+    taker: &[u8],
+    who: &[u8],
+) -> Result<(), Fault> {
+    let taken = taken_in(rt, from, name)?;
+    if taker != who {
+        let words = format!(in rt.alloc(); "{} takes it", taker.escape_ascii())?;
+        return Err(refused(rt, taken.as_str(), words.as_str()));
+    }
+    refuse_line(rt, from, name, line)?;
+    // What is left here may be older than what another host has by now.
+    if !has_journal(rt, folder, name)? {
+        let why = "this folder took it, and it was removed or exported since";
+        return Err(refused(rt, taken.as_str(), why));
+    }
+    remove_if_there(rt, line_in(rt, from, name)?.as_str())?;
+    add_line(rt, folder, line)
+}
+
 /// Brings an account that isn't here yet.
 fn bring(rt: &HostRuntime, folder: &str, from: &str, name: &str, who: &[u8]) -> Result<(), Fault> {
     match parcel_of(rt, from, name)? {
-        Parcel::Free(line) => {
-            refuse_line(rt, from, name, line.as_slice())?;
-            copy_journal(rt, folder, from, name)?;
-            take(rt, from, name, line.as_slice(), who)?;
-            add_line(rt, folder, line.as_slice())
-        }
-        Parcel::Taken(line, taker) if taker.as_slice() == who => {
-            refuse_line(rt, from, name, line.as_slice())?;
-            // What is left here may be older than what another host has by now.
-            if !has_journal(rt, folder, name)? {
-                let taken = taken_in(rt, from, name)?;
-                let why = "this folder took it, and it was removed or exported since";
-                return Err(refused(rt, taken.as_str(), why));
-            }
-            remove_if_there(rt, line_in(rt, from, name)?.as_str())?;
-            add_line(rt, folder, line.as_slice())
-        }
-        Parcel::Taken(_, taker) => {
-            let words = format!(in rt.alloc(); "{} takes it", taker.escape_ascii())?;
-            Err(refused(rt, taken_in(rt, from, name)?.as_str(), words.as_str()))
+        Parcel::Free(line) => bring_free(rt, folder, from, name, line.as_slice(), who),
+        Parcel::Taken(line, taker) => {
+            let (line, taker) = (line.as_slice(), taker.as_slice());
+            bring_taken(rt, folder, from, name, line, taker, who)
         }
         Parcel::Gone => Err(refused(
             rt,
             line_in(rt, from, name)?.as_str(),
             "it isn't there: no such account was exported, or it was imported already",
         )),
+    }
+}
+
+/// Whether an account that was exported is taken by this folder.
+fn is_taken_by(rt: &HostRuntime, from: &str, name: &str, who: &[u8]) -> Result<bool, Fault> {
+    match parcel_of(rt, from, name)? {
+        Parcel::Free(_line) => Ok(false),
+        Parcel::Taken(_line, taker) => Ok(taker.as_slice() == who),
+        Parcel::Gone => Ok(false),
     }
 }
 
@@ -221,13 +254,10 @@ pub fn import_account(rt: &HostRuntime, folder: &str, name: &str, from: &str) ->
     let _lock = lock_accounts(rt, folder)?;
     let _from = lock_exported(rt, from)?;
     let who = whole_path(rt, folder)?;
-    if is_here(rt, folder, name)? {
-        match parcel_of(rt, from, name)? {
-            Parcel::Taken(_, taker) if taker.as_slice() == who.as_slice() => {}
-            _ => return Err(refused(rt, folder, "there is an account of this name already")),
-        }
-    } else {
+    if !is_here(rt, folder, name)? {
         bring(rt, folder, from, name, who.as_slice())?;
+    } else if !is_taken_by(rt, from, name, who.as_slice())? {
+        return Err(refused(rt, folder, "there is an account of this name already"));
     }
     let status = tell_host(rt, folder, "accounts\n", false)?.unwrap_or(0);
     remove_parcel(rt, from, name)?;

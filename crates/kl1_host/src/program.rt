@@ -200,7 +200,7 @@ impl<'f, R: Wait + Clock + Eprint + Files<File = File> + RandomSource, K: LoginK
     )
         requires keys { accounts.old.keys.now ≡ accounts.old.door.keys.now }
         requires fresh { asked_in accounts.old.noted ≡ [] }
-        ensures { ∥ (idle : ℕ) × IsServed (entries_view accounts.old.keys.now) (length accounts.old.keys.now) idle self.now.sites.now address (S.remaining source.old) (T.contents sink.old) (T.contents sink.new) (T.failures sink.old) (T.failures sink.new) (P.done accounts.old.begun.value) (P.done accounts.new.performer) ∥₁ }
+        ensures { ∥ ((idle : ℕ) × IsServed (entries_view accounts.old.keys.now) (length accounts.old.keys.now) idle self.now.sites.now address (S.remaining source.old) (T.contents sink.old) (T.contents sink.new) (T.failures sink.old) (T.failures sink.new) (P.done accounts.old.begun.value) (P.done accounts.new.performer)) ∥₁ }
     {
         self.service(is_local(address))
             .serve(source, sink, accounts);

@@ -254,7 +254,7 @@ impl<'w, R: Wait + Clock + Eprint + Files, P: Performer + Drop, V: HostView> Acc
     ghost use Rattle.kl1_host.specs.Browsers.{name_at};
     ghost use Rattle.kl1_host_web.specs.Records.{asked_in};
 
-    ghost house = { λ w. record { accounts = length w.door.keys.now; names = name_at (entries_view w.keys.now); opens = opened_by_sum (entries_view w.door.keys.now); entries = entries_view w.door.keys.now; before = P.done w.begun.value } };
+    ghost house = { λ w. record { accounts = length w.door.keys.now; names = name_at (entries_view w.keys.now); opens = opened_by_sum (entries_view w.door.keys.now); entries = entries_view w.keys.now; before = P.done w.begun.value } };
 
     ghost asked = { λ w. asked_in w.noted };
 
@@ -271,7 +271,7 @@ impl<'w, R: Wait + Clock + Eprint + Files, P: Performer + Drop, V: HostView> Acc
     }
 
     fn keys(&self) -> &[Key] {
-        self.door.keys
+        self.keys
     }
 
     fn put_name(&self, account: usize, out: &mut Vec<u8>) -> Result<(), AllocError> {

@@ -131,7 +131,7 @@ view_is status (Err e) head content = tt
 
 -- one that says to try again
 pub wait_is : (result : Result Answer AllocError) → IfOk result (λ answer. (answer.status ≡ Unavailable) × (answer.cookie ≡ Kept)) → IfOk result (λ answer. answer.content ≡ Json) → IfOk result IsWait
-wait_is (Ok answer) head content = (head.0, content, head.1)
+wait_is (Ok answer) head content = (head.0, (content, head.1))
 wait_is (Err e) head content = tt
 
 -- ---- reasons, of which none has a float

@@ -19,10 +19,10 @@ use Rattle.kl1_model_server.specs.Command.{does}
 use Rattle.kl1_command.specs.declared.performed.Performed.{Performed}
 use Rattle.kl1_host_web.specs.Asking.{Asked, did, changed, House}
 use Rattle.kl1_host_web.specs.Wishes.{wish_view, IsWish}
-use Rattle.kl1_host_web.specs.Telling.{Grants, IsRefusal, KeepsCookie}
+use Rattle.kl1_host_web.specs.Telling.{Grants, IsRefusal}
 use Rattle.kl1_host_web.specs.Beginning.{IsDrawn, IsWelcome, Begun}
 use Rattle.kl1_host_web.proofs.Wanting.{refusal_keeps}
-use Rattle.kl1_host_web.specs.Serving.{Admits, LooksAt, KeepsOut, Ends, Performs, AnswersWithin, Answers, Attends, Exchange, Exchanges, AsksNoMore, Steps, HasHead, HasNoBody, HasBody}
+use Rattle.kl1_host_web.specs.Serving.{Admits, LooksAt, KeepsOut, Ends, Performs, AnswersWithin, Answers, Attends, Exchanges, AsksNoMore, Steps, HasHead, HasNoBody, HasBody}
 use Rattle.kl1_host_web.specs.declared.serve.Served.{Served}
 use Rattle.kl1_host_web.specs.declared.wish.Wish.{Wish}
 use Rattle.kl1_host_web.specs.declared.outcome.Outcome.{Outcome}
@@ -137,7 +137,7 @@ no_more tells house idle sites is_local head n is_in o before after sent looks =
 
 -- memory was refused before a request was read whole
 pub failed_before : (tells : ℕ → Type 0) (gives : List ℕ → Type 0) (idle : ℕ) (house : House) (sites : List Site) (is_local : Bool) (old new : Option (List ℕ)) (before after : List Asked) (r : Result Served AllocError) → IsErr r → AsksNoMore tells house idle sites is_local before after → Steps tells gives idle house sites is_local old new before after r
-failed_before tells gives idle house sites is_local old new before after (Ok s) h k = absurd h
+failed_before tells gives idle house sites is_local old new before after (Ok s) h k = absurd (cc)
 failed_before tells gives idle house sites is_local old new before after (Err e) h k = inl k
 
 -- memory was refused for the answer to a request that was attended to

@@ -1,5 +1,5 @@
 -- Sessions of browsers as they begin.
-use Rattle.std.specs.Prelude.{◌≡◌, ℕ, Bool, true, false, ◌++◌, ◌⊎◌, List, [], ◌∷◌, take, drop, codes, Result, Ok, IfOk}
+use Rattle.std.specs.Prelude.{◌≡◌, ℕ, true, false, ◌++◌, ◌⊎◌, List, [], ◌∷◌, take, drop, codes, Result, Ok, IfOk}
 use Rattle.std.specs.declared.alloc.AllocError.{AllocError}
 use Rattle.base64.specs.GeneralPurpose.{encode_of}
 use Rattle.base64.specs.Engines.{url_safe_no_pad}

@@ -1,4 +1,4 @@
-use Rattle.std.proofs.Common.{◌≡◌, ◌+◌, ◌-◌, length, take, List, sym, subst, ◌∙◌, arith}
+use Rattle.std.proofs.Common.{◌≡◌, ◌+◌, ◌-◌, length, take, List, subst, arith}
 use Rattle.std.proofs.lemmas.List.{take_all}
 use Rattle.kl1_session.specs.Views.{entry_view, entries_view}
 use Rattle.kl1_session.specs.declared.key.Key.{Key}

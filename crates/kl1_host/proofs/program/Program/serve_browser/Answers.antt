@@ -16,5 +16,5 @@ returns g c =
     let self = c.args.self.now in
     let old = c.args.accounts.now in
     let new = c.serve.new.accounts in
-    let house : List Key → House = λ d. record { accounts = length d; names = name_at (entries_view old.keys.now); opens = opened_by_sum (entries_view d); entries = entries_view d; before = done old.begun.value } in
+    let house : List Key → House = λ d. record { accounts = length d; names = name_at (entries_view old.keys.now); opens = opened_by_sum (entries_view d); entries = entries_view old.keys.now; before = done old.begun.value } in
     served_by (entries_view old.keys.now) (length old.keys.now) c.service.result.page.idle c.service.result.page.sites.now self.sites.now c.args.address c.service.result.is_local c.is_local.result (g.S.Source.remaining c.args.source.now) (contents c.args.sink.now) (contents c.serve.new.sink) (failures c.args.sink.now) (failures c.serve.new.sink) (done old.begun.value) (done new.begun.value) (done new.performer) (asked_in old.noted) (asked_in new.noted) (house old.door.keys.now) (ap house (sym c.requires.keys)) c.service.ensures.sites c.service.ensures.is_local c.is_local.ensures c.requires.fresh (ap (λ (h : House). h.before) c.serve.ensures.house) c.serve.ensures.connects new.is_done

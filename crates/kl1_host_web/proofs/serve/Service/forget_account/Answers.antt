@@ -1,4 +1,4 @@
-use Rattle.std.proofs.Common.{◌≡◌, ◌<◌, ◌-◌, ◌^◌, ℕ, List, [], length, refl, ◌∙◌}
+use Rattle.std.proofs.Common.{[], refl, ◌∙◌}
 use Rattle.kl1_host_web.proofs.Ending.{one_more_forgotten, none_forgotten}
 use Rattle.kl1_host_web.proofs.serve.Service.forget_account.Goals as goal
 
