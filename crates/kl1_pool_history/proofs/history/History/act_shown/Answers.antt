@@ -1,5 +1,4 @@
--- Not run yet.
-use Rattle.std.proofs.Common.{map, ap, refl}
+use Rattle.std.proofs.Common.{map, refl}
 use Rattle.kl1_session.specs.Conversations.{Done}
 use Rattle.kl1_pool_history.specs.Entries.{done_of}
 use Rattle.kl1_pool_history.proofs.Answering.{act_more}

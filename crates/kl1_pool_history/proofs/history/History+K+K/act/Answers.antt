@@ -1,9 +1,8 @@
--- Not run yet.
-use Rattle.std.proofs.Common.{map, ap, refl}
+use Rattle.std.proofs.Common.{map, refl}
 use Rattle.kl1_session.specs.Conversations.{Done}
 use Rattle.kl1_pool_history.specs.Entries.{done_of}
 use Rattle.kl1_pool_history.proofs.Answering.{act_more}
-use Rattle.kl1_pool_history.proofs.history.History.act.Goals as goal
+use Rattle.kl1_pool_history.proofs.history.History+K+K.act.Goals as goal
 
 -- what is noted is the pool's answer, which the share has counted
 pub invariant_of-self : goal.invariant_of-self
