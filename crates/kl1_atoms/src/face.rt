@@ -12,6 +12,7 @@ pub struct Heard {
 }
 
 /// How many entries a table has, how many of them each account has, and how many accounts there are.
+#[derive(Clone, Copy)]
 pub struct Size {
     pub entries: u64,
     pub room: u64,

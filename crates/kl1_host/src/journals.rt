@@ -69,7 +69,7 @@ fn file_of<'r, R: Files<File = File> + Clock + Eprint>(
         alloc,
         journals.as_str(),
         text.as_str(),
-        Rules::Four,
+        Rules::Five,
         repair,
     );
     match opened {

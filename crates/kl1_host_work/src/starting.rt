@@ -233,14 +233,15 @@ where
         return Err(StartFault::Accounts);
     }
     let used = used_of(alloc, accounts.as_slice())?;
-    let (table, seats) = AtomTable::new(alloc, names.len())?;
+    let room = Rules::Five.limits().names;
+    let (table, seats) = AtomTable::with_room(alloc, names.len(), room)?;
     let codes = CodeTable::new(alloc)?;
     let parts = PoolParts::new(
         alloc,
         &table,
         &codes,
         names.as_slice(),
-        Rules::Four,
+        Rules::Five,
         seats,
         setup
             .workers

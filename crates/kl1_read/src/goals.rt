@@ -2,7 +2,7 @@
 
 ghost use Rattle.std.specs.Prelude.{◌≡◌, map, IfOk, IfErr};
 ghost use Rattle.kl1_model.specs.Module.{good, startable, term_of_tokens, read_goal};
-ghost use Rattle.kl1_model.specs.Telling.{told_term, read_told_goal};
+ghost use Rattle.kl1_model.specs.Telling.{told_term, read_told_goal, read_answer};
 ghost use Rattle.kl1_read.specs.Sources.{IsFaultOf};
 ghost use Rattle.kl1_read.specs.Started.{started, expression_read};
 ghost use Rattle.kl1_read.specs.Views.{kept_token, numbered_token};
@@ -15,6 +15,7 @@ use crate::numbering::numbered_tokens;
 use crate::read_fault::ReadFault;
 use crate::telling::told_tokens;
 use crate::whole_text::{WholeText, all_tokens};
+use kl1_model::Rules;
 use kl1_term::Term;
 use std::alloc::Global;
 
@@ -41,6 +42,18 @@ pub fn read_told_goal(alloc: Global, text: &[u8]) -> Result<Term, ReadFault>
     match tokens {
         None => Err(ReadFault::Bad { line }),
         Some(tokens) => told_goal_of(alloc, line, tokens),
+    }
+}
+
+/// The goal that a text is in an answer, as these rules read it.
+pub fn read_answer(alloc: Global, rules: Rules, text: &[u8]) -> Result<Term, ReadFault>
+    ensures goal { IfOk result (λ goal. read_answer rules text.now ≡ good goal) }
+    ensures fault { IfErr result (IsFaultOf (read_answer rules text.now)) }
+{
+    if rules.has_told() {
+        read_told_goal(alloc, text)
+    } else {
+        read_goal(alloc, text)
     }
 }
 

@@ -49,7 +49,7 @@ mod words;
 pub use clause_parts::{ClauseParts, GoalParts};
 pub use front::{Front, front_of};
 pub use goal_kinds::is_goal;
-pub use goals::{read_goal, read_told_goal};
+pub use goals::{read_answer, read_goal, read_told_goal};
 pub use modules::read_module;
 pub use read_fault::ReadFault;
 pub use source::Source;

@@ -2,9 +2,9 @@
 
 ghost use Rattle.std.specs.Prelude.{◌≡◌, ◌+◌, min, option_map};
 ghost use Rattle.kl1_model.specs.Reduction.{grown};
-ghost use Rattle.kl1_shoen.specs.declared.change.Change.TheVariants.{Aborts, Breaks};
+ghost use Rattle.kl1_shoen.specs.declared.change.Change.TheVariants.{Aborts, Breaks, Empties};
 ghost use Rattle.kl1_shoen.specs.Shoens.{control_left};
-ghost use Rattle.kl1_shoen.specs.Changes.{changed_by, with_control as kept_with};
+ghost use Rattle.kl1_shoen.specs.Changes.{changed_by, reports_left, with_control as kept_with};
 
 use crate::counted::is_living;
 use kl1_model::Life;
@@ -34,6 +34,10 @@ pub enum Change<N> {
     Leaves(Cell<N>),
     /// It is ended as aborted, if it lives, and this is left of its control stream, if it is told and the console doesn't keep the stream.
     Aborts(Option<Cell<N>>),
+    /// Of its report stream so many reports were let go from the first on, and this is left.
+    Forgets(u64, Cell<N>),
+    /// It is let go, if it has ended: its place stays, with this in place of its streams.
+    Empties(Cell<N>),
 }
 
 /// An allowance, in reductions, after it was raised: it ends at the greatest there is.
@@ -86,6 +90,46 @@ fn aborted<N: NameValue>(shoen: Shoen<N>, left: Option<Cell<N>>) -> Shoen<N>
     }
 }
 
+/// What the console keeps, without its first `count` reports, of which this is left.
+fn without_reports<N: NameValue>(
+    origin: Option<Origin<N>>,
+    count: u64,
+    left: Cell<N>,
+) -> Option<Origin<N>>
+    ensures { result ≡ option_map (reports_left count left) origin }
+{
+    match origin {
+        None => None,
+        Some(origin) => Some(Origin {
+            forgotten: count,
+            reports: left,
+            ..origin
+        }),
+    }
+}
+
+/// A shoen after it was let go, if it has ended: its place, with its number, its parent and its allowance.
+fn emptied<N: NameValue>(shoen: Shoen<N>, none: Cell<N>) -> Shoen<N>
+    ensures { result ≡ changed_by (Empties none) shoen }
+{
+    if is_living(shoen.life) {
+        return shoen;
+    }
+    Shoen {
+        number: shoen.number,
+        parent: shoen.parent,
+        allowance: shoen.allowance,
+        low: 0,
+        high: 0,
+        control: none,
+        tail: none,
+        life: Life::Forgotten,
+        is_stopped: false,
+        is_broken: true,
+        origin: None,
+    }
+}
+
 /// A shoen whose report stream is broken, with this tail, if one is told.
 fn broken<N: NameValue>(shoen: Shoen<N>, tail: Option<Cell<N>>) -> Shoen<N>
     ensures { result ≡ changed_by (Breaks tail) shoen }
@@ -123,5 +167,10 @@ pub fn changed<N: NameValue>(shoen: Shoen<N>, change: Change<N>) -> Shoen<N>
             ..shoen
         },
         Change::Aborts(left) => aborted(shoen, left),
+        Change::Forgets(count, left) => Shoen {
+            origin: without_reports(shoen.origin, count, left),
+            ..shoen
+        },
+        Change::Empties(none) => emptied(shoen, none),
     }
 }

@@ -7,3 +7,4 @@ pub mod Controls
 pub mod Messages
 pub mod Elements
 pub mod Askings
+pub mod Letting

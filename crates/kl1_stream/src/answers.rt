@@ -21,7 +21,7 @@ pub struct Asking<N> {
 }
 
 /// The exception that a substitute waits by, if a report is one.
-fn asked<N: NameValue>(store: &Store<N>, report: Cell<N>) -> Option<Asking<N>>
+pub(crate) fn asked<N: NameValue>(store: &Store<N>, report: Cell<N>) -> Option<Asking<N>>
     requires { IsIn store.now.held report }
     ensures inside { IfSome result (IsAskingIn store.now.held) }
     ensures asking { (f : N → List ℕ) → Reads N.built f → asked (term_of f store.now.held report) ≡ option_map (asked_of f store.now.held) result }

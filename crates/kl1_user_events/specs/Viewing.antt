@@ -3,6 +3,8 @@ use Rattle.std.specs.Prelude.{◌≡◌, ◌<◌, ◌↔◌, ℕ, zero, suc, ◌
 use Rattle.std.proofs.Common.{inl, inr}
 use Rattle.std.specs.List.{list_any}
 use Rattle.std.specs.List.Sorted.{IsStrictlyIncreasing}
+use Rattle.kl1_model.specs.declared.life.Life.{Life}
+use Rattle.kl1_model.specs.declared.life.Life.TheVariants.{Living, Terminated, Aborted, Forgotten}
 use Rattle.kl1_model.specs.declared.limits.Limits.{Limits}
 use Rattle.kl1_model.specs.Term.{Term, occurs}
 use Rattle.kl1_model.specs.Print.{print, cut_text, cut_print}
@@ -49,9 +51,16 @@ shoen_view s h = record {
   alive = goals_in s h.number;
 }
 
--- what is shown of the shoens with numbers from this one on, of the first `count` of them
+-- whether a shoen wasn't let go
+abbrev pub is_kept : Life → Bool
+is_kept Living = true
+is_kept Terminated = true
+is_kept Aborted = true
+is_kept Forgotten = false
+
+-- what is shown of the shoens with numbers from this one on that weren't let go, of the first `count` of them
 abbrev pub shoen_page : State → ℕ → ℕ → List ShoenView
-shoen_page s from count = map (shoen_view s) (take count (filter (λ h. nat_le from h.number) s.shoens))
+shoen_page s from count = map (shoen_view s) (take count (filter (λ h. nat_le from h.number && is_kept h.life) s.shoens))
 
 -- what a goal does
 abbrev pub kind_of : Task → TaskKind
