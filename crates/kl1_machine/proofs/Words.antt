@@ -111,7 +111,7 @@ pub use Rattle.kl1_ready.proofs.SettledStays.{HangsOnNone, StaysAlone, settled_m
 pub use Rattle.kl1_ready.proofs.Words.{AreNames, AreShoensIn, Bool, CanDo, Cell, CellName, Contains, Control, DoesNothing, ExecuteArguments, Goal, Grown, Held, Hook, IsFormed, IsIn, IsMove, IsOrder, IsPlan, IsReadyAt, IsSettled, IsTaskIn, Judges, Knows, List, Made, MatchOption, Monitor, Move, MoveIn, MovesBy, None, Numbered, Option, Place, Predicate, Program, Qualified, Reading, Reads, ReadsBy, Reduces, Replacement, Shoen, Some, Substitutes, Task, Term, Variable, [], aim, among_contains, and_parts, ap, arith, breaks_off, built, contents, control_as, control_at, control_with, drop, eq-eqb, eqb-true, false, found_in, found_shoen_in, get_or, if◌then◌else◌, is_among, is_enabled_at, is_monitor, is_monitor_task, length, map, meaning, moves, ne_eqb, option_copied, option_map, order_at, reading_fits, reading_of, reads, refl, rules, shifted_by, shoen_with, subst, substituted, suc, sym, taken_places, task_action, task_clause, task_with, tells, tells_other, text_of, true, whole, with_last, worked, ℕ, ◌&&◌, ◌++◌, ◌==◌, ◌||◌, ◌∙◌, ◌∷◌, ◌≡◌}
 unfoldable pub use Rattle.kl1_ready.proofs.Words.{path_within}
 pub use Rattle.kl1_ready.specs.Ready.{ready_at}
-pub use Rattle.kl1_machine.specs.Bringing.{Brings, CanAnswer, CanStart, IsPublished, change_of, goal_of, answered_anew}
+pub use Rattle.kl1_machine.specs.Bringing.{AreOthers, Brings, BuildsAnswer, CanAnswer, CanStart, IsPublished, answered_by, change_of, given_by, goal_of}
 pub use Rattle.kl1_machine.specs.Effects.{Becomes, Charges, Chosen, Commits, Puts, Tells, Turns, TurnsAs, any_reached, counting, having_goals, having_shoens, shifting_shoens, with_goal, with_goals, with_shoen}
 pub use Rattle.kl1_machine.specs.Ending.{LifeEnds, LivesEnd}
 pub use Rattle.kl1_machine.specs.Machines.{IsBack, IsBegun, IsMachine, Keeps, Trail, made, most_names, trail_of}

@@ -2,7 +2,7 @@
 
 ghost use Rattle.std.specs.Prelude.{◌≡◌, ◌+◌, ◌-◌, ◌<◌, length, IfOk, OnOk};
 ghost use Rattle.kl1_store.specs.Held.{AreIn, HasRoom};
-ghost use Rattle.kl1_store.specs.Sound.{Grown};
+ghost use Rattle.kl1_store.specs.Sound.{Grown, IsFormed};
 ghost use Rattle.kl1_store.specs.Spending.{Spends};
 ghost use Rattle.kl1_clause.specs.Instructions.{AreNamed};
 ghost use Rattle.kl1_match.specs.Built.{AreBelow};
@@ -52,7 +52,7 @@ pub fn put_told_variables<N: NameValue>(
     told: &[Option<u32>],
     scratch: &mut Scratch<N>,
 ) -> Result<(), AllocError>
-    requires some { 0 < store.old.held.variables }
+    ensures formed { IsFormed store.old.held }
     ensures grown { Grown store.old.held store.new.held }
     ensures hooks { store.new.hooks ≡ store.old.hooks }
     ensures bindings { store.new.held.bindings ≡ store.old.held.bindings }

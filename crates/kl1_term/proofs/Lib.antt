@@ -8,3 +8,4 @@ pub mod Prints
 pub mod Rows
 pub mod Texts
 pub mod VariableFacts
+pub mod Telling

@@ -69,7 +69,7 @@ fn place_of(
 impl Term {
     /// Whether the term's variables are as the text of an answer tells them: those that aren't told are numbered from 2^62 by first
     /// occurrence.
-    #[tactic(auto, using(crate::proofs::VariableFacts::told_is))]
+    #[tactic(auto, using(crate::proofs::Telling::told_is))]
     pub fn is_told(&self) -> bool
         ensures { result ≡ is_told_term self.now }
     {
@@ -77,7 +77,6 @@ impl Term {
     }
 
     /// The term with its variables numbered from 1 by first occurrence; `seen`, which holds nothing, gets the numbers that they had.
-    #[tactic(auto, using(crate::proofs::Telling::anew_is))]
     pub fn numbered_anew(&self, alloc: Global, seen: &mut Vec<u64>) -> Result<Term, AllocError>
         requires { seen.old.items ≡ [] }
         ensures seen { OnOk result (seen.new.items ≡ new_among None [] (variables_of self.now)) }

@@ -1,10 +1,17 @@
 // The goals of answers, and what stands for their variables.
 
-ghost use Rattle.std.specs.Prelude.{◌≡◌, ◌++◌, ℕ, List, map, IfOk, IfSome, OnOk};
+ghost use Rattle.std.specs.Prelude.{◌≡◌, true, false, Option, IsTrue, IfOk, IfSome};
+ghost use Rattle.kl1_model.specs.Answering.{is_numbered_by};
+ghost use Rattle.kl1_model.specs.Goal.{is_goal};
+ghost use Rattle.kl1_model.specs.Meaning.{is_numbered};
+ghost use Rattle.kl1_model.specs.State.{has_told};
+ghost use Rattle.kl1_model.specs.Telling.{is_told_term};
+ghost use Rattle.kl1_model.specs.declared.rules.Rules.{Rules};
 ghost use Rattle.kl1_text.specs.declared.cell_name.CellName.{CellName};
 ghost use Rattle.kl1_store.specs.Held.{Held, IsIn};
+ghost use Rattle.kl1_stream.specs.declared.answers.Asking.{Asking};
 ghost use Rattle.kl1_stream.specs.Askings.{IsAskingIn};
-ghost use Rattle.kl1_user_account.specs.Giving.{IsAsked, IsGiven, AreFound, IsTold, is_variable_of};
+ghost use Rattle.kl1_user_account.specs.Giving.{IsAsked, IsGiven, AreFound, is_variable_of};
 
 use kl1_clause::GoalCode;
 use kl1_goals::Rules;
@@ -88,7 +95,9 @@ fn given_told(
     goal: &Term,
 ) -> Result<Given, AllocError>
     requires inside { IfSome asked (IsAskingIn store.old.held) }
-    ensures given { IfOk result (IsTold store.old.held asked goal.now) }
+    requires numbered { IsTrue (is_told_term goal.now) }
+    requires goal { is_goal goal.now ≡ true }
+    ensures given { (rules : Rules) → has_told rules ≡ true → IfOk result (IsGiven rules store.old.held asked goal.now) }
     ensures same { store.new ≡ store.old }
 {
     let mut numbers = Vec::new(alloc);
@@ -119,7 +128,10 @@ fn given_told(
 }
 
 /// The goal of an answer all whose variables are new, and numbered from 1.
-fn given_anew(alloc: Global, goal: &Term) -> Result<Given, AllocError> {
+fn given_anew(alloc: Global, goal: &Term) -> Result<Given, AllocError>
+    requires numbered { IsTrue (is_numbered goal.now) }
+    ensures { (rules : Rules) (h : Held CellName) (asked : Option (Asking CellName)) → has_told rules ≡ false → IfOk result (IsGiven rules h asked goal.now) }
+{
     let new = goal.highest();
     let mut told = Vec::new(alloc);
     told.resize(new as usize, None)?;
@@ -140,6 +152,8 @@ pub(crate) fn given_for(
     goal: &Term,
 ) -> Result<Given, AllocError>
     requires inside { IfSome asked (IsAskingIn store.old.held) }
+    requires numbered { IsTrue (is_numbered_by rules goal.now) }
+    requires goal { is_goal goal.now ≡ true }
     ensures given { IfOk result (IsGiven rules store.old.held asked goal.now) }
     ensures same { store.new ≡ store.old }
 {
