@@ -48,7 +48,7 @@ where
     W: Wait,
     K: PoolIds + Naming,
     requires { D.accounts door.old ≤ K.accounts }
-    ensures { (done : List Done) × Serves (D.opens door.old) PIECE result.0 (S.remaining source.old) (S.remaining source.new) (T.contents sink.old) (T.contents sink.new) [] done × AreAnswered K.rules K.names done share result.1 × IsTold K.rules K.names host.entry.syncing.replies_wait done result.2 }
+    ensures { (done : List Done) × Serves Rules.Five (D.opens door.old) PIECE result.0 (S.remaining source.old) (S.remaining source.new) (T.contents sink.old) (T.contents sink.new) [] done × AreAnswered K.rules K.names done share result.1 × IsTold K.rules K.names host.entry.syncing.replies_wait done result.2 }
 {
     let mut handler = HostHandler {
         rt,

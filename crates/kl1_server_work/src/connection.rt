@@ -36,7 +36,7 @@ pub fn serve<'t, S: Source, T: Sink, R: Wait, K: PoolIds>(
     share: Share<K>,
 ) -> (Disconnect, Share<K>)
     requires { length keys.now ≤ K.accounts }
-    ensures { (done : List Done) × Serves (found (entries_view keys.now)) PIECE result.0 (S.remaining source.old) (S.remaining source.new) (T.contents sink.old) (T.contents sink.new) [] done × AreAnswered K.rules K.names done share result.1 }
+    ensures { (done : List Done) × Serves Rules.Three (found (entries_view keys.now)) PIECE result.0 (S.remaining source.old) (S.remaining source.new) (T.contents sink.old) (T.contents sink.new) [] done × AreAnswered K.rules K.names done share result.1 }
 {
     let mut handler = PoolHandler {
         rt,
