@@ -10,6 +10,7 @@ use Rattle.kl1_store.specs.Held.{Held, is_bound, found, IsIn, AreIn, IsWalked, a
 use Rattle.kl1_store.specs.Meaning.{term_of, terms_of}
 use Rattle.kl1_store.specs.Sound.{IsFormed}
 use Rattle.kl1_store.specs.Levels.{level_at, IsLevel, AreLevels, SeesTerm}
+use Rattle.kl1_store.specs.Tasks.{Lifted}
 use Rattle.kl1_store.proofs.Terms.{term_of-Structure, term_of-unbound, term_of-Integer, term_of-Atom, arguments_in}
 use Rattle.kl1_store.proofs.Meetings.{named}
 use Rattle.kl1_store.proofs.Levelling.{stands, size-positive, or-both, free_above, lies_at_0}
@@ -72,3 +73,11 @@ seen_is {N = N} f h ls x n p levels sees inside free = by (cases_eq (level_at ls
         le-ltb 0 (level_at ls.variables.items n) (omega (arith, e))
         ∙ sym (free_above f h (level_at ls.variables.items) (level_at ls.structures.items) n 1 x p levels.level (omega (arith, e)) inside sees.here)
     by (inr ne) = lt-ltb 0 (level_at ls.variables.items n) (omega (arith, ne)) ∙ sym (in_term ne (sees.seen n free))
+
+-- a term that alone was lifted, all else lying at 0
+pub sees_alone : {N : Type 0} (h : Held N) (old new : Levels) (x : Cell N) → old.variables.items ≡ [] → Lifted h x 1 old new → SeesTerm h new x
+sees_alone {N = N} h old new x none lifted = record { here = lifted.here; seen = λ v free. by v (lifted.seen v free) }
+  where
+    by : (v : ℕ) → (level_at new.variables.items v ≡ level_at old.variables.items v) ⊎ ((f : N → List ℕ) → occurs v (term_of f h x) ≡ true) → (level_at new.variables.items v ≡ 0) ⊎ ((f : N → List ℕ) → occurs v (term_of f h x) ≡ true)
+    by v (inl same) = inl (same ∙ ap (λ l. level_at l v) none)
+    by v (inr q) = inr q
