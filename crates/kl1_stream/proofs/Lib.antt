@@ -7,4 +7,4 @@ pub mod Shapes
 pub mod Putting
 pub mod Listing
 mod Asked
-mod Letting
+mod LettingGo

@@ -8,4 +8,5 @@ pub mod Prints
 pub mod Rows
 pub mod Texts
 pub mod VariableFacts
-pub mod Telling
+pub mod Renumbering
+pub mod Anew

@@ -1,8 +1,8 @@
 // The variables of answers, which tell those of an account by their numbers.
 
-ghost use Rattle.std.specs.Prelude.{◌≡◌, ℕ, List, [], ◌∷◌, map, false, None, IfOk, OnOk, MatchOption};
+ghost use Rattle.std.specs.Prelude.{◌≡◌, ℕ, List, [], ◌∷◌, map, length, false, None, IsTrue, IfOk, OnOk, MatchOption};
 ghost use Rattle.kl1_model.specs.Telling.{is_told_term, told_after, new_among};
-ghost use Rattle.kl1_model.specs.Meaning.{variables_of};
+ghost use Rattle.kl1_model.specs.Meaning.{variables_of, is_numbered, highest};
 ghost use Rattle.kl1_term.specs.Nodes.{code_of};
 ghost use Rattle.kl1_term.specs.Telling.{Finds, IsPlaced, anew, anew_in};
 ghost use Rattle.kl1_term.specs.Variables.{variables_in};
@@ -69,7 +69,7 @@ fn place_of(
 impl Term {
     /// Whether the term's variables are as the text of an answer tells them: those that aren't told are numbered from 2^62 by first
     /// occurrence.
-    #[tactic(auto, using(crate::proofs::Telling::told_is))]
+    #[tactic(auto, using(crate::proofs::Renumbering::told_is))]
     pub fn is_told(&self) -> bool
         ensures { result ≡ is_told_term self.now }
     {
@@ -81,6 +81,8 @@ impl Term {
         requires { seen.old.items ≡ [] }
         ensures seen { OnOk result (seen.new.items ≡ new_among None [] (variables_of self.now)) }
         ensures term { IfOk result (λ t. t ≡ anew seen.new.items self.now) }
+        ensures numbered { IfOk result (λ t. IsTrue (is_numbered t)) }
+        ensures highest { IfOk result (λ t. highest t ≡ length seen.new.items) }
     {
         let nodes = anew_nodes(alloc, self.nodes(), seen)?;
         Ok(Term::of_nodes(nodes))

@@ -1,4 +1,4 @@
-use Rattle.kl1_store.proofs.Occurring.{sees_alone}
+use Rattle.kl1_store.proofs.Occurrences.{sees_alone}
 use Rattle.kl1_store.proofs.occurring.lift_alone.Goals as goal
 
 pub returns-in-Ok-clause-sees : goal.returns-in-Ok-clause-sees

@@ -3,7 +3,7 @@ use Rattle.std.specs.Prelude.{◌&&◌, Some, None, is_some, option_map}
 use Rattle.kl1_model.specs.Forgetting.{waits, without_cells}
 use Rattle.kl1_store.specs.Meaning.{term_of}
 use Rattle.kl1_stream.specs.Letting.{may_leave}
-use Rattle.kl1_stream.proofs.Letting.{none_to_go, none_there, first_waits, one_less, cells_less}
+use Rattle.kl1_stream.proofs.LettingGo.{none_to_go, none_there, first_waits, one_less, cells_less}
 use Rattle.kl1_stream.proofs.letting.without_reports.Goals as goal
 
 -- the names of the goals, and whether `waits` has a name in the context, are guessed

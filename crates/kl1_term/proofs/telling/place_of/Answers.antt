@@ -1,7 +1,7 @@
 use Rattle.std.proofs.Common.{◌≡◌, ◌+◌, suc, Some, length, subst, sym, arith}
 use Rattle.std.specs.HashMap.{Updates}
 use Rattle.std.specs.Prelude.{◌==◌}
-use Rattle.kl1_term.proofs.Telling.{placed_again, placed_first}
+use Rattle.kl1_term.proofs.Renumbering.{placed_again, placed_first}
 use Rattle.kl1_term.proofs.telling.place_of.Goals as goal
 
 pub returns-in-Some : goal.returns-in-Some

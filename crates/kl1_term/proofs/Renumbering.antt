@@ -16,16 +16,16 @@ use Rattle.kl1_term.proofs.VariableFacts.{variables_one}
 
 -- ---- places
 
-place_same : (m n : ℕ) (ms : List ℕ) → m ≡ n → place_among (m ∷ ms) n ≡ 1
+pub place_same : (m n : ℕ) (ms : List ℕ) → m ≡ n → place_among (m ∷ ms) n ≡ 1
 place_same m n ms e = ap (λ b. if◌then◌else◌ {A = ℕ} b 1 (suc (place_among ms n))) (eq-eqb m n e)
 
-place_other : (m n : ℕ) (ms : List ℕ) → (m ≡ n → ⊥) → place_among (m ∷ ms) n ≡ suc (place_among ms n)
+pub place_other : (m n : ℕ) (ms : List ℕ) → (m ≡ n → ⊥) → place_among (m ∷ ms) n ≡ suc (place_among ms n)
 place_other m n ms d = ap (λ b. if◌then◌else◌ {A = ℕ} b 1 (suc (place_among ms n))) (ne_eqb m n d)
 
-among_same : (m n : ℕ) (ms : List ℕ) → m ≡ n → is_among n (m ∷ ms) ≡ true
+pub among_same : (m n : ℕ) (ms : List ℕ) → m ≡ n → is_among n (m ∷ ms) ≡ true
 among_same m n ms e = ap (λ b. b || is_among n ms) (eq-eqb n m (sym e))
 
-among_other : (m n : ℕ) (ms : List ℕ) → (m ≡ n → ⊥) → is_among n (m ∷ ms) ≡ is_among n ms
+pub among_other : (m n : ℕ) (ms : List ℕ) → (m ≡ n → ⊥) → is_among n (m ∷ ms) ≡ is_among n ms
 among_other m n ms d = ap (λ b. b || is_among n ms) (ne_eqb n m (λ e. d (sym e)))
 
 or_true : (b : Bool) → (b || true) ≡ true
@@ -40,7 +40,7 @@ among_kept (m ∷ ms) rest n e = by (cases_eq m n)
     by (inl s) = among_same m n (ms ++ rest) s
     by (inr d) = among_other m n (ms ++ rest) d ∙ among_kept ms rest n (sym (among_other m n ms d) ∙ e)
 
-among_new : (seen : List ℕ) (n : ℕ) → is_among n (seen ++ n ∷ []) ≡ true
+pub among_new : (seen : List ℕ) (n : ℕ) → is_among n (seen ++ n ∷ []) ≡ true
 among_new [] n = among_same n n [] refl
 among_new (m ∷ ms) n = ap (λ b. (n == m) || b) (among_new ms n) ∙ or_true (n == m)
 
@@ -49,7 +49,7 @@ among_apart [] n k d = among_other n k [] d
 among_apart (m ∷ ms) n k d = ap (λ b. (k == m) || b) (among_apart ms n k d)
 
 -- a number that was seen keeps its place, and a new one has the next
-place_kept : (seen rest : List ℕ) (n : ℕ) → is_among n seen ≡ true → place_among (seen ++ rest) n ≡ place_among seen n
+pub place_kept : (seen rest : List ℕ) (n : ℕ) → is_among n seen ≡ true → place_among (seen ++ rest) n ≡ place_among seen n
 place_kept [] rest n e = absurd (true≢false (sym e))
 place_kept (m ∷ ms) rest n e = by (cases_eq m n)
   where
@@ -57,7 +57,7 @@ place_kept (m ∷ ms) rest n e = by (cases_eq m n)
     by (inl s) = place_same m n (ms ++ rest) s ∙ sym (place_same m n ms s)
     by (inr d) = place_other m n (ms ++ rest) d ∙ (ap suc (place_kept ms rest n (sym (among_other m n ms d) ∙ e)) ∙ sym (place_other m n ms d))
 
-place_new : (seen : List ℕ) (n : ℕ) → is_among n seen ≡ false → place_among (seen ++ n ∷ []) n ≡ suc (length seen)
+pub place_new : (seen : List ℕ) (n : ℕ) → is_among n seen ≡ false → place_among (seen ++ n ∷ []) n ≡ suc (length seen)
 place_new [] n e = place_same n n [] refl
 place_new (m ∷ ms) n e = by (cases_eq m n)
   where
