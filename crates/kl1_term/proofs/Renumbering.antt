@@ -32,7 +32,7 @@ or_true : (b : Bool) → (b || true) ≡ true
 or_true true = refl
 or_true false = refl
 
-among_kept : (seen rest : List ℕ) (n : ℕ) → is_among n seen ≡ true → is_among n (seen ++ rest) ≡ true
+pub among_kept : (seen rest : List ℕ) (n : ℕ) → is_among n seen ≡ true → is_among n (seen ++ rest) ≡ true
 among_kept [] rest n e = absurd (true≢false (sym e))
 among_kept (m ∷ ms) rest n e = by (cases_eq m n)
   where
