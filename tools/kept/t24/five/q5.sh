@@ -1,12 +1,16 @@
 #!/bin/bash
-# runs the lines of /tmp/five/queue5 one after another, one at a time
+# A queue of lines for k: takes the first line of /tmp/five/queue5, runs it, notes it in /tmp/five/done.
 cd /work/five
 while true; do
   line=$(head -1 /tmp/five/queue5 2>/dev/null)
-  if [ -z "$line" ]; then sleep 3; continue; fi
+  if [ -z "$line" ]; then sleep 5; continue; fi
   sed -i 1d /tmp/five/queue5
-  name=$(echo "$line" | tr -c 'a-zA-Z0-9_\n' '-' | cut -c1-60)
-  echo "$(date +%T) begin $line" >> /tmp/five/done
-  eval "nice -n 5 python3 /work/tools/k $line" > /tmp/five-$name.log 2>&1
-  echo "$(date +%T) end $? $line: $(grep -E '^logic=|^k: ' /tmp/five-$name.log | tail -2 | cut -c1-60 | tr '\n' ' ')" >> /tmp/five/done
+  out=/tmp/five-$(echo "$line" | tr ' /:' '___' | cut -c1-80).log
+  echo "$(date +%H:%M:%S) begin $line" >> /tmp/five/done
+  setsid nice -n 3 python3 /work/tools/k $line > "$out" 2>&1 &
+  echo $! > /tmp/five/job
+  wait $!
+  code=$?
+  echo "$(date +%H:%M:%S) end $code $line ($out)" >> /tmp/five/done
+  if [ $code -ne 0 ] && grep -q '^stop' /tmp/five/onerror 2>/dev/null; then sleep 1; fi
 done

@@ -36,7 +36,7 @@ to = room / "crates/kl1_pool"
 shutil.rmtree(room / "crates", ignore_errors=True)
 (room / "crates").mkdir(parents=True)
 for c in (top / "crates").iterdir():
-    if c.name in ("kl1_host_work", "kl1_pool_history"): shutil.copytree(c, room / "crates" / c.name)  # where it is checked tells what priority it has
+    if c.name == "kl1_pool_history": shutil.copytree(c, room / "crates" / c.name)
     elif c.name != "kl1_pool": (room / "crates" / c.name).symlink_to(c)
 rows = []
 for row in (top / "crates.txt").read_text().splitlines():
@@ -190,3 +190,9 @@ t = "\n\n".join(keep).rstrip() + "\n"
 t = re.sub(r"use Rattle.kl1_journal.specs.Keeping.*\n|use Rattle.kl1_atoms.specs.Names.*\n", "", t)
 (to / "specs/Showing.antt").write_text(t)
 (to / "specs/Lib.antt").write_text("".join("pub mod %s\n" % f for f in ("Parts", "Counted", "Names", "Answers", "Showing", "Restoring")))
+
+h = room / "crates/kl1_pool_history/src/history.rt"
+t = h.read_text()
+i = t.index("impl<K: PoolIds> History<K, K> {"); j = t.index("impl<K: PoolIds, N: Names> History<K, N> {", i)
+h.write_text(t[:i] + t[j:])
+shutil.rmtree(room / "crates/kl1_pool_history/proofs/history/History/act", ignore_errors=True)

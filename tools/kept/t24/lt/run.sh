@@ -1,0 +1,1 @@
+K=/opt/rattle; $K/bin/rattle check --crate-name lt src/lib.rt --extern std=$K/rlibs/std.rlib --extern crossbeam_utils=$K/rlibs/crossbeam_utils.rlib -L dependency=$K/rlibs --antt-project $K/rattle/logic/antt-project.json --logic-built $K/logic_built --allow-holes 2>&1 | grep -v "^statements\|^  Where\|^  Why" | cut -c1-600 | head -60
