@@ -5,7 +5,7 @@ _kl1_host() {
     COMPREPLY=()
     case $COMP_CWORD in
     1)
-        mapfile -t COMPREPLY < <(compgen -W "init add run check status stop --help --version" -- "$word")
+        mapfile -t COMPREPLY < <(compgen -W "init add rekey remove export import reload run check status stop --help --version" -- "$word")
         ;;
     2)
         # The folder.

@@ -1,5 +1,4 @@
 pub mod Cutting
 pub mod Doors
-pub mod FilesOfKeys
 pub mod Browsing
-mod SentFiles
+pub mod NextKeys

@@ -3,3 +3,4 @@ pub mod Browsers
 pub mod Ends
 pub mod Repairs
 pub mod Setups
+pub mod NextKeys

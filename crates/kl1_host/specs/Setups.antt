@@ -28,9 +28,9 @@ pub record IsSynced (set : Sync) (s : Syncing) : Type 0 where
 abbrev pub IsFitted : Settings → Settings → Type 0
 IsFitted before after = (after ≡ record before { connections = after.connections }) × (after.connections ≤ before.connections)
 
--- a host of this number of accounts is set up by these settings
-pub record IsSetUp (settings : Settings) (accounts : ℕ) (s : Setup) : Type 0 where
-  pub workers : s.workers ≡ unwrap_or settings.workers accounts
+-- a host of this number of accounts, with so many places for these and others, is set up by these settings
+pub record IsSetUp (settings : Settings) (accounts places : ℕ) (s : Setup) : Type 0 where
+  pub workers : s.workers ≡ unwrap_or settings.workers places
   pub connections : s.connections ≡ settings.connections
   pub each : s.limits.each ≡ settings.connections_each
   pub waiting : s.limits.waiting_each ≡ settings.waiting_each
@@ -40,3 +40,5 @@ pub record IsSetUp (settings : Settings) (accounts : ℕ) (s : Setup) : Type 0 w
   pub codes : s.codes_each ≡ settings.codes_each
   pub memory : s.memory_each ≡ settings.memory_each
   pub disk : s.disk_each ≡ settings.disk_each
+  pub here : s.accounts ≡ accounts
+  pub in_all : s.places ≡ places

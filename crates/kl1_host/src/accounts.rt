@@ -4,6 +4,7 @@ use crate::fault::{BAD, Fault, fault_in_folder};
 use crate::folder::{ACCOUNTS, path_in, read_file};
 use kl1_host_front::{bad_line, read_sums};
 use kl1_session::Key;
+use std::alloc::Global;
 use std::rt::Files;
 
 /// The accounts of a folder.
@@ -16,8 +17,7 @@ pub struct Accounts {
 }
 
 /// The accounts of a folder, in the order of the lines of their file.
-pub fn accounts_in<R: Files + AllocGlobal>(rt: &R, folder: &str) -> Result<Accounts, Fault> {
-    let alloc = rt.alloc();
+pub fn accounts_in<R: Files>(rt: &R, alloc: Global, folder: &str) -> Result<Accounts, Fault> {
     let path = path_in(alloc, folder, ACCOUNTS)?;
     let text = match read_file(rt, alloc, path.as_str()) {
         Ok(text) => text,

@@ -1,22 +1,23 @@
 // An account is added.
 
 use crate::accounts::{Accounts, accounts_in};
-use crate::fault::{BAD, Fault, REFUSED, at_path, fault_at};
-use crate::folder::{ACCOUNTS, NEW_ACCOUNTS, path_in};
-use crate::lock::lock_folder;
-use crate::new_file::{sync_folder, write_new};
+use crate::accounts_file::{
+    forget_started, has_journal, lock_accounts, prepare_accounts, rename_accounts,
+};
+use crate::fault::{BAD, Fault, REFUSED};
+use crate::folder::{NEW_ACCOUNTS, journal_in, path_in};
+use crate::letting_go::tell_host;
 use base64::engine::general_purpose::URL_SAFE_NO_PAD;
 use kl1_host_front::{put_account, read_sums};
 use kl1_model::limits::MOST_ACCOUNTS;
 use std::fs;
-use std::io::ErrorKind;
 use std::random::RandomSource;
 
 /// The random bytes of a key.
 const KEY_BYTES: usize = 24;
 
 /// A new key: random bytes as text.
-fn new_key(rt: &HostRuntime) -> Result<String, Fault> {
+pub fn new_key(rt: &HostRuntime) -> Result<String, Fault> {
     let mut bytes = [0u8; KEY_BYTES];
     rt.fill_bytes(&mut bytes)?;
     Ok(URL_SAFE_NO_PAD.encode(rt.alloc(), &bytes)?)
@@ -64,48 +65,41 @@ fn text_with(
     }
 }
 
-/// Writes the new file of accounts beside the old one.
-fn prepare_accounts(rt: &HostRuntime, folder: &str, text: &[u8]) -> Result<(), Fault> {
-    let alloc = rt.alloc();
-    let new = path_in(alloc, folder, NEW_ACCOUNTS)?;
-    match fs::remove_file(rt, new.as_str()) {
-        Err(error) if error.kind() != ErrorKind::NotFound => {
-            return Err(fault_at(alloc, new.as_str(), &error));
-        }
-        _ => {}
-    }
-    write_new(rt, alloc, new.as_str(), text)
-}
-
-/// Gives the new file of accounts its name: a crash leaves the old one or the new one.
-fn rename_accounts(rt: &HostRuntime, folder: &str) -> Result<(), Fault> {
-    let alloc = rt.alloc();
-    let new = path_in(alloc, folder, NEW_ACCOUNTS)?;
-    let path = path_in(alloc, folder, ACCOUNTS)?;
-    let renamed = fs::rename(rt, new.as_str(), path.as_str());
-    at_path(alloc, path.as_str(), renamed)?;
-    sync_folder(rt, alloc, folder)
-}
-
-/// Adds an account, writes its key to standard output, and answers the program's status. The key is nowhere else, and comes before the
-/// account: whenever this ends, there is no account whose key nobody has.
-pub fn add_account(rt: &HostRuntime, folder: &str, name: &str) -> Result<u8, Fault> {
-    let _lock = lock_folder(
-        rt,
-        rt.alloc(),
-        folder,
-        "stop it first (kl1_host stop DIR), and run it again after that",
-    )?;
-    let accounts = accounts_in(rt, folder)?;
-    refuse_used(rt, &accounts, name)?;
-    let key = new_key(rt)?;
-    let text = text_with(rt, accounts, name, key.as_str())?;
-    prepare_accounts(rt, folder, text.as_slice())?;
+/// Writes a key to standard output. If that fails, the new file of accounts goes again.
+pub fn put_key(rt: &HostRuntime, folder: &str, key: &str) -> Result<(), Fault> {
     if let Err(error) = println!(rt; "{key}") {
         let new = path_in(rt.alloc(), folder, NEW_ACCOUNTS)?;
         let _ = fs::remove_file(rt, new.as_str());
         return Err(error.into());
     }
+    Ok(())
+}
+
+/// Refuses a name of which there is a journal, which would become that of the new account.
+fn refuse_journal(rt: &HostRuntime, folder: &str, name: &str) -> Result<(), Fault> {
+    if !has_journal(rt, folder, name)? {
+        return Ok(());
+    }
+    let path = journal_in(rt.alloc(), folder, name.as_bytes())?;
+    let words = format!(in rt.alloc();
+        "{path}: it is there already, of an account that left, or that is to: go on with that, or move it away"
+    )?;
+    Err(Fault::Words(REFUSED, words))
+}
+
+/// Adds an account, writes its key to standard output, and answers the program's status. The key is nowhere else, and comes before the
+/// account: whenever this ends, there is no account whose key nobody has. A host that runs there lets it in.
+pub fn add_account(rt: &HostRuntime, folder: &str, name: &str) -> Result<u8, Fault> {
+    let _lock = lock_accounts(rt, folder)?;
+    let accounts = accounts_in(rt, rt.alloc(), folder)?;
+    refuse_used(rt, &accounts, name)?;
+    let key = new_key(rt)?;
+    let text = text_with(rt, accounts, name, key.as_str())?;
+    refuse_journal(rt, folder, name)?;
+    // Of one of this name that was removed.
+    forget_started(rt, folder, name)?;
+    prepare_accounts(rt, folder, text.as_slice())?;
+    put_key(rt, folder, key.as_str())?;
     rename_accounts(rt, folder)?;
-    Ok(0)
+    Ok(tell_host(rt, folder, "accounts\n", false)?.unwrap_or(0))
 }

@@ -50,3 +50,40 @@ pub fn ask_host(rt: &HostRuntime, folder: &str, line: &str) -> Result<u8, Fault>
     }
     Ok(0)
 }
+
+/// Whether a call at a socket failed since no host runs there, or it ended.
+fn is_gone(error: &io::Error) -> bool {
+    matches!(
+        error.kind(),
+        ErrorKind::NotFound
+            | ErrorKind::ConnectionRefused
+            | ErrorKind::ConnectionReset
+            | ErrorKind::BrokenPipe
+    )
+}
+
+/// What the host of a folder answers to a line; `None` if none runs there.
+pub fn asked_of(rt: &HostRuntime, folder: &str, line: &str) -> Result<Option<Vec<u8>>, Fault> {
+    let alloc = rt.alloc();
+    // Where no socket can be no host runs.
+    let Ok(path) = socket_in(alloc, folder) else {
+        return Ok(None);
+    };
+    let path = path.as_str();
+    let mut answer = Vec::new(alloc);
+    let asked = match UnixStream::connect(rt, path) {
+        Ok(mut stream) => match stream.write_all(line.as_bytes()) {
+            Ok(()) => match stream.read_to_end(&mut answer) {
+                Ok(_) => Ok(()),
+                Err(error) => Err(error),
+            },
+            Err(error) => Err(error),
+        },
+        Err(error) => Err(error),
+    };
+    match asked {
+        Ok(()) => Ok(Some(answer)),
+        Err(error) if is_gone(&error) => Ok(None),
+        Err(error) => Err(fault_at(alloc, path, &error)),
+    }
+}

@@ -137,8 +137,8 @@ fn check_journal(rt: &HostRuntime, folder: &str, name: &str) -> Result<bool, Fau
 /// Looks at the settings and the accounts of a folder, replays each journal in the order of the accounts, and answers the program's
 /// status.
 pub fn check_folder(rt: &HostRuntime, folder: &str) -> Result<u8, Fault> {
-    let _settings = settings_of(rt, folder)?;
-    let accounts = accounts_in(rt, folder)?;
+    let _settings = settings_of(rt, rt.alloc(), folder)?;
+    let accounts = accounts_in(rt, rt.alloc(), folder)?;
     let started = names_in(rt, folder)?;
     let mut are_sound = true;
     for key in &accounts.keys {

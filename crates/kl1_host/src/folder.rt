@@ -20,6 +20,12 @@ pub const STARTED: &str = "started";
 /// These names while they are written anew.
 pub const NEW_STARTED: &str = "started.new";
 
+/// The file that who changes the accounts has locked.
+pub const ACCOUNTS_LOCK: &str = "accounts.lock";
+
+/// The folder of accounts that were exported.
+pub const EXPORTED: &str = "exported";
+
 /// The folder of the journals.
 pub const JOURNALS: &str = "journals";
 
@@ -61,4 +67,11 @@ pub fn read_file<R: Files>(rt: &R, alloc: Global, path: &str) -> io::Result<Vec<
     let mut bytes = Vec::new(alloc);
     File::open(rt, path)?.read_to_end(&mut bytes)?;
     Ok(bytes)
+}
+
+/// The text that a file holds.
+pub fn read_text<R: Files>(rt: &R, alloc: Global, path: &str) -> io::Result<String> {
+    let mut text = String::new(alloc);
+    File::open(rt, path)?.read_to_string(&mut text)?;
+    Ok(text)
 }

@@ -1,14 +1,15 @@
 // A host runs.
 
-ghost use Rattle.std.specs.Prelude.{◌≡◌, true};
-ghost use Rattle.kl1_session.specs.Views.{entries_view};
-ghost use Rattle.kl1_host_front.specs.Sums.{opened_by_sum};
+ghost use Rattle.std.specs.Prelude.{◌≡◌, ◌≤◌, true};
+ghost use Rattle.kl1_model.specs.declared.limits.TheConstants.{MOST_ACCOUNTS};
 ghost use Rattle.kl1_host.specs.Setups.{IsSynced, IsSetUp};
 
 use crate::accounts::{Accounts, accounts_in};
+use crate::arriving::SetNow;
 use crate::fault::Fault;
 use crate::folder::{SOCKET, path_in};
-use crate::journals::{files_of, remove_spares};
+use crate::journals::{FolderOpener, remove_spares};
+use crate::keyring::Keyring;
 use crate::lock::lock_folder;
 use crate::log::Log;
 use crate::machine::ThisMachine;
@@ -19,18 +20,21 @@ use crate::repair::{cut_journal, word_of_now};
 use crate::settings::settings_of;
 use crate::sockets::{bind, socket_of};
 use crate::start_words::start_fault;
-use crate::started::refuse_missing;
+use crate::started::{Arrivals, refuse_missing};
 use crate::web::sites_of;
 use kl1_host_front::{Field, Pauses, Settings, Sync as Syncs};
 use kl1_host_web::{LoginKeys, SessionBook};
 use kl1_host_work::{Limits, Listeners, Setup, StartFault, Syncing, run_host};
+use kl1_model::limits::MOST_ACCOUNTS;
 use std::alloc::Global;
 use std::fs::{self, File};
 use std::marker::Brand;
+use std::mem;
 use std::net::{Net, TcpListener, TcpStream};
 use std::os::unix::net::{UnixListener, UnixStream};
 use std::random::RandomSource;
 use std::rt::Files;
+use std::sync::atomic::AtomicBool;
 use std::sync::{Mutex, Wait};
 use std::thread::Threads;
 use std::time::{Clock, Duration, Instant};
@@ -58,14 +62,14 @@ fn syncing_of(sync: Syncs) -> Syncing
     }
 }
 
-/// How a host of this number of accounts is set up.
-fn setup_of(settings: &Settings, accounts: usize) -> Setup
-    ensures { IsSetUp settings.now accounts result }
+/// How a host of this number of accounts is set up, with so many places for these and others.
+fn setup_of(settings: &Settings, accounts: usize, places: usize) -> Setup
+    ensures { IsSetUp settings.now accounts places result }
 {
     Setup {
         workers: match settings.workers {
             Some(workers) => workers as usize,
-            None => accounts,
+            None => places,
         },
         connections: settings.connections as usize,
         limits: Limits {
@@ -78,7 +82,18 @@ fn setup_of(settings: &Settings, accounts: usize) -> Setup
         codes_each: settings.codes_each,
         memory_each: settings.memory_each,
         disk_each: settings.disk_each,
+        accounts,
+        places,
     }
+}
+
+/// How many places there are for so many accounts of the start and others that may come.
+fn places_for(settings: &Settings, accounts: usize) -> usize
+    ensures { result ≤ MOST_ACCOUNTS }
+{
+    accounts
+        .saturating_add(settings.spare_accounts as usize)
+        .min(MOST_ACCOUNTS)
 }
 
 /// Runs a host until it is asked to stop. With `repairs` a journal with a fault goes on from what is before it.
@@ -100,15 +115,21 @@ where
 {
     let (rt, alloc, keys) = (program.rt, program.alloc, program.keys);
     let word = word_of_now(rt, alloc)?;
-    let repair = if repairs { Some(word.as_str()) } else { None };
-    let setup = setup_of(settings, keys.len());
+    let firsts = keys.keys().len();
+    let opener = FolderOpener {
+        log: program.log,
+        folder: program.folder,
+        keys,
+        firsts,
+        repair: if repairs { Some(word.as_str()) } else { None },
+    };
+    let setup = setup_of(settings, firsts, places_for(settings, firsts));
     // Each account needs one repair at most: what is before an entry that isn't accepted is accepted.
-    for _ in 0..keys.len().saturating_add(1) {
-        let files = files_of(program.log, program.folder, keys, repair)?;
-        match run_host(rt, alloc, program.listeners, program, files, setup) {
+    for _ in 0..firsts.saturating_add(1) {
+        match run_host(rt, alloc, program.listeners, program, &opener, setup) {
             Ok(files) => {
                 drop(files);
-                remove_spares(program.log, program.folder, keys);
+                remove_spares(program.log, program.folder, keys.keys());
                 return Ok(());
             }
             Err(StartFault::Unaccepted { account, line }) if repairs => {
@@ -116,7 +137,9 @@ where
                 cut_journal(rt, alloc, program.folder, name, line, word.as_str())?;
                 program.log.tell_repaired(name, line);
             }
-            Err(fault) => return Err(start_fault(alloc, program.folder, keys, fault)?),
+            Err(fault) => {
+                return Err(start_fault(rt, alloc, program.folder, keys.keys(), fault)?);
+            }
         }
     }
     Err(Fault::Memory)
@@ -138,15 +161,16 @@ fn opened<'f, R>(rt: &R, alloc: Global, folder: &'f str) -> Result<HostFolder<'f
 where
     R: Net<Listener = TcpListener, Stream = TcpStream> + Files<File = File> + AllocGlobal,
 {
-    let settings = settings_of(rt, folder)?;
-    let accounts = accounts_in(rt, folder)?;
+    let settings = settings_of(rt, alloc, folder)?;
+    // Who changes the accounts after they are read finds it, and has them read anew.
+    let socket = socket_of(rt, alloc, folder)?;
+    let accounts = accounts_in(rt, alloc, folder)?;
     refuse_missing(rt, folder, accounts.keys.as_slice())?;
     let clients = bind(rt, alloc, settings.listen.as_str())?;
     let browsers = match &settings.web {
         Some(address) => Some(bind(rt, alloc, address.as_str())?),
         None => None,
     };
-    let socket = socket_of(rt, alloc, folder)?;
     Ok(HostFolder {
         path: folder,
         settings,
@@ -157,10 +181,11 @@ where
     })
 }
 
-/// Runs a host with what is opened until it is asked to stop. `K` stands for the keys of its accounts, by which sessions of browsers are opened.
+/// Runs a host with what is opened until it is asked to stop. `K` stands for the book of its browsers' sessions.
 fn run_opened<R, K: LoginKeys + Send + Sync + 'static>(
     log: &Log<'_, R>,
     opened: &HostFolder<'_>,
+    keys: &Keyring,
     repairs: bool,
     asker: &Mutex<Option<UnixStream>>,
 ) -> Result<(), Fault>
@@ -174,26 +199,30 @@ where
         + Eprint
         + Sync,
     R::Dir: Send + Sync,
-    requires keys { opened_by_sum (entries_view opened.now.accounts.keys.items) ≡ K.opens }
-    requires begins { K.begins ≡ true }
+    requires { K.begins ≡ true }
 {
     let (rt, alloc, settings) = (log.rt, log.alloc, &opened.settings);
     let pauses = Mutex::new(Pauses::new(alloc)?);
     let sessions = Mutex::new(SessionBook::<K>::new(alloc)?);
+    let set = Mutex::new(SetNow::of(settings));
+    let arrivals = Mutex::new(Arrivals::new());
+    let logouts = Mutex::new([0u64; MOST_ACCOUNTS]);
+    let is_listening = AtomicBool::new(false);
     let paces = Paces::new();
     let sites = sites_of(alloc, settings, opened.browsers.as_ref())?;
     let program = Program {
         rt,
         alloc,
         folder: opened.path,
-        keys: opened.accounts.keys.as_slice(),
-        memory_each: settings.memory_each,
-        disk_each: settings.disk_each,
-        codes_each: opened.settings.codes_each,
+        keys,
+        settings,
+        set: &set,
+        arrivals: &arrivals,
+        logouts: &logouts,
+        is_listening: &is_listening,
         pauses: &pauses,
         sessions: &sessions,
         sites: sites.as_slice(),
-        idle: settings.idle.div_ceil(1_000),
         machine: ThisMachine { rt },
         paces: &paces,
         log,
@@ -206,6 +235,47 @@ where
         asker,
     };
     serve(&program, settings, repairs)
+}
+
+/// Runs the host of a folder, which is locked, until it is asked to stop.
+fn run_here<R>(
+    rt: &R,
+    folder: &str,
+    repairs: bool,
+    asker: &Mutex<Option<UnixStream>>,
+) -> Result<(), Fault>
+where
+    R: Net<Listener = TcpListener, Stream = TcpStream>
+        + Files<File = File>
+        + AllocGlobal
+        + RandomSource
+        + Threads
+        + Wait
+        + Clock
+        + Eprint
+        + Sync,
+    R::Dir: Send + Sync,
+{
+    let alloc = rt.alloc();
+    let mut opened = opened(rt, alloc, folder)?;
+    let log = Log { rt, alloc };
+    let folder_field = Field {
+        name: b"folder",
+        value: folder.as_bytes(),
+    };
+    log.tell(b"start", &[folder_field]);
+    let places = places_for(&opened.settings, opened.accounts.keys.len());
+    let fitted = fit_connections(&log, &mut opened.settings, places);
+    let first = mem::replace(&mut opened.accounts.keys, Vec::new(alloc));
+    let keys = Keyring::new(rt, alloc, first)?;
+    let ended = match fitted {
+        Ok(()) => run_opened::<R, Brand>(&log, &opened, &keys, repairs, asker),
+        Err(fault) => Err(fault),
+    };
+    if ended.is_ok() {
+        log.tell(b"end", &[]);
+    }
+    ended
 }
 
 /// Runs the host of a folder, which is locked meanwhile, until it is asked to stop.
@@ -229,23 +299,8 @@ where
 {
     let alloc = rt.alloc();
     let _lock = lock_folder(rt, alloc, folder, "one host at a time")?;
-    let mut opened = opened(rt, alloc, folder)?;
-    let log = Log { rt, alloc };
-    let folder_field = Field {
-        name: b"folder",
-        value: folder.as_bytes(),
-    };
-    log.tell(b"start", &[folder_field]);
-    let accounts = opened.accounts.keys.len();
-    let fitted = fit_connections(&log, &mut opened.settings, accounts);
-    let ended = match fitted {
-        Ok(()) => run_opened::<R, Brand>(&log, &opened, repairs, asker),
-        Err(fault) => Err(fault),
-    };
+    let ended = run_here(rt, folder, repairs, asker);
     let _ = fs::remove_file(rt, path_in(alloc, folder, SOCKET)?.as_str());
-    if ended.is_ok() {
-        log.tell(b"end", &[]);
-    }
     ended
 }
 

@@ -1,10 +1,9 @@
 // The settings of a folder.
 
 use crate::fault::{BAD, Fault, fault_in_folder};
-use crate::folder::{SETTINGS, path_in, refuse_pipe};
+use crate::folder::{SETTINGS, path_in, read_text, refuse_pipe};
 use kl1_host_front::{BadSettings, Settings, settings_in};
 use std::alloc::Global;
-use std::fs;
 use std::rt::Files;
 
 /// The words for settings that aren't taken.
@@ -31,13 +30,12 @@ fn bad_settings(alloc: Global, path: &str, bad: &BadSettings) -> Result<Fault, F
 }
 
 /// What the host of a folder is set to.
-pub fn settings_of<R: Files + AllocGlobal>(rt: &R, folder: &str) -> Result<Settings, Fault> {
-    let alloc = rt.alloc();
+pub fn settings_of<R: Files>(rt: &R, alloc: Global, folder: &str) -> Result<Settings, Fault> {
     let path = path_in(alloc, folder, SETTINGS)?;
     if let Err(error) = refuse_pipe(rt, path.as_str()) {
         return Err(fault_in_folder(alloc, path.as_str(), &error));
     }
-    let text = match fs::read_to_string(rt, path.as_str()) {
+    let text = match read_text(rt, alloc, path.as_str()) {
         Ok(text) => text,
         Err(error) => return Err(fault_in_folder(alloc, path.as_str(), &error)),
     };

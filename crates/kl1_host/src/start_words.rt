@@ -3,11 +3,13 @@
 use crate::fault::{BAD, Fault, REFUSED};
 use crate::faulty_line::LineFault;
 use crate::folder::journal_in;
+use crate::journals::why_of;
 use kl1_host_journals::{LinkFault, OpenFault};
 use kl1_host_work::StartFault;
 use kl1_log::LogError;
 use kl1_session::Key;
 use std::alloc::Global;
+use std::rt::Files;
 
 /// The path of the journal of an account, by its number.
 fn path_of(alloc: Global, folder: &str, keys: &[Key], account: usize) -> Result<String, Fault> {
@@ -38,7 +40,8 @@ pub fn open_fault(
 }
 
 /// The fault of a host that doesn't start.
-pub fn start_fault(
+pub fn start_fault<R: Files>(
+    rt: &R,
     alloc: Global,
     folder: &str,
     keys: &[Key],
@@ -50,12 +53,9 @@ pub fn start_fault(
             format!(in alloc; "{folder}: there is no account yet; kl1_host add DIR NAME adds one")?,
         ),
         StartFault::Unopened { account, fault } => {
-            open_fault(
-                alloc,
-                path_of(alloc, folder, keys, account)?.as_str(),
-                &fault,
-                LineFault::NoEntry,
-            )?
+            let path = path_of(alloc, folder, keys, account)?;
+            let why = why_of(rt, alloc, path.as_str(), &fault)?;
+            open_fault(alloc, path.as_str(), &fault, why)?
         }
         StartFault::Unaccepted { account, line } => {
             let path = path_of(alloc, folder, keys, account)?;

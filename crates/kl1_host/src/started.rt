@@ -2,6 +2,7 @@
 
 use crate::fault::{Fault, REFUSED, at_path, fault_at};
 use crate::folder::{FILE_MODE, NEW_STARTED, STARTED, journal_in, path_in};
+use kl1_model::limits::MOST_ACCOUNTS;
 use kl1_session::Key;
 use std::alloc::Global;
 use std::fs::{self, OpenFile, OpenOptions};
@@ -83,15 +84,36 @@ fn write_anew<R: Files>(rt: &R, path: &str, bytes: &[u8]) -> io::Result<()> {
     file.sync_all()
 }
 
-/// Notes that all accounts have started. A crash leaves the old file or the new one.
+/// Which accounts are there, by their places, and whether all of the start have come.
+#[derive(Clone, Copy)]
+pub struct Arrivals {
+    pub are_there: [bool; MOST_ACCOUNTS],
+    pub is_ready: bool,
+}
+
+impl Arrivals {
+    /// None is there.
+    pub fn new() -> Self {
+        Arrivals {
+            are_there: [false; MOST_ACCOUNTS],
+            is_ready: false,
+        }
+    }
+}
+
+/// Notes that these accounts have started. A crash leaves the old file or the new one.
 pub fn note_started<R: Files>(
     rt: &R,
     alloc: Global,
     folder: &str,
     keys: &[Key],
+    are_there: &[bool],
 ) -> Result<(), Fault> {
     let mut names = Vec::new(alloc);
-    for key in keys {
+    for (key, is_there) in keys.iter().zip(are_there) {
+        if !*is_there || key.name.is_empty() {
+            continue;
+        }
         names.extend_from_slice(key.name.as_slice())?;
         names.push(b'\n')?;
     }

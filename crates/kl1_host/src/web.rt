@@ -4,6 +4,7 @@ ghost use Rattle.std.specs.Prelude.{◌≡◌, ◌<◌, ◌≤◌, ◌++◌, ◌
 ghost use Rattle.kl1_command.specs.Commands.{command_view};
 ghost use Rattle.kl1_host_web.specs.Asking.{did, HasDone};
 ghost use Rattle.kl1_host_web.specs.Records.{asked_in};
+ghost use Rattle.kl1_host.specs.Browsers.{IsLocal};
 
 use crate::folder::journal_in;
 use crate::logins::LoginLog;
@@ -83,7 +84,9 @@ pub fn sites_of(
 }
 
 /// Whether an address is of the machine of the host.
-pub fn is_local(address: SocketAddr) -> bool {
+pub fn is_local(address: SocketAddr) -> bool
+    ensures { IsLocal address result }
+{
     address.ip().to_canonical().is_loopback()
 }
 
@@ -251,7 +254,7 @@ impl<'w, R: Wait + Clock + Eprint + Files, P: Performer + Drop, V: HostView> Acc
     ghost use Rattle.kl1_host.specs.Browsers.{name_at};
     ghost use Rattle.kl1_host_web.specs.Records.{asked_in};
 
-    ghost house = { λ w. record { accounts = length w.door.keys.now; names = name_at (entries_view w.keys.now); opens = opened_by_sum (entries_view w.door.keys.now); before = P.done w.begun.value } };
+    ghost house = { λ w. record { accounts = length w.door.keys.now; names = name_at (entries_view w.keys.now); opens = opened_by_sum (entries_view w.door.keys.now); entries = entries_view w.keys.now; before = P.done w.begun.value } };
 
     ghost asked = { λ w. asked_in w.noted };
 
@@ -267,6 +270,10 @@ impl<'w, R: Wait + Clock + Eprint + Files, P: Performer + Drop, V: HostView> Acc
         found
     }
 
+    fn keys(&self) -> &[Key] {
+        self.keys
+    }
+
     fn put_name(&self, account: usize, out: &mut Vec<u8>) -> Result<(), AllocError> {
         match self.keys.get(account) {
             Some(key) => out.extend_from_slice(key.name.as_slice()),
@@ -274,7 +281,9 @@ impl<'w, R: Wait + Clock + Eprint + Files, P: Performer + Drop, V: HostView> Acc
         }
     }
 
-    fn let_in(&self) {
+    #[tactic(auto, using(kl1_host_web::proofs::Doing::let_in_more))]
+    fn let_in(&mut self) {
+        self.noted.let_in();
         // So the connection isn't ended as a stranger's while its body is read.
         self.host.let_in();
     }
@@ -304,6 +313,17 @@ impl<'w, R: Wait + Clock + Eprint + Files, P: Performer + Drop, V: HostView> Acc
         self.noted.changed(change);
     }
 
+    fn has(&self, account: usize) -> bool {
+        match self.door.keys.get(account) {
+            Some(key) => !key.name.is_empty(),
+            None => false,
+        }
+    }
+
+    fn restoring(&self, account: usize) -> Option<(u64, u64)> {
+        self.host.restoring(account)
+    }
+
     fn measures(&self, account: usize) -> Measures {
         let bytes = match self.door.keys.get(account) {
             Some(key) => disk_of(self.rt, self.alloc, self.folder, key.name.as_slice()),
@@ -320,7 +340,12 @@ impl<'w, R: Wait + Clock + Eprint + Files, P: Performer + Drop, V: HostView> Acc
 
     fn sums(&self) -> Sums {
         let mut sums = Sums {
-            accounts: self.door.keys.len() as u64,
+            accounts: self
+                .door
+                .keys
+                .iter()
+                .filter(|key| !key.name.is_empty())
+                .count() as u64,
             sessions: 0,
             events: 0,
             steps: 0,

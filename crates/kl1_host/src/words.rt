@@ -10,9 +10,38 @@ pub enum Task<'a> {
     /// A folder is made.
     Init(&'a str),
     /// An account is added to a folder.
-    Add { folder: &'a str, name: &'a str },
+    Add {
+        folder: &'a str,
+        name: &'a str,
+    },
+    /// An account of a folder gets another key.
+    Rekey {
+        folder: &'a str,
+        name: &'a str,
+    },
+    /// An account of a folder is removed.
+    Remove {
+        folder: &'a str,
+        name: &'a str,
+    },
+    /// An account is taken out of a folder for another.
+    Export {
+        folder: &'a str,
+        name: &'a str,
+    },
+    /// An account that was taken out of a folder is added to another, from where it was put.
+    Import {
+        folder: &'a str,
+        name: &'a str,
+        from: &'a str,
+    },
+    /// The host of a folder reads settings and accounts anew.
+    Reload(&'a str),
     /// The host of a folder runs.
-    Run { folder: &'a str, repairs: bool },
+    Run {
+        folder: &'a str,
+        repairs: bool,
+    },
     /// The settings, the accounts and the journals of a folder are looked at.
     Check(&'a str),
     /// The host of a folder is asked how it goes.
@@ -31,12 +60,22 @@ const DIR: OptionSpec = OptionSpec {
     with: "",
 };
 
-/// The word of an account that is added: its name.
+/// The word of an account: its name.
 const NAME: OptionSpec = OptionSpec {
     name: "NAME",
     takes: Takes::Word,
     value: "",
     help: "The account's name",
+    beside: &[],
+    with: "",
+};
+
+/// The word of an account that comes: the folder in which its line and its journal are.
+const FROM: OptionSpec = OptionSpec {
+    name: "FROM",
+    takes: Takes::Word,
+    value: "",
+    help: "The folder with what was exported",
     beside: &[],
     with: "",
 };
@@ -52,7 +91,7 @@ const REPAIR: OptionSpec = OptionSpec {
 };
 
 /// The tasks.
-const TASKS: [TaskSpec; 6] = [
+const TASKS: [TaskSpec; 11] = [
     TaskSpec {
         name: "init",
         about: "Makes a folder for accounts, with settings to look through",
@@ -62,6 +101,31 @@ const TASKS: [TaskSpec; 6] = [
         name: "add",
         about: "Adds an account, and writes its key, once",
         options: &[DIR, NAME],
+    },
+    TaskSpec {
+        name: "rekey",
+        about: "Gives an account another key, and writes it, once",
+        options: &[DIR, NAME],
+    },
+    TaskSpec {
+        name: "remove",
+        about: "Removes an account, and puts its journal aside",
+        options: &[DIR, NAME],
+    },
+    TaskSpec {
+        name: "export",
+        about: "Takes an account out, for another host",
+        options: &[DIR, NAME],
+    },
+    TaskSpec {
+        name: "import",
+        about: "Adds an account that another host's folder has exported",
+        options: &[DIR, NAME, FROM],
+    },
+    TaskSpec {
+        name: "reload",
+        about: "Has the host that runs there read settings and accounts anew",
+        options: &[DIR],
     },
     TaskSpec {
         name: "run",
@@ -89,7 +153,7 @@ const TASKS: [TaskSpec; 6] = [
 pub static PROGRAM: Program = Program {
     name: "kl1_host",
     about: "A server whose accounts outlive it",
-    usage: "kl1_host init DIR\n       kl1_host add DIR NAME\n       kl1_host run DIR [--repair]\n       kl1_host check DIR\n       kl1_host status DIR\n       kl1_host stop DIR\n       kl1_host --help | --version",
+    usage: "kl1_host init DIR\n       kl1_host add DIR NAME\n       kl1_host rekey DIR NAME\n       kl1_host remove DIR NAME\n       kl1_host export DIR NAME\n       kl1_host import DIR NAME FROM\n       kl1_host reload DIR\n       kl1_host run DIR [--repair]\n       kl1_host check DIR\n       kl1_host status DIR\n       kl1_host stop DIR\n       kl1_host --help | --version",
     options: &[],
     tasks: &TASKS,
     faults: SystemFaults::PipesAndMemory,
@@ -104,11 +168,32 @@ pub fn task_of<'a>(asked: &Asked<'a>) -> Option<Task<'a>> {
     } else if word == "add" {
         let name = asked.text(NAME.name).unwrap_or("");
         Some(Task::Add { folder, name })
+    } else if let Some(task) = change_of(asked, word, folder) {
+        Some(task)
     } else if word == "run" {
         let repairs = asked.has(REPAIR.name);
         Some(Task::Run { folder, repairs })
     } else {
         look_of(word, folder)
+    }
+}
+
+/// The task of this word by which an account of a folder is changed; `None` if there is none.
+fn change_of<'a>(asked: &Asked<'a>, word: &str, folder: &'a str) -> Option<Task<'a>> {
+    let name = asked.text(NAME.name).unwrap_or("");
+    if word == "rekey" {
+        Some(Task::Rekey { folder, name })
+    } else if word == "remove" {
+        Some(Task::Remove { folder, name })
+    } else if word == "export" {
+        Some(Task::Export { folder, name })
+    } else if word == "import" {
+        let from = asked.text(FROM.name).unwrap_or("");
+        Some(Task::Import { folder, name, from })
+    } else if word == "reload" {
+        Some(Task::Reload(folder))
+    } else {
+        None
     }
 }
 

@@ -1,8 +1,5 @@
 -- Sessions that pass a test, and where they stand.
-use Rattle.std.proofs.Common.{◌≡◌, ◌<◌, ◌≤◌, ◌+◌, ℕ, zero, suc, Bool, true, false, if◌then◌else◌, List, [], ◌∷◌, length, set, get_or, bytes_eq, Option, Some, None, All, refl, ap, sym, subst, ◌∙◌, arith, le_of_eq}
-use Rattle.std.proofs.lemmas.List.Elements.{All-get_or, All-set}
-use Rattle.kl1_session.specs.Doors.{Opens}
-use Rattle.kl1_host_door.specs.Sessions.{IsOpened}
+use Rattle.std.proofs.Common.{◌≡◌, ◌≤◌, ◌+◌, ℕ, zero, suc, Bool, true, false, if◌then◌else◌, List, [], ◌∷◌, set, get_or, bytes_eq, Option, Some, None, refl, ap, ◌∙◌, arith, le_of_eq}
 use Rattle.kl1_host_door.specs.declared.session.WebSession.{WebSession}
 use Rattle.kl1_host_door.specs.declared.book.SessionTest.TheVariants as test
 use Rattle.kl1_host_door.specs.Books.{passes, seen_at, touched, place_from, place_of, first_of}
@@ -64,10 +61,3 @@ untouched id second n (x ∷ xs) e =
 
 pub none_touched : (id : List ℕ) (second : ℕ) (xs : List WebSession) → place_of (passes (test.IsCalled id)) xs ≡ None → xs ≡ touched id second xs
 none_touched id second xs e = untouched id second 0 xs e
-
--- a session whose last request is at another second was opened as it was
-pub seen_opened : (opens : Opens) (xs slice : List WebSession) (i second : ℕ) (s : WebSession) → slice ≡ xs → i < length slice → s ≡ get_or xs i s → All (IsOpened opens) xs → All (IsOpened opens) (set xs i (seen_at second s))
-seen_opened opens xs slice i second s is within at opened =
-    let inside : i < length xs = subst (λ (l : List WebSession). i < length l) is within in
-    let one : IsOpened opens s = subst (IsOpened opens) (sym at) (All-get_or (IsOpened opens) xs i s inside opened) in
-    All-set (IsOpened opens) xs i (seen_at second s) one opened

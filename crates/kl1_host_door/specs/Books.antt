@@ -10,14 +10,16 @@ use Rattle.kl1_host_door.specs.declared.refusal.Refusal.{Refusal}
 use Rattle.kl1_host_door.specs.declared.door.Allowed.{Allowed}
 use Rattle.kl1_host_door.specs.declared.door.Allowed.TheVariants.{Anyone, Owner}
 
--- whether a session passes a test: it has this name; or it is of this account, and its last request was before this second
+-- whether a session passes a test: it has this name; it is of this account, and its last request was before this second; or it is of this
+-- account
 abbrev pub passes : SessionTest → WebSession → Bool
 passes (test.IsCalled id) session = bytes_eq session.id id
 passes (test.IsIdle account before) session = session.account == account && nat_lt session.last before
+passes (test.IsOf account) session = session.account == account
 
 -- a session whose last request is at this second
 abbrev pub seen_at : ℕ → WebSession → WebSession
-seen_at second session = record { id = session.id; token = session.token; account = session.account; last = second }
+seen_at second session = record session { last = second }
 
 -- the sessions after a request of the first with this name, at this second
 abbrev pub touched : List ℕ → ℕ → List WebSession → List WebSession

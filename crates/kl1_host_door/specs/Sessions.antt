@@ -1,7 +1,6 @@
 -- Which session a request is of.
-use Rattle.std.specs.Prelude.{◌≡◌, ℕ, ◌==◌, nat_eq, nat_le, Bool, true, false, ◌&&◌, ◌||◌, if◌then◌else◌, List, [], ◌∷◌, length, take, drop, bytes_eq, codes, Option, Some, None}
+use Rattle.std.specs.Prelude.{ℕ, ◌==◌, nat_eq, nat_le, Bool, true, false, ◌&&◌, ◌||◌, if◌then◌else◌, List, [], ◌∷◌, length, take, drop, bytes_eq, codes, Option, Some, None}
 use Rattle.std.specs.List.{starts_with}
-use Rattle.kl1_session.specs.Doors.{Opens}
 use Rattle.kl1_host_door.specs.declared.limits.TheConstants.{SECRET_BYTES}
 use Rattle.kl1_host_door.specs.declared.field.Field.{Field}
 use Rattle.kl1_host_door.specs.declared.session.WebSession.{WebSession}
@@ -73,11 +72,3 @@ session_of fields sessions = sought false fields sessions
 -- host's name, so a cookie of this name may be somebody else's.
 abbrev pub owner_of : List Field → List WebSession → Option WebSession
 owner_of fields sessions = sought true fields sessions
-
--- a name and a key let in to this account
-abbrev pub LetsIn : Opens → ℕ → Type 0
-LetsIn opens account = ∥ ((name : List ℕ) × (key : List ℕ) × (opens name key ≡ Some account)) ∥₁
-
--- a session is one that was opened by a name and a key which let in to its account
-abbrev pub IsOpened : Opens → WebSession → Type 0
-IsOpened opens session = LetsIn opens session.account

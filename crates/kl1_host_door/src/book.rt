@@ -1,9 +1,9 @@
 // The sessions of browsers that are open.
 
-ghost use Rattle.std.specs.Prelude.{◌≡◌, ◌<◌, ◌≤◌, true, [], length, vec_capacity, All, IfOk, IfSome};
+ghost use Rattle.std.specs.Prelude.{◌≡◌, ◌<◌, ◌≤◌, true, [], length, vec_capacity, IfOk, IfSome};
 ghost use Rattle.kl1_host_door.specs.declared.limits.TheConstants.{MOST_SESSIONS};
-ghost use Rattle.kl1_host_door.specs.declared.book.BookStep.TheVariants.{Adds, Takes};
-ghost use Rattle.kl1_host_door.specs.Sessions.{IsOpened};
+ghost use Rattle.kl1_host_door.specs.declared.book.BookStep.TheVariants.{Adds, Takes, Looks};
+ghost use Rattle.kl1_session.specs.Views.{entries_view};
 ghost use Rattle.kl1_host_door.specs.Doors.{authorized};
 ghost use Rattle.kl1_host_door.specs.Bodies.{may_send};
 ghost use Rattle.kl1_host_door.specs.Books.{passes, place_of, touched, has_room, IsAdded, first_of, without_first, seen_by, after};
@@ -15,7 +15,7 @@ use crate::limits::{MOST_SESSIONS, SECRET_BYTES};
 use crate::login_keys::LoginKeys;
 use crate::refusal::Refusal;
 use crate::session::WebSession;
-use kl1_session::is_same_key;
+use kl1_session::{Key, is_same_key};
 use std::alloc::{AllocError, Global};
 use std::marker::{Model, PhantomData};
 use std::snapshot::Snapshot;
@@ -33,7 +33,7 @@ pub enum BookStep {
     Looks,
 }
 
-/// What was done to the sessions of the keys `K`, and which were open before. Only a `SessionBook` makes one, and it can't be dropped: who
+/// What was done to the sessions that `K` stands for, and which were open before. Only a `SessionBook` makes one, and it can't be dropped: who
 /// has something done to the book notes it. It has no bytes, so only contracts see what it tells.
 pub struct BookChange<K: LoginKeys> {
     pub step: Snapshot<BookStep>,
@@ -56,14 +56,12 @@ impl<K: LoginKeys> BookChange<K> {
     }
 }
 
-/// The sessions of browsers that are open, at most `MOST_SESSIONS`, in the order in which they were opened: each by a name and a key that
-/// let in to its account.
+/// The sessions of browsers that are open, at most `MOST_SESSIONS`, in the order in which they were opened.
 #[derive(Drop)]
 pub struct SessionBook<K: LoginKeys> {
     list: Vec<WebSession>,
     of: PhantomData<K>,
     ghost room: { MOST_SESSIONS ≤ vec_capacity list },
-    ghost opened: { All (IsOpened K.opens) list.items },
 }
 
 impl<K: LoginKeys> Model for SessionBook<K> {
@@ -101,7 +99,6 @@ impl<K: LoginKeys> SessionBook<K> {
 
     /// Adds a session, and tells whether it did: as many may be open as `MOST_SESSIONS`.
     pub fn add(&mut self, session: WebSession) -> (bool, BookChange<K>)
-        requires { IsOpened K.opens session }
         ensures room { result.0 ≡ has_room self.old }
         ensures added { IsAdded result.0 session self.old self.new }
         ensures step { result.1.step.value ≡ Adds session }
@@ -140,33 +137,35 @@ impl<K: LoginKeys> SessionBook<K> {
         sites: &[Site],
         is_local: bool,
         since: u64,
+        keys: &[Key],
         count: u64,
-    ) -> Result<bool, Refusal>
-        ensures opened { All (IsOpened K.opens) self.now }
-        ensures value { result ≡ may_send count (authorized head.now self.now sites.now is_local since) }
+    ) -> (Result<bool, Refusal>, BookChange<K>)
+        ensures value { result.0 ≡ may_send count (authorized head.now self.now sites.now is_local since (entries_view keys.now)) }
+        ensures step { result.1.step.value ≡ Looks }
+        ensures before { result.1.before.value.items ≡ self.now }
     {
-        let allowed = authorize(head, self.list.as_slice(), sites, is_local, since);
-        may_send(count, &allowed)
+        let allowed = authorize(head, self.list.as_slice(), sites, is_local, since, keys);
+        (may_send(count, &allowed), self.change(BookStep::Looks))
     }
 
     /// What a request may have by the sessions, of a host that is known by these names; `is_local` tells whether it comes from the machine
-    /// of the host. A session whose last request was before the second `since` lets in nobody. If the request is let in by a session, `now`
-    /// becomes the second of that session's last request.
+    /// of the host. A session whose last request was before the second `since` lets in nobody, nor does one that was opened by another key than
+    /// that of its account among these. If the request is let in by a session, `now` becomes the second of that session's last request.
     pub fn admit(
         &mut self,
         head: &Head,
         sites: &[Site],
         is_local: bool,
         since: u64,
+        keys: &[Key],
         now: u64,
     ) -> (Result<Allowed, Refusal>, BookChange<K>)
-        ensures opened { All (IsOpened K.opens) self.old }
-        ensures allowed { result.0 ≡ authorized head.now self.old sites.now is_local since }
+        ensures allowed { result.0 ≡ authorized head.now self.old sites.now is_local since (entries_view keys.now) }
         ensures seen { self.new ≡ after (seen_by now result.0) self.old }
         ensures step { result.1.step.value ≡ seen_by now result.0 }
         ensures before { result.1.before.value.items ≡ self.old }
     {
-        let allowed = authorize(head, self.list.as_slice(), sites, is_local, since);
+        let allowed = authorize(head, self.list.as_slice(), sites, is_local, since, keys);
         if let Ok(Allowed::Owner { id, .. }) = &allowed {
             let change = self.change(BookStep::Touches(*id, now));
             self.touch(*id, now);
@@ -194,6 +193,8 @@ pub enum SessionTest {
     IsCalled([u8; SECRET_BYTES]),
     /// Whether it is of this account, and its last request was before this second.
     IsIdle { account: usize, before: u64 },
+    /// Whether it is of the account of this number.
+    IsOf(usize),
 }
 
 /// Whether a session passes a test.
@@ -205,6 +206,7 @@ fn passes(test: SessionTest, session: &WebSession) -> bool
         SessionTest::IsIdle { account, before } => {
             session.account == account && session.last < before
         }
+        SessionTest::IsOf(account) => session.account == account,
     }
 }
 

@@ -1,8 +1,9 @@
 // Who is let in, and to what.
 
 ghost use Rattle.std.specs.Prelude.{◌≡◌};
+ghost use Rattle.kl1_session.specs.Views.{entries_view};
 ghost use Rattle.kl1_host_door.specs.Fields.{are_single};
-ghost use Rattle.kl1_host_door.specs.Doors.{is_host, is_origin, is_by_https, is_secure, site_refusal, right_of, by_session, by_owner, admitted, ask_in, authorized};
+ghost use Rattle.kl1_host_door.specs.Doors.{is_host, is_origin, is_by_https, is_secure, site_refusal, right_of, mark_at, by_session, by_owner, admitted, ask_in, authorized};
 
 use crate::ask::{Ask, ask_of, method_in};
 use crate::field::{Field, is_single, value_of};
@@ -10,6 +11,7 @@ use crate::head::Head;
 use crate::limits::SECRET_BYTES;
 use crate::refusal::Refusal;
 use crate::session::{WebSession, owner_of, session_of};
+use kl1_session::{Key, is_same_key};
 
 /// A name by which a host is known, as a browser tells it, and where its page comes from: as `localhost:7480` and
 /// `http://localhost:7480`.
@@ -118,11 +120,21 @@ fn right_of(ask: Ask) -> Right
     }
 }
 
-/// Lets in to the account of a session, unless its last request was before the second `since`.
-fn by_session(ask: Ask, session: WebSession, since: u64) -> Result<Allowed, Refusal>
-    ensures { result ≡ by_session ask session since }
+/// The mark of the key of an account; nothing if there is none.
+pub fn mark_at(keys: &[Key], account: usize) -> &[u8]
+    ensures { result.now ≡ mark_at (entries_view keys.now) account }
 {
-    if session.last < since {
+    match keys.get(account) {
+        Some(key) => key.key.as_slice(),
+        None => &[],
+    }
+}
+
+/// Lets in to the account of a session, unless its last request was before the second `since`, or the account has another key now.
+fn by_session(ask: Ask, session: WebSession, since: u64, keys: &[Key]) -> Result<Allowed, Refusal>
+    ensures { result ≡ by_session ask session since (entries_view keys.now) }
+{
+    if session.last < since || !is_same_key(mark_at(keys, session.account), &session.mark) {
         return Err(Refusal::Nobody);
     }
     let id = session.id;
@@ -139,11 +151,12 @@ fn by_owner(
     fields: &[Field],
     sessions: &[WebSession],
     since: u64,
+    keys: &[Key],
 ) -> Result<Allowed, Refusal>
-    ensures { result ≡ by_owner ask fields.now sessions.now since }
+    ensures { result ≡ by_owner ask fields.now sessions.now since (entries_view keys.now) }
 {
     match owner_of(fields, sessions) {
-        Some(session) => by_session(ask, session, since),
+        Some(session) => by_session(ask, session, since, keys),
         None => match session_of(fields, sessions) {
             None => Err(Refusal::Nobody),
             Some(_) => Err(Refusal::Token),
@@ -158,8 +171,9 @@ fn admitted(
     sessions: &[WebSession],
     is_local: bool,
     since: u64,
+    keys: &[Key],
 ) -> Result<Allowed, Refusal>
-    ensures { result ≡ admitted ask fields.now sessions.now is_local since }
+    ensures { result ≡ admitted ask fields.now sessions.now is_local since (entries_view keys.now) }
 {
     match right_of(ask) {
         Right::Anyone => Ok(Allowed::Anyone(ask)),
@@ -170,7 +184,7 @@ fn admitted(
                 Err(Refusal::NotLocal)
             }
         }
-        Right::Owner => by_owner(ask, fields, sessions, since),
+        Right::Owner => by_owner(ask, fields, sessions, since, keys),
     }
 }
 
@@ -197,15 +211,17 @@ fn are_single(fields: &[Field]) -> bool
 }
 
 /// What a request may have, of a host that is known by these names and has these sessions open; `is_local` tells whether it comes from
-/// the machine of the host. A session whose last request was before the second `since` lets in nobody.
+/// the machine of the host. A session whose last request was before the second `since` lets in nobody, nor does one that was opened by another
+/// key than that of its account among these.
 pub fn authorize(
     head: &Head,
     sessions: &[WebSession],
     sites: &[Site],
     is_local: bool,
     since: u64,
+    keys: &[Key],
 ) -> Result<Allowed, Refusal>
-    ensures { result ≡ authorized head.now sessions.now sites.now is_local since }
+    ensures { result ≡ authorized head.now sessions.now sites.now is_local since (entries_view keys.now) }
 {
     let fields = head.fields.as_slice();
     if !are_single(fields) {
@@ -216,6 +232,6 @@ pub fn authorize(
     }
     match ask_in(head) {
         Err(refusal) => Err(refusal),
-        Ok(ask) => admitted(ask, fields, sessions, is_local, since),
+        Ok(ask) => admitted(ask, fields, sessions, is_local, since, keys),
     }
 }

@@ -18,7 +18,7 @@ pub use answer::{Answer, Content, Cookie, put_answer};
 pub use ask::{Ask, Method};
 pub use body::body_bytes;
 pub use book::{BookChange, BookStep, SessionBook, SessionTest};
-pub use door::{Allowed, Site, authorize, is_secure};
+pub use door::{Allowed, Site, authorize, is_secure, mark_at};
 pub use field::{Field, value_of};
 pub use head::{Head, Reading, read_head};
 pub use login_keys::LoginKeys;

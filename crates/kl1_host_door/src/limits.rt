@@ -18,6 +18,9 @@ pub const MOST_SESSIONS: usize = 128;
 /// The bytes of a session's name and of its token, each: 24 bytes of randomness in base64.
 pub const SECRET_BYTES: usize = 32;
 
+/// The bytes of a mark, by which the key of an account is known.
+pub const MARK_BYTES: usize = 64;
+
 /// The shoens of a page.
 pub const SHOENS_A_PAGE: usize = 200;
 

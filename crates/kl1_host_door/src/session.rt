@@ -4,16 +4,17 @@ ghost use Rattle.std.specs.Prelude.{◌≡◌, true};
 ghost use Rattle.kl1_host_door.specs.Sessions.{is_end, is_of, session_at, is_sought, sought_at, bare, sought_here, sought_from, sought, session_of, owner_of, has_token};
 
 use crate::field::{Field, value_of};
-use crate::limits::SECRET_BYTES;
+use crate::limits::{MARK_BYTES, SECRET_BYTES};
 use kl1_session::is_same_key;
 
 /// A session of a browser: its name, which only the browser's cookie has; the token that each request tells; the number of its account,
-/// from 0; and the second of its last request.
+/// from 0, and the mark of the key by which it was opened; and the second of its last request.
 #[derive(Clone, Copy)]
 pub struct WebSession {
     pub id: [u8; SECRET_BYTES],
     pub token: [u8; SECRET_BYTES],
     pub account: usize,
+    pub mark: [u8; MARK_BYTES],
     pub last: u64,
 }
 

@@ -8,3 +8,4 @@ pub mod LogLines
 pub mod OpenFiles
 pub mod Paces
 pub mod StatusLines
+pub mod Settings

@@ -1,8 +1,10 @@
 -- Pauses after wrong keys.
-use Rattle.std.specs.Prelude.{◌≡◌, ◌≤◌, ◌⊎◌, ℕ, ◌+◌, ◌-◌, ◌==◌, nat_lt, if◌then◌else◌, List, [], ◌∷◌, length, take}
+use Rattle.std.specs.Prelude.{◌≡◌, ◌≤◌, ◌⊎◌, ℕ, suc, ◌+◌, ◌-◌, ◌==◌, nat_lt, max, if◌then◌else◌, List, [], ◌∷◌, length, take, bytes_eq, Option, Some, None}
 use Rattle.kl1_host_front.specs.declared.wrong_keys.TheConstants.{FORGOTTEN_AFTER, LONGEST_PAUSE, MOST_COUNTED, MOST_REMEMBERED}
 use Rattle.kl1_host_front.specs.declared.wrong_keys.Wrong.{Wrong}
 use Rattle.kl1_host_front.specs.declared.wrong_keys.Pauses.{Pauses}
+use Rattle.kl1_host_front.specs.declared.wrong_keys.Trier.{Trier}
+use Rattle.kl1_session.specs.Files.{Entry}
 
 -- the wrong keys that are remembered
 abbrev pub wrongs_in : Pauses → List Wrong
@@ -37,3 +39,47 @@ pause_after n =
     else if n == 6 then 3200
     else if n == 7 then 6400
     else LONGEST_PAUSE
+
+-- ---- who tries a key: from an address, for an account if the name is one's
+
+-- the number of the account of a name among these, counted from n on
+abbrev pub account_from : ℕ → List ℕ → List Entry → Option ℕ
+account_from n name [] = None
+account_from n name (e ∷ es) = if bytes_eq e.name name then Some n else account_from (suc n) name es
+
+-- who tries a key by a name, from an address, at the accounts with these entries
+abbrev pub trier_of : ℕ → List Entry → List ℕ → Trier
+trier_of address entries name = record { address = address; account = account_from 0 name entries }
+
+-- how long a trier has to wait: as long as the wrong keys from the address say, or those for the account if that is longer
+abbrev pub pause_for : List Wrong → Trier → ℕ → ℕ
+pause_for wrongs trier now = elim trier.account [
+  | None ↦ pause_after (count_of wrongs trier.address now)
+  | Some account ↦ max (pause_after (count_of wrongs trier.address now)) (pause_after (count_of wrongs account now))
+]
+
+-- one wrong key more of `who`
+pub record IsNoted (who now : ℕ) (before after : List Wrong) : Type 0 where
+  pub counted : count_of after who now ≡ one_more (count_of before who now)
+  pub others : OthersMayBeFewer who before after
+
+-- the wrong keys of `who` are forgotten
+pub record IsForgotten (who : ℕ) (before after : List Wrong) : Type 0 where
+  pub forgotten : (now : ℕ) → count_of after who now ≡ 0
+  pub others : OthersStay who before after
+
+-- the same of an account, if there is one
+abbrev pub IsNotedFor : Option ℕ → ℕ → List Wrong → List Wrong → Type 0
+IsNotedFor None now before after = after ≡ before
+IsNotedFor (Some account) now before after = IsNoted account now before after
+
+abbrev pub IsForgottenFor : Option ℕ → List Wrong → List Wrong → Type 0
+IsForgottenFor None before after = after ≡ before
+IsForgottenFor (Some account) before after = IsForgotten account before after
+
+-- a wrong key of a trier counts for the address and for the account, and a good one lets those of both be forgotten
+abbrev pub NotesWrong : Trier → ℕ → List Wrong → List Wrong → Type 0
+NotesWrong trier now before after = (middle : List Wrong) × IsNoted trier.address now before middle × IsNotedFor trier.account now middle after
+
+abbrev pub Forgives : Trier → List Wrong → List Wrong → Type 0
+Forgives trier before after = (middle : List Wrong) × IsForgotten trier.address before middle × IsForgottenFor trier.account middle after

@@ -1,15 +1,17 @@
 // Who is let in, after a pause if there were wrong keys.
 
-ghost use Rattle.std.specs.Prelude.{length};
+ghost use Rattle.std.specs.Prelude.{◌≡◌, ◌<◌, length, IfSome};
+ghost use Rattle.std.specs.Option.{is_some};
 ghost use Rattle.kl1_session.specs.Views.{entries_view};
 ghost use Rattle.kl1_host_front.specs.Sums.{opened_by_sum};
+ghost use Rattle.kl1_host_front.specs.Pauses.{account_from, trier_of};
 
 use crate::hashed_keys::HashedKeys;
-use crate::wrong_keys::Pauses;
+use crate::trying::{Attempt, Tried, Waited};
+use crate::wrong_keys::{Pauses, Trier};
 use kl1_session::{Door, Key};
 use std::sync::{Mutex, Wait};
-use std::thread;
-use std::time::{Clock, Duration};
+use std::time::Clock;
 
 /// What is told of logins.
 pub trait LoginTeller {
@@ -45,45 +47,75 @@ fn milliseconds<R: Clock>(rt: &R) -> u64 {
 }
 
 /// The number of the account of a name, from 0.
-fn account_of(keys: &[Key], name: &[u8]) -> Option<u128> {
-    let mut number = 0u128;
-    for key in keys {
+fn account_of(keys: &[Key], name: &[u8]) -> Option<u128>
+    ensures { result ≡ account_from 0 name.now (entries_view keys.now) }
+{
+    let mut number = 0usize;
+    let mut rest = keys;
+    while let [key, others @ ..] = rest {
         if key.name.as_slice() == name {
-            return Some(number);
+            return Some(number as u128);
         }
-        number = number.saturating_add(1);
+        number += 1;
+        rest = others;
     }
     None
 }
 
 impl<R: Wait + Clock, L: LoginTeller + Drop> PausingDoor<'_, R, L> {
-    /// How long a key for an account has to wait, in milliseconds.
-    fn pause_for(&self, account: Option<u128>) -> u64 {
-        let now = milliseconds(self.rt);
-        let pauses = self.pauses.lock(self.rt);
-        let pause = pauses.pause_of(self.address, now);
-        match account {
-            None => pause,
-            Some(account) => pause.max(pauses.pause_of(account, now)),
+    /// Who tries a key by this name.
+    fn trier(&self, name: &[u8]) -> Trier
+        ensures { result ≡ trier_of self.now.address (entries_view self.now.keys.now) name.now }
+    {
+        Trier {
+            address: self.address,
+            account: account_of(self.keys, name),
         }
     }
 
-    /// Forgets the wrong keys of an account and of the address.
-    fn forget(&self, account: Option<u128>) {
+    /// Waits until a key may be looked at.
+    fn wait(&self, trier: Trier) -> Waited
+        ensures { result.trier.value ≡ trier }
+    {
+        let now = milliseconds(self.rt);
+        let pause = {
+            let pauses = self.pauses.lock(self.rt);
+            pauses.pause_for(trier, now)
+        };
+        pause.wait(self.rt)
+    }
+
+    /// Counts a key that was good or not.
+    fn count(&self, trier: Trier, is_good: bool) -> Tried
+        ensures trier { result.trier.value ≡ trier }
+        ensures is_good { result.is_good.value ≡ is_good }
+    {
+        let now = milliseconds(self.rt);
         let mut pauses = self.pauses.lock(self.rt);
-        pauses.forget(self.address);
-        if let Some(account) = account {
-            pauses.forget(account);
+        if is_good {
+            pauses.forget_by(trier)
+        } else {
+            pauses.note_wrong_by(trier, now)
         }
     }
 
-    /// Takes in a wrong key for an account from the address.
-    fn note_wrong(&self, account: Option<u128>) {
-        let now = milliseconds(self.rt);
-        let mut pauses = self.pauses.lock(self.rt);
-        pauses.note_wrong(self.address, now);
-        if let Some(account) = account {
-            pauses.note_wrong(account, now);
+    /// Tries a key. The pause comes before it is looked at, so how long an answer takes tells nothing of it.
+    fn attempt(&self, name: &[u8], key: &[u8]) -> Attempt
+        ensures found { result.found ≡ opened_by_sum (entries_view self.now.keys.now) name.now key.now }
+        ensures within { IfSome result.found (λ n. n < length self.now.keys.now) }
+        ensures waited { result.waited.trier.value ≡ trier_of self.now.address (entries_view self.now.keys.now) name.now }
+        ensures tried { result.tried.trier.value ≡ trier_of self.now.address (entries_view self.now.keys.now) name.now }
+        ensures is_good { result.tried.is_good.value ≡ is_some result.found }
+    {
+        let trier = self.trier(name);
+        let waited = self.wait(trier);
+        let mut keys = HashedKeys { keys: self.keys };
+        let found = keys.open(name, key);
+        let tried = self.count(trier, found.is_some());
+        Attempt {
+            found,
+            waited,
+            tried,
         }
     }
 }
@@ -93,17 +125,11 @@ impl<R: Wait + Clock, L: LoginTeller + Drop> Door for PausingDoor<'_, R, L> {
 
     ghost opens = { λ d. opened_by_sum (entries_view d.keys.now) };
 
-    /// The pause comes before the key is looked at, so how long an answer takes tells nothing of it.
     fn open(&mut self, name: &[u8], key: &[u8]) -> Option<usize> {
-        let account = account_of(self.keys, name);
-        thread::sleep(self.rt, Duration::from_millis(self.pause_for(account)));
-        let mut keys = HashedKeys { keys: self.keys };
-        let found = keys.open(name, key);
+        let found = self.attempt(name, key).found;
         if found.is_some() {
-            self.forget(account);
             self.teller.let_in(name);
         } else {
-            self.note_wrong(account);
             self.teller.kept_out(name);
         }
         found

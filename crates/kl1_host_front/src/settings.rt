@@ -1,6 +1,9 @@
 // What a host is set to.
 
-ghost use Rattle.std.specs.Prelude.{◌≤◌, IfOk};
+ghost use Rattle.std.specs.Prelude.{◌≡◌, ◌≤◌, IfOk, OnOk, OnErr};
+ghost use Rattle.toml.specs.View.{view};
+ghost use Rattle.kl1_host_front.specs.declared.settings.TheConstants.{MOST_SPARE};
+ghost use Rattle.kl1_host_front.specs.Settings.{IsText, IsSize, IsTime, IsSync, IsSet};
 
 use crate::origin::host_of;
 use crate::quantities::{duration_in, size_in};
@@ -37,6 +40,8 @@ pub struct Settings {
     pub codes_each: u64,
     /// How many bytes the journal of an account may have on disk.
     pub disk_each: u64,
+    /// How many accounts may come while the host runs.
+    pub spare_accounts: u32,
 }
 
 /// The most workers.
@@ -44,6 +49,9 @@ pub const MOST_WORKERS: u32 = 64;
 
 /// The most connections that are open at once.
 pub const MOST_CONNECTIONS: u32 = 65_536;
+
+/// The most accounts that may come while a host runs.
+pub const MOST_SPARE: u32 = 31;
 
 /// Why a setting isn't taken.
 #[derive(Clone, Copy)]
@@ -62,6 +70,8 @@ pub enum BadSetting {
     Origin,
     /// It is `"always"`, `"never"` or a time up to an hour.
     Sync,
+    /// It is a number from 0 to 31.
+    Spare,
     /// Memory was refused.
     Memory,
 }
@@ -78,6 +88,7 @@ impl BadSetting {
             BadSetting::Time => "is a time, as \"10m\", \"90s\" or \"100ms\"",
             BadSetting::Origin => "is an origin, as \"https://kl1.example.org\"",
             BadSetting::Sync => "is \"always\", \"never\" or a time up to an hour, as \"100ms\"",
+            BadSetting::Spare => "is a number from 0 to 31",
             BadSetting::Memory => "takes memory that there isn't",
         }
     }
@@ -90,7 +101,9 @@ impl From<AllocError> for BadSetting {
 }
 
 /// The copy of a text.
-fn text_of(alloc: Global, value: &Value) -> Result<String, BadSetting> {
+fn text_of(alloc: Global, value: &Value) -> Result<String, BadSetting>
+    ensures { IfOk result (IsText (view value.now)) }
+{
     let Some(text) = value.as_str() else {
         return Err(BadSetting::Text);
     };
@@ -100,7 +113,9 @@ fn text_of(alloc: Global, value: &Value) -> Result<String, BadSetting> {
 }
 
 /// The copy of an origin.
-fn origin_of(alloc: Global, value: &Value) -> Result<String, BadSetting> {
+fn origin_of(alloc: Global, value: &Value) -> Result<String, BadSetting>
+    ensures { IfOk result (IsText (view value.now)) }
+{
     let Some(text) = value.as_str() else {
         return Err(BadSetting::Origin);
     };
@@ -124,8 +139,20 @@ fn number_of(value: &Value, most: u32) -> Result<u32, BadSetting>
     }
 }
 
+/// How many accounts may come: from 0 on.
+fn spare_of(value: &Value) -> Result<u32, BadSetting>
+    ensures { IfOk result (λ n. n ≤ MOST_SPARE) }
+{
+    match value.as_integer() {
+        Some(number) if number >= 0 && number <= i64::from(MOST_SPARE) => Ok(number as u32),
+        _ => Err(BadSetting::Spare),
+    }
+}
+
 /// A size in bytes.
-fn size_of(value: &Value) -> Result<u64, BadSetting> {
+fn size_of(value: &Value) -> Result<u64, BadSetting>
+    ensures { IfOk result (IsSize (view value.now)) }
+{
     let Some(text) = value.as_str() else {
         return Err(BadSetting::Size);
     };
@@ -133,7 +160,9 @@ fn size_of(value: &Value) -> Result<u64, BadSetting> {
 }
 
 /// A time in milliseconds, at least one.
-fn time_of(value: &Value) -> Result<u64, BadSetting> {
+fn time_of(value: &Value) -> Result<u64, BadSetting>
+    ensures { IfOk result (IsTime (view value.now)) }
+{
     let Some(text) = value.as_str() else {
         return Err(BadSetting::Time);
     };
@@ -144,7 +173,9 @@ fn time_of(value: &Value) -> Result<u64, BadSetting> {
 }
 
 /// When journals are on the disk.
-fn sync_of(value: &Value) -> Result<Sync, BadSetting> {
+fn sync_of(value: &Value) -> Result<Sync, BadSetting>
+    ensures { IfOk result (IsSync (view value.now)) }
+{
     let Some(text) = value.as_str() else {
         return Err(BadSetting::Sync);
     };
@@ -170,27 +201,31 @@ impl Settings {
             memory_each: 256_000_000,
             codes_each: 64_000_000,
             disk_each: 1_000_000_000,
+            spare_accounts: 4,
         })
     }
 
-    /// Sets what has this name.
-    pub fn set(&mut self, alloc: Global, name: &str, value: &Value) -> Result<(), BadSetting> {
+    /// Sets what has this name, and nothing else. A setting that isn't taken leaves all as it is.
+    pub fn set(&mut self, alloc: Global, name: &str, value: &Value) -> Result<(), BadSetting>
+        ensures set { OnOk result (IsSet name.now (view value.now) self.old self.new) }
+        ensures same { OnErr result (self.new ≡ self.old) }
+    {
         match name {
-            "listen" => self.listen = text_of(alloc, value)?,
-            "web" => self.web = Some(text_of(alloc, value)?),
-            "page" => self.page = Some(origin_of(alloc, value)?),
-            "workers" => self.workers = Some(number_of(value, MOST_WORKERS)?),
-            "sync" => self.sync = sync_of(value)?,
-            "idle" => self.idle = time_of(value)?,
-            "idle_login" => self.idle_login = time_of(value)?,
-            "connections" => self.connections = number_of(value, MOST_CONNECTIONS)?,
-            "connections_each" => self.connections_each = number_of(value, MOST_CONNECTIONS)?,
-            "waiting_each" => self.waiting_each = number_of(value, MOST_CONNECTIONS)?,
-            "memory_each" => self.memory_each = size_of(value)?,
-            "codes_each" => self.codes_each = size_of(value)?,
-            "disk_each" => self.disk_each = size_of(value)?,
-            _ => return Err(BadSetting::Unknown),
+            "listen" => Ok(self.listen = text_of(alloc, value)?),
+            "web" => Ok(self.web = Some(text_of(alloc, value)?)),
+            "page" => Ok(self.page = Some(origin_of(alloc, value)?)),
+            "workers" => Ok(self.workers = Some(number_of(value, MOST_WORKERS)?)),
+            "sync" => Ok(self.sync = sync_of(value)?),
+            "idle" => Ok(self.idle = time_of(value)?),
+            "idle_login" => Ok(self.idle_login = time_of(value)?),
+            "connections" => Ok(self.connections = number_of(value, MOST_CONNECTIONS)?),
+            "connections_each" => Ok(self.connections_each = number_of(value, MOST_CONNECTIONS)?),
+            "waiting_each" => Ok(self.waiting_each = number_of(value, MOST_CONNECTIONS)?),
+            "memory_each" => Ok(self.memory_each = size_of(value)?),
+            "codes_each" => Ok(self.codes_each = size_of(value)?),
+            "disk_each" => Ok(self.disk_each = size_of(value)?),
+            "spare_accounts" => Ok(self.spare_accounts = spare_of(value)?),
+            _ => Err(BadSetting::Unknown),
         }
-        Ok(())
     }
 }

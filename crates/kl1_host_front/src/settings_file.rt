@@ -123,8 +123,8 @@ pub fn settings_in(alloc: Global, text: &str) -> Result<Settings, BadSettings> {
 
 /// The file of settings with which a host begins: each setting with what it is, behind a `#`.
 pub const FIRST_SETTINGS: &str = "\
-# The settings of a kl1_host. What stands after a # counts for nothing: take the # away, change what is after the =, stop the host
-# and run it again. A setting that isn't here is as it is shown.
+# The settings of a kl1_host. What stands after a # counts for nothing: take the # away, change what is after the =, and call
+# kl1_host reload, which tells what waits for the next start. A setting that isn't here is as it is shown.
 
 # Where it listens: an address and a port.
 # listen = \"127.0.0.1:7474\"
@@ -157,4 +157,7 @@ pub const FIRST_SETTINGS: &str = "\
 # memory_each = \"256 MB\"
 # codes_each = \"64 MB\"
 # disk_each = \"1 GB\"
+
+# How many accounts may come while the host runs, 0 to 31.
+# spare_accounts = 4
 ";

@@ -15,6 +15,13 @@ pub const FORGOTTEN_AFTER: u64 = 600_000;
 /// The longest pause, in milliseconds.
 pub(crate) const LONGEST_PAUSE: u64 = 10_000;
 
+/// Who tries a key: from an address, for an account if the name is one's, each by its number.
+#[derive(Clone, Copy)]
+pub struct Trier {
+    pub address: u128,
+    pub account: Option<u128>,
+}
+
 /// Wrong keys of a name or an address.
 #[derive(Clone, Copy)]
 pub(crate) struct Wrong {

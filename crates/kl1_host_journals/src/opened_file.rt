@@ -14,10 +14,11 @@ use std::marker::Model;
 use std::snapshot::Snapshot;
 
 /// The file of an account with the journal with which the account begins. Only `open_file` makes one, which reads the journal from just this
-/// file, and the two can't be parted: who has the file alone has given the journal up.
+/// file, and no other journal can be put to it.
 #[derive(Drop)]
 pub struct OpenedFile<D: Disk> {
-    file: RestingFile<D>,
+    /// `None` once it was taken.
+    file: Option<RestingFile<D>>,
     journal: Journal,
     /// The line of the fault that was repaired, the first being 1.
     repaired: Option<u64>,
@@ -57,10 +58,11 @@ impl<D: Disk> OpenedFile<D> {
         self.repaired
     }
 
-    /// The file alone; the journal is dropped.
-    pub fn into_file(self) -> RestingFile<D> {
-        let OpenedFile { file, .. } = self;
-        file
+    /// The file, once; the journal stays.
+    pub fn take_file(&mut self) -> Option<RestingFile<D>>
+        ensures { self.new ≡ self.old }
+    {
+        self.file.take()
     }
 }
 
@@ -80,7 +82,7 @@ pub fn open_file<D: Disk + Drop>(
     let mut disk = disk;
     match open_journal(alloc, &mut disk, rules, repair) {
         Ok(Opened { journal, repaired }) => Ok(OpenedFile {
-            file: RestingFile::new(disk),
+            file: Some(RestingFile::new(disk)),
             journal,
             repaired,
             found,

@@ -6,6 +6,7 @@ ghost use Rattle.kl1_host_journals.specs.Outgoings.{is_waiting_for_another, IsFr
 use crate::held::Held;
 use crate::history::Naming;
 use crate::keeper::Keeper;
+use crate::keeper_place::KeeperPlace;
 use crate::leave::{Connecting, FreshConnection, SendPermit};
 use std::sync::Wait;
 
@@ -39,18 +40,23 @@ impl<J: Naming, C: Connecting> Outgoing<J, C> {
     }
 
     /// Waits until the leave is here; `Lost` if it won't be. It rings for the account's scribe if not all is on disk yet.
-    pub fn freed<W: Wait>(self, rt: &W, keepers: &[Keeper<J>]) -> Outgoing<J, C>
+    pub fn freed<W: Wait>(self, rt: &W, keepers: &[KeeperPlace<J>]) -> Outgoing<J, C>
         ensures { IsFreed self result }
     {
         match self {
             Outgoing::Free(permit) => Outgoing::Free(permit),
-            Outgoing::Waits(held) => match keepers.get(held.account() as usize) {
+            Outgoing::Waits(held) => match keeper_of(keepers, held.account() as usize) {
                 Some(keeper) => handed_out(rt, keeper, held),
                 None => Outgoing::Lost,
             },
             Outgoing::Lost => Outgoing::Lost,
         }
     }
+}
+
+/// The keeper of an account, if it is there.
+fn keeper_of<J: Naming>(keepers: &[KeeperPlace<J>], account: usize) -> Option<&Keeper<J>> {
+    keepers.get(account)?.get()
 }
 
 /// A leave that waits, once all is on disk for which it does; `Lost` if that won't be.

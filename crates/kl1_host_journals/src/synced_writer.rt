@@ -5,7 +5,7 @@ ghost use Rattle.kl1_host_journals.specs.SyncedWriters.{writer_of};
 
 use crate::gate::Gate;
 use crate::history::Naming;
-use crate::keeper::Keeper;
+use crate::keeper_place::KeeperPlace;
 use crate::leave::{Connecting, SendPermit};
 use crate::outgoing::Outgoing;
 use std::cell::Cell;
@@ -17,7 +17,7 @@ use std::sync::Wait;
 pub struct SyncedWriter<'c, T: Write, R: Wait, J: Naming, C: Connecting> {
     gate: Gate<T, C>,
     rt: &'c R,
-    keepers: &'c [Keeper<J>],
+    keepers: &'c [KeeperPlace<J>],
     outgoing: &'c Cell<Outgoing<J, C>>,
 }
 
@@ -26,7 +26,7 @@ impl<'c, T: Write, R: Wait, J: Naming, C: Connecting> SyncedWriter<'c, T, R, J, 
     pub fn new(
         writer: T,
         rt: &'c R,
-        keepers: &'c [Keeper<J>],
+        keepers: &'c [KeeperPlace<J>],
         outgoing: &'c Cell<Outgoing<J, C>>,
     ) -> Self
         ensures { writer_of result ≡ writer }

@@ -15,14 +15,15 @@ use Rattle.kl1_session.specs.Replies.{told}
 use Rattle.kl1_command.specs.declared.performed.Performed.{Performed}
 use Rattle.kl1_lines.specs.Places.{has_byte, IsSplit}
 use Rattle.kl1_host_door.specs.declared.answer.Answer.{Answer}
+use Rattle.kl1_host_door.specs.declared.answer.Content.TheVariants.{Json}
 use Rattle.kl1_host_door.specs.declared.answer.Cookie.{Cookie}
 use Rattle.kl1_host_door.specs.declared.answer.Cookie.TheVariants.{Kept, Set}
 use Rattle.kl1_host_door.specs.declared.status.Status.{Status}
-use Rattle.kl1_host_door.specs.declared.status.Status.TheVariants.{Good}
+use Rattle.kl1_host_door.specs.declared.status.Status.TheVariants.{Good, Unavailable}
 use Rattle.kl1_host_door.specs.declared.session.WebSession.{WebSession}
 use Rattle.kl1_user_events.specs.declared.shoen_view.ShoenView.{ShoenView}
 use Rattle.kl1_host_door.specs.declared.limits.TheConstants.{SHOENS_A_PAGE}
-use Rattle.kl1_host_web.specs.Telling.{shown, text_data, lines_data, IsReply, IsLoad, IsSyntax, IsNamed, number_data, IsShoens}
+use Rattle.kl1_host_web.specs.Telling.{shown, text_data, lines_data, IsReply, IsLoad, IsSyntax, IsNamed, number_data, IsShoens, IsView, IsWait}
 use Rattle.kl1_host_web.specs.Beginning.{IsWelcome}
 
 -- ---- bytes as texts
@@ -97,29 +98,41 @@ texts_float : (ls : List (List ℕ)) → items_have_float (items_of (map text_da
 texts_float [] = refl
 texts_float (l ∷ ls) = texts_float ls
 
-pub reply_is : (performed : Performed) (cookie : Cookie) (v : Value) (result : Result Answer AllocError) → view v ≡ object (member (codes "reply") (lines_data (told performed)) no_members) → IfOk result (λ answer. (answer.status ≡ Good) × (answer.cookie ≡ cookie)) → IfOk result (λ answer. has_float (view v) ≡ false → answer.body.items ≡ compact_text (view v)) → IfOk result (IsReply performed cookie)
-reply_is performed cookie v (Ok answer) built head text =
+pub reply_is : (performed : Performed) (cookie : Cookie) (v : Value) (result : Result Answer AllocError) → view v ≡ object (member (codes "reply") (lines_data (told performed)) no_members) → IfOk result (λ answer. (answer.status ≡ Good) × (answer.cookie ≡ cookie)) → IfOk result (λ answer. answer.content ≡ Json) → IfOk result (λ answer. has_float (view v) ≡ false → answer.body.items ≡ compact_text (view v)) → IfOk result (IsReply performed cookie)
+reply_is performed cookie v (Ok answer) built head content text =
     let none : has_float (view v) ≡ false = ap has_float built ∙ rw (texts_float (lines_of (told performed)).whole) refl in
-    record { status = head.0; cookie_is = head.1; text = text none ∙ ap compact_text built }
-reply_is performed cookie v (Err e) built head text = tt
+    record { status = head.0; content = content; cookie_is = head.1; text = text none ∙ ap compact_text built }
+reply_is performed cookie v (Err e) built head content text = tt
 
-pub load_is : (performed : Performed) (v : Value) (reasons : Items) (result : Result Answer AllocError) → view v ≡ object (member (codes "reasons") (array reasons) (member (codes "reply") (lines_data (told performed)) no_members)) → items_have_float reasons ≡ false → IfOk result (λ answer. (answer.status ≡ Good) × (answer.cookie ≡ Kept)) → IfOk result (λ answer. has_float (view v) ≡ false → answer.body.items ≡ compact_text (view v)) → IfOk result (IsLoad performed)
-load_is performed v reasons (Ok answer) built exact head text =
+pub load_is : (performed : Performed) (v : Value) (reasons : Items) (result : Result Answer AllocError) → view v ≡ object (member (codes "reasons") (array reasons) (member (codes "reply") (lines_data (told performed)) no_members)) → items_have_float reasons ≡ false → IfOk result (λ answer. (answer.status ≡ Good) × (answer.cookie ≡ Kept)) → IfOk result (λ answer. answer.content ≡ Json) → IfOk result (λ answer. has_float (view v) ≡ false → answer.body.items ≡ compact_text (view v)) → IfOk result (IsLoad performed)
+load_is performed v reasons (Ok answer) built exact head content text =
     let none : has_float (view v) ≡ false = ap has_float built ∙ rw (exact, texts_float (lines_of (told performed)).whole) refl in
-    record { status = head.0; cookie_is = head.1; reasons = reasons; text = text none ∙ ap compact_text built }
-load_is performed v reasons (Err e) built exact head text = tt
+    record { status = head.0; content = content; cookie_is = head.1; reasons = reasons; text = text none ∙ ap compact_text built }
+load_is performed v reasons (Err e) built exact head content text = tt
 
-pub syntax_is : (v : Value) (result : Result Answer AllocError) → view v ≡ object (member (codes "reply") (array (item (string (codes "- 1 syntax")) no_items)) no_members) → IfOk result (λ answer. (answer.status ≡ Good) × (answer.cookie ≡ Kept)) → IfOk result (λ answer. has_float (view v) ≡ false → answer.body.items ≡ compact_text (view v)) → IfOk result IsSyntax
-syntax_is v (Ok answer) built head text = record { status = head.0; cookie_is = head.1; text = text (ap has_float built) ∙ ap compact_text built }
-syntax_is v (Err e) built head text = tt
+pub syntax_is : (v : Value) (result : Result Answer AllocError) → view v ≡ object (member (codes "reply") (array (item (string (codes "- 1 syntax")) no_items)) no_members) → IfOk result (λ answer. (answer.status ≡ Good) × (answer.cookie ≡ Kept)) → IfOk result (λ answer. answer.content ≡ Json) → IfOk result (λ answer. has_float (view v) ≡ false → answer.body.items ≡ compact_text (view v)) → IfOk result IsSyntax
+syntax_is v (Ok answer) built head content text = record { status = head.0; content = content; cookie_is = head.1; text = text (ap has_float built) ∙ ap compact_text built }
+syntax_is v (Err e) built head content text = tt
 
-pub welcome_is : (names : ℕ → List ℕ) (session : WebSession) (v : Value) (result : Result Answer AllocError) → view v ≡ object (member (codes "name") (string (shown (names session.account))) (member (codes "token") (string (shown session.token)) no_members)) → IfOk result (λ answer. (answer.status ≡ Good) × (answer.cookie ≡ Set session.id)) → IfOk result (λ answer. has_float (view v) ≡ false → answer.body.items ≡ compact_text (view v)) → IfOk result (IsWelcome names session)
-welcome_is names session v (Ok answer) built head text = record { status = head.0; cookie = head.1; text = text (ap has_float built) ∙ ap compact_text built }
-welcome_is names session v (Err e) built head text = tt
+pub welcome_is : (names : ℕ → List ℕ) (session : WebSession) (v : Value) (result : Result Answer AllocError) → view v ≡ object (member (codes "name") (string (shown (names session.account))) (member (codes "token") (string (shown session.token)) no_members)) → IfOk result (λ answer. (answer.status ≡ Good) × (answer.cookie ≡ Set session.id)) → IfOk result (λ answer. answer.content ≡ Json) → IfOk result (λ answer. has_float (view v) ≡ false → answer.body.items ≡ compact_text (view v)) → IfOk result (IsWelcome names session)
+welcome_is names session v (Ok answer) built head content text = record { status = head.0; content = content; cookie = head.1; text = text (ap has_float built) ∙ ap compact_text built }
+welcome_is names session v (Err e) built head content text = tt
 
-pub named_is : (name : List ℕ) (v : Value) (result : Result Answer AllocError) → view v ≡ object (member (codes "name") (string (shown name)) no_members) → IfOk result (λ answer. (answer.status ≡ Good) × (answer.cookie ≡ Kept)) → IfOk result (λ answer. has_float (view v) ≡ false → answer.body.items ≡ compact_text (view v)) → IfOk result (IsNamed name)
-named_is name v (Ok answer) built head text = record { status = head.0; cookie_is = head.1; text = text (ap has_float built) ∙ ap compact_text built }
-named_is name v (Err e) built head text = tt
+pub named_is : (name : List ℕ) (v : Value) (result : Result Answer AllocError) → view v ≡ object (member (codes "name") (string (shown name)) no_members) → IfOk result (λ answer. (answer.status ≡ Good) × (answer.cookie ≡ Kept)) → IfOk result (λ answer. answer.content ≡ Json) → IfOk result (λ answer. has_float (view v) ≡ false → answer.body.items ≡ compact_text (view v)) → IfOk result (IsNamed name)
+named_is name v (Ok answer) built head content text = record { status = head.0; content = content; cookie_is = head.1; text = text (ap has_float built) ∙ ap compact_text built }
+named_is name v (Err e) built head content text = tt
+
+-- ---- views
+
+-- the answer of a value that keeps the cookie
+pub view_is : (status : Status) (result : Result Answer AllocError) → IfOk result (λ answer. (answer.status ≡ status) × (answer.cookie ≡ Kept)) → IfOk result (λ answer. answer.content ≡ Json) → IfOk result IsView
+view_is status (Ok answer) head content = (content, head.1)
+view_is status (Err e) head content = tt
+
+-- one that says to try again
+pub wait_is : (result : Result Answer AllocError) → IfOk result (λ answer. (answer.status ≡ Unavailable) × (answer.cookie ≡ Kept)) → IfOk result (λ answer. answer.content ≡ Json) → IfOk result IsWait
+wait_is (Ok answer) head content = (head.0, (content, head.1))
+wait_is (Err e) head content = tt
 
 -- ---- reasons, of which none has a float
 
@@ -146,8 +159,8 @@ number_float : (o : Option ShoenView) → has_float (number_data o) ≡ false
 number_float None = refl
 number_float (Some view) = refl
 
-pub shoens_are : (lists : ℕ → ℕ → List ShoenView → Type 0) (from : ℕ) (views : List ShoenView) (shoens : Items) (v : Value) (result : Result Answer AllocError) → lists from (suc SHOENS_A_PAGE) views → view v ≡ object (member (codes "next") (number_data (slice_get views SHOENS_A_PAGE)) (member (codes "shoens") (array shoens) no_members)) → items_have_float shoens ≡ false → IfOk result (λ answer. (answer.status ≡ Good) × (answer.cookie ≡ Kept)) → IfOk result (λ answer. has_float (view v) ≡ false → answer.body.items ≡ compact_text (view v)) → IfOk result (IsShoens lists from)
-shoens_are lists from views shoens v (Ok answer) listed built exact head text =
+pub shoens_are : (lists : ℕ → ℕ → List ShoenView → Type 0) (from : ℕ) (views : List ShoenView) (shoens : Items) (v : Value) (result : Result Answer AllocError) → lists from (suc SHOENS_A_PAGE) views → view v ≡ object (member (codes "next") (number_data (slice_get views SHOENS_A_PAGE)) (member (codes "shoens") (array shoens) no_members)) → items_have_float shoens ≡ false → IfOk result (λ answer. (answer.status ≡ Good) × (answer.cookie ≡ Kept)) → IfOk result (λ answer. answer.content ≡ Json) → IfOk result (λ answer. has_float (view v) ≡ false → answer.body.items ≡ compact_text (view v)) → IfOk result (IsShoens lists from)
+shoens_are lists from views shoens v (Ok answer) listed built exact head content text =
     let none : has_float (view v) ≡ false = ap has_float built ∙ rw (number_float (slice_get views SHOENS_A_PAGE), exact) refl in
-    record { views = views; listed = listed; status = head.0; cookie_is = head.1; shoens = shoens; text = text none ∙ ap compact_text built }
-shoens_are lists from views shoens v (Err e) listed built exact head text = tt
+    record { views = views; listed = listed; status = head.0; content = content; cookie_is = head.1; shoens = shoens; text = text none ∙ ap compact_text built }
+shoens_are lists from views shoens v (Err e) listed built exact head content text = tt

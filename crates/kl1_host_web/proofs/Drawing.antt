@@ -1,5 +1,5 @@
 -- Bytes in base64, in a text that they fill.
-use Rattle.std.proofs.Common.{◌≡◌, ◌≤◌, ℕ, nat_le, Bool, true, false, List, ◌++◌, length, drop, Result, Ok, ap, sym, ◌∙◌, refl, append-nil, arith}
+use Rattle.std.proofs.Common.{◌≡◌, ◌≤◌, ℕ, nat_le, Bool, true, false, List, ◌++◌, length, drop, Result, Ok, ap, ◌∙◌, refl, append-nil, arith}
 use Rattle.std.proofs.lemmas.List.{drop_all}
 use Rattle.base64.specs.GeneralPurpose.{encode_of}
 use Rattle.base64.specs.declared.engine.general_purpose.GeneralPurpose.{GeneralPurpose}

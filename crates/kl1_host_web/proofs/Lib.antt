@@ -6,3 +6,4 @@ pub mod Ending
 pub mod Wanting
 pub mod Serving
 pub mod Doing
+pub mod Writing

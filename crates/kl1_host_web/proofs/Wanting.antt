@@ -1,5 +1,5 @@
 -- Of which account something is wanted.
-use Rattle.std.proofs.Common.{◌≡◌, ◌<◌, ℕ, nat_lt, Bool, true, false, if◌then◌else◌, List, codes, Option, Some, None, Result, Ok, Err, IfOk, refl, ap, sym, subst, ◌∙◌, arith}
+use Rattle.std.proofs.Common.{◌≡◌, ◌<◌, ℕ, nat_lt, Bool, true, false, if◌then◌else◌, List, codes, Option, Some, None, Result, Ok, Err, IfOk, refl, ap, sym, subst, ◌∙◌, inl, inr, arith}
 use Rattle.serde_json.specs.declared.value.Value.{Value}
 use Rattle.kl1_model_server.specs.Command.{Command, parse}
 use Rattle.kl1_host_door.specs.declared.refusal.Refusal.TheVariants.{BadBody}
@@ -11,13 +11,13 @@ use Rattle.kl1_host_door.specs.declared.answer.Content.{Content}
 use Rattle.kl1_host_door.specs.declared.door.Allowed.{Allowed}
 use Rattle.kl1_host_door.specs.declared.door.Allowed.TheVariants as allowed
 use Rattle.kl1_host_web.specs.Wishes.{Wanted, refuse, syntax, enter, do_to, load_into, wish_view, text_in, is_plain, plain, command_in, owned, anyone, wanted, IsWish}
-use Rattle.kl1_host_web.specs.Asking.{House}
-use Rattle.kl1_host_web.specs.Telling.{IsOfOne, IsTold, Tells, IsOpenedIn, Refuses, IsRefusal, KeepsCookie, IsFile, IsPage, ShowsAll, IsShown}
+use Rattle.kl1_host_web.specs.Telling.{IsOfOne, IsTold, IsWait, Tells, IsOpenedIn, Refuses, Enters, IsRefusal, KeepsCookie, IsFile, IsPage, ShowsAll, IsShown}
 use Rattle.kl1_host_web.specs.Serving.{is_within}
 use Rattle.kl1_host_web.specs.declared.wish.Wish.{Wish}
 use Rattle.kl1_host_web.specs.declared.outcome.Outcome.{Outcome}
 use Rattle.kl1_host_web.specs.declared.outcome.Outcome.TheVariants as outcome
 use Rattle.kl1_host_door.specs.declared.refusal.Refusal.{Refusal}
+use Rattle.kl1_host_door.specs.declared.refusal.Refusal.TheVariants.{ManySessions}
 
 -- ---- what is wanted by a request that is let in is of no account, or of that of its session
 
@@ -81,25 +81,36 @@ of_wish n a body w e h = subst (IsOfOne n) (sym h.2) (of_wanted n a h.0 e)
 
 -- ---- a session of a browser begins only of an account that there is
 
-pub told_opens : (n : House) (o : Outcome) → IsTold o → IsOpenedIn n o
+pub told_opens : (n : ℕ) (o : Outcome) → IsTold o → IsOpenedIn n o
 told_opens n (outcome.Told answer) t = tt
 told_opens n (outcome.Opens account) t = absurd t
 told_opens n (outcome.Closes answer) t = tt
 
-pub tells_opens : (n : House) (of : Answer → Type 0) (o : Outcome) → Tells of o → IsOpenedIn n o
+pub tells_opens : (n : ℕ) (of : Answer → Type 0) (o : Outcome) → Tells of o → IsOpenedIn n o
 tells_opens n of (outcome.Told answer) t = tt
 tells_opens n of (outcome.Opens account) t = absurd t
 tells_opens n of (outcome.Closes answer) t = tt
 
-pub refused_opens : (n : House) (why : Refusal) (o : Outcome) → Refuses why o → IsOpenedIn n o
+pub refused_opens : (n : ℕ) (why : Refusal) (o : Outcome) → Refuses why o → IsOpenedIn n o
 refused_opens n why (outcome.Told answer) t = tt
 refused_opens n why (outcome.Opens account) t = absurd t
 refused_opens n why (outcome.Closes answer) t = tt
 
-pub shown_opens : (n : House) (a : Ask) (path : List ℕ) (o : Outcome) → IsShown a path o → IsOpenedIn n o
+pub shown_opens : (n : ℕ) (a : Ask) (path : List ℕ) (o : Outcome) → IsShown a path o → IsOpenedIn n o
 shown_opens n a path (outcome.Told answer) t = tt
 shown_opens n a path (outcome.Opens account) t = absurd t
 shown_opens n a path (outcome.Closes answer) t = tt
+
+-- ---- a login that isn't answered by `welcome` is refused, or told to try again
+
+pub enters_refused : (account : ℕ) (v : Bool) (result : Result Outcome AllocError) → v ≡ false → IfOk result (Refuses ManySessions) → IfOk result (Enters v account)
+enters_refused account true result e h = absurd (cc)
+enters_refused account false (Ok o) e h = inl h
+enters_refused account false (Err x) e h = tt
+
+pub enters_later : (account : ℕ) (v : Bool) (answer : Answer) → v ≡ false → IsWait answer → Enters v account (outcome.Told answer)
+enters_later account true answer e h = absurd (cc)
+enters_later account false answer e h = inr h
 
 -- ---- what there is at a path
 

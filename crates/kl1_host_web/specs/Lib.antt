@@ -4,3 +4,4 @@ pub mod Telling
 pub mod Beginning
 pub mod Records
 pub mod Serving
+pub mod Writing

@@ -1,6 +1,7 @@
 -- What the requests of a connection come to, one after another, and what accounts are asked for each.
-use Rattle.std.specs.Prelude.{◌≡◌, ◌<◌, ◌≤◌, ◌-◌, ◌⊎◌, ⊤, ℕ, nat_lt, Bool, true, false, if◌then◌else◌, ◌++◌, List, [], ◌∷◌, length, Option, Some, None, Result, Ok, Err, IfOk, IsErr, All}
+use Rattle.std.specs.Prelude.{◌≡◌, ◌<◌, ◌≤◌, ◌-◌, ◌^◌, ◌⊎◌, ⊤, ℕ, ◌==◌, nat_lt, Bool, true, false, not, if◌then◌else◌, ◌++◌, List, [], ◌∷◌, length, map, bytes_eq, codes, Option, Some, None, Result, Ok, Err, IfOk, IsErr}
 use Rattle.std.specs.declared.alloc.AllocError.{AllocError}
+use Rattle.std.specs.Char.{to_ascii_lowercase}
 use Rattle.std.specs.Io.KnownBytes.{Consumes}
 use Rattle.serde_json.specs.declared.value.Value.{Value}
 use Rattle.kl1_model.specs.Event as event
@@ -18,13 +19,12 @@ use Rattle.kl1_host_door.specs.declared.door.Allowed.TheVariants as allowed
 use Rattle.kl1_host_door.specs.declared.head.Head.{Head}
 use Rattle.kl1_host_door.specs.Heads.{IsHead}
 use Rattle.kl1_host_door.specs.Bodies.{body_bytes, may_send}
+use Rattle.kl1_host_door.specs.Fields.{value_of}
 use Rattle.kl1_host_door.specs.Doors.{authorized, is_secure}
 use Rattle.kl1_host_door.specs.declared.book.SessionTest.TheVariants as test
-use Rattle.kl1_host_door.specs.declared.book.BookStep.TheVariants.{Takes}
-use Rattle.kl1_host_door.specs.Sessions.{IsOpened}
+use Rattle.kl1_host_door.specs.declared.book.BookStep.TheVariants.{Takes, Looks}
 use Rattle.kl1_host_door.specs.Books.{passes, first_of, seen_by}
-use Rattle.kl1_session.specs.Doors.{Opens}
-use Rattle.kl1_host_web.specs.Asking.{Asked, did, changed, House}
+use Rattle.kl1_host_web.specs.Asking.{Asked, did, changed, let_in, House}
 use Rattle.kl1_host_web.specs.Wishes.{IsRead, wanted}
 use Rattle.kl1_host_web.specs.Telling.{Grants, IsRefusal}
 use Rattle.kl1_host_web.specs.Beginning.{Begun}
@@ -72,17 +72,38 @@ pub record EndsIdle (tells : ℕ → Type 0) (idle account n : ℕ) (before afte
   pub none : Seeks tells idle account None note
   pub rest : after ≡ middle ++ note ∷ []
 
+-- the book of sessions was searched for one of an account; this, the first there is, was found, and this was noted
+pub record SeeksOf (account : ℕ) (found : Option WebSession) (note : Asked) : Type 0 where
+  pub sessions : List WebSession
+  pub is_first : found ≡ first_of (passes (test.IsOf account)) sessions
+  pub noted : note ≡ changed (Takes (test.IsOf account)) sessions
+
+-- sessions of an account were taken out of the book one after another, here the last of them first
+abbrev pub ForgetsEach : ℕ → List WebSession → List Asked → List Asked → Type 0
+ForgetsEach account [] before after = after ≡ before
+ForgetsEach account (s ∷ earlier) before after =
+    (middle : List Asked) × (note : Asked) × ForgetsEach account earlier before middle × SeeksOf account (Some s) note × (after ≡ middle ++ note ∷ [])
+
+-- the sessions of an account were taken out of the book until none was found, so many of them; nothing else was asked
+pub record Forgets (account count : ℕ) (before after : List Asked) : Type 0 where
+  pub found : List WebSession
+  pub middle : List Asked
+  pub each : ForgetsEach account found before middle
+  pub counted : count < 2 ^ 64 - 1 → count ≡ length found
+  pub note : Asked
+  pub none : SeeksOf account None note
+  pub rest : after ≡ middle ++ note ∷ []
+
 -- ---- one request that is let in
 
--- what a request of this head may have was looked up in the book of sessions, of which each was opened by a name and a key that let in to its
--- account, at a second that the machine told: a session whose last request is more than `idle` seconds before it lets in nobody. If the request
--- is of one of them, that was noted there.
-pub record Admits (tells : ℕ → Type 0) (opens : Opens) (idle : ℕ) (sites : List Site) (is_local : Bool) (head : Head) (before after : List Asked) (result : Result Allowed Refusal) : Type 0 where
+-- what a request of this head may have was looked up in the book of sessions, which had these, at a second that the machine told: a session lets in
+-- nobody whose last request is more than `idle` seconds before it, or whose account doesn't have the key by which it was opened. If the request is of
+-- one of them, that was noted there.
+pub record Admits (tells : ℕ → Type 0) (house : House) (idle : ℕ) (sites : List Site) (is_local : Bool) (head : Head) (before after : List Asked) (result : Result Allowed Refusal) : Type 0 where
   pub second : ℕ
   pub told : tells second
   pub sessions : List WebSession
-  pub opened : All (IsOpened opens) sessions
-  pub is : result ≡ authorized head sessions sites is_local (second - idle)
+  pub is : result ≡ authorized head sessions sites is_local (second - idle) house.entries
   pub noted : after ≡ before ++ changed (seen_by second result) sessions ∷ []
 
 -- the session by which a request was let in is taken out of the book, which has these; nothing is if it was let in by none
@@ -92,11 +113,11 @@ closing (allowed.Owner id account a) sessions = changed (Takes (test.IsCalled id
 
 -- what is still asked after a request was granted, and its answer: only the session of a browser may still begin, or that by which the
 -- request was let in end
-abbrev pub Ends : (ℕ → Type 0) → (List ℕ → Type 0) → (ℕ → List ℕ) → Allowed → Result Outcome AllocError → List Asked → List Asked → Result Answer AllocError → Type 0
-Ends tells gives names a (Err e) before after result = (after ≡ before) × IsErr result
-Ends tells gives names a (Ok (outcome.Told answer)) before after result = (after ≡ before) × (result ≡ Ok answer)
-Ends tells gives names a (Ok (outcome.Opens account)) before after result = Begun tells gives names account before after result
-Ends tells gives names a (Ok (outcome.Closes answer)) before after result =
+abbrev pub Ends : (ℕ → Type 0) → (List ℕ → Type 0) → House → Allowed → Result Outcome AllocError → List Asked → List Asked → Result Answer AllocError → Type 0
+Ends tells gives house a (Err e) before after result = (after ≡ before) × IsErr result
+Ends tells gives house a (Ok (outcome.Told answer)) before after result = (after ≡ before) × (result ≡ Ok answer)
+Ends tells gives house a (Ok (outcome.Opens account)) before after result = Begun tells gives house account before after result
+Ends tells gives house a (Ok (outcome.Closes answer)) before after result =
     (sessions : List WebSession) × (after ≡ before ++ closing a sessions) × (result ≡ answer)
 
 -- what a request wants by its body was granted, and it was answered so
@@ -106,7 +127,7 @@ pub record Performs (tells : ℕ → Type 0) (gives : List ℕ → Type 0) (hous
   pub outcome : Result Outcome AllocError
   pub middle : List Asked
   pub grants : Grants house path (wanted a value) before middle outcome
-  pub ends : Ends tells gives house.names a outcome middle after result
+  pub ends : Ends tells gives house a outcome middle after result
 
 -- memory was refused before anything was asked
 pub record Fails (before after : List Asked) (result : Result Answer AllocError) : Type 0 where
@@ -180,13 +201,25 @@ pub record HasBody (n : ℕ) (body : List ℕ) (old new : Option (List ℕ)) : T
 
 -- ---- the requests of a connection
 
--- whether a body of n bytes is read after a head was looked up in the book of sessions: who isn't let in has no long one read
-pub record LooksAt (tells : ℕ → Type 0) (opens : Opens) (idle : ℕ) (sites : List Site) (is_local : Bool) (head : Head) (n : ℕ) (result : Result Bool Refusal) : Type 0 where
+-- whether a body of n bytes is read after a head was looked up in the book of sessions, which had these: who isn't let in has no long one read
+pub record LooksUp (tells : ℕ → Type 0) (house : House) (idle : ℕ) (sites : List Site) (is_local : Bool) (head : Head) (n : ℕ) (before after : List Asked) (result : Result Bool Refusal) : Type 0 where
   pub second : ℕ
   pub told : tells second
   pub sessions : List WebSession
-  pub opened : All (IsOpened opens) sessions
-  pub is : result ≡ may_send n (authorized head sessions sites is_local (second - idle))
+  pub is : result ≡ may_send n (authorized head sessions sites is_local (second - idle) house.entries)
+  pub noted : after ≡ before ++ changed Looks sessions ∷ []
+
+-- that a request was let in was told, if it was
+abbrev pub TellsIn : Result Bool Refusal → List Asked → List Asked → Type 0
+TellsIn (Ok true) before after = after ≡ before ++ let_in ∷ []
+TellsIn (Ok false) before after = after ≡ before
+TellsIn (Err why) before after = after ≡ before
+
+-- it was looked up whether a body is read, and told of those requests that were let in
+pub record LooksAt (tells : ℕ → Type 0) (house : House) (idle : ℕ) (sites : List Site) (is_local : Bool) (head : Head) (n : ℕ) (before after : List Asked) (result : Result Bool Refusal) : Type 0 where
+  pub looked : List Asked
+  pub looks : LooksUp tells house idle sites is_local head n before looked result
+  pub tells_in : TellsIn result looked after
 
 -- a request by its head and its body, and what was answered; without memory for an answer nothing
 pub record Exchange : Type 0 where
@@ -207,15 +240,30 @@ pub record IsNext (x : Exchange) (old new : Option (List ℕ)) : Type 0 where
 pub record Attends (tells : ℕ → Type 0) (gives : List ℕ → Type 0) (idle : ℕ) (house : House) (sites : List Site) (is_local : Bool) (head : Head) (body : List ℕ) (before after : List Asked) (result : Result Answer AllocError) : Type 0 where
   pub admitted : List Asked
   pub may_have : Result Allowed Refusal
-  pub admits : Admits tells house.opens idle sites is_local head before admitted may_have
+  pub admits : Admits tells house idle sites is_local head before admitted may_have
   pub answers : Answers tells gives house may_have head.target.items body admitted after result
+
+-- whether a field's value is this word; small and capital letters are the same
+abbrev pub is_word : List ℕ → List ℕ → Bool
+is_word word value = bytes_eq (map to_ascii_lowercase value) (map to_ascii_lowercase word)
+
+-- whether a connection goes on after an answer to this head, by its version and by what it says. It doesn't after a HEAD: who asks so takes what comes
+-- after the answer's head for the next answer.
+abbrev pub goes_on : Head → Bool
+goes_on head =
+    if bytes_eq head.method.items (codes "HEAD") then false
+    else elim (value_of (codes "connection") head.fields.items) [
+      | None ↦ head.minor == 1
+      | Some value ↦ if head.minor == 1 then not (is_word (codes "close") value) else is_word (codes "keep-alive") value
+    ]
 
 -- the next request was read, its body after it was looked up whether that is read, and attended to
 pub record Exchanges (tells : ℕ → Type 0) (gives : List ℕ → Type 0) (idle : ℕ) (house : House) (sites : List Site) (is_local : Bool) (x : Exchange) (old new : Option (List ℕ)) (before after : List Asked) : Type 0 where
   pub next : IsNext x old new
   pub is_in : Bool
-  pub looks : LooksAt tells house.opens idle sites is_local x.head (length x.body) (Ok is_in)
-  pub attends : Attends tells gives idle house sites is_local x.head x.body before after x.answer
+  pub looked : List Asked
+  pub looks : LooksAt tells house idle sites is_local x.head (length x.body) before looked (Ok is_in)
+  pub attends : Attends tells gives idle house sites is_local x.head x.body looked after x.answer
 
 -- requests were read one after another, here the last of them first, and attended to; accounts were asked nothing else
 abbrev pub Serves : (ℕ → Type 0) → (List ℕ → Type 0) → ℕ → House → List Site → Bool → List Exchange → Option (List ℕ) → Option (List ℕ) → List Asked → List Asked → Type 0
@@ -225,23 +273,33 @@ Serves tells gives idle house sites is_local (x ∷ earlier) old new before afte
     × Serves tells gives idle house sites is_local earlier old middle before asked × Exchanges tells gives idle house sites is_local x middle new asked after
 
 -- bytes that aren't read yet begin with a head that tells the length of a body, which isn't read for this reason: the others are left
-pub record KeepsOut (tells : ℕ → Type 0) (opens : Opens) (idle : ℕ) (sites : List Site) (is_local : Bool) (why : Refusal) (old new : Option (List ℕ)) : Type 0 where
+pub record KeepsOut (tells : ℕ → Type 0) (house : House) (idle : ℕ) (sites : List Site) (is_local : Bool) (why : Refusal) (old new : Option (List ℕ)) (before after : List Asked) : Type 0 where
   pub bytes : List ℕ
   pub head : Head
   pub count : ℕ
   pub is : IsHead bytes head
   pub consumes : Consumes old new bytes
   pub told : body_bytes head ≡ Ok count
-  pub looks : LooksAt tells opens idle sites is_local head count (Err why)
+  pub looks : LooksAt tells house idle sites is_local head count before after (Err why)
 
--- what became of the next request: it was read and attended to, of a page that came by https or not; or it can't be read for this reason, or
--- nothing more comes, and accounts were asked nothing; if memory was refused, either
+-- why the next request isn't attended to: it can't be read, and nothing was asked; or its body isn't read
+abbrev pub IsUnread : (ℕ → Type 0) → House → ℕ → List Site → Bool → Refusal → Option (List ℕ) → Option (List ℕ) → List Asked → List Asked → Type 0
+IsUnread tells house idle sites is_local why old new before after =
+    ((after ≡ before) × (HasNoHead why old ⊎ HasNoBody why old)) ⊎ KeepsOut tells house idle sites is_local why old new before after
+
+-- nothing was asked; or a head came whose body is read, as it was looked up, and no more came, or memory was refused for what did
+abbrev pub AsksNoMore : (ℕ → Type 0) → House → ℕ → List Site → Bool → List Asked → List Asked → Type 0
+AsksNoMore tells house idle sites is_local before after =
+    (after ≡ before) ⊎ ((head : Head) × (n : ℕ) × (is_in : Bool) × LooksAt tells house idle sites is_local head n before after (Ok is_in))
+
+-- what became of the next request: it was read and attended to, of a page that came by https or not, and the connection goes on or not; or it isn't
+-- attended to for this reason, or nothing more comes; if memory was refused, either
 abbrev pub Steps : (ℕ → Type 0) → (List ℕ → Type 0) → ℕ → House → List Site → Bool → Option (List ℕ) → Option (List ℕ) → List Asked → List Asked → Result Served AllocError → Type 0
-Steps tells gives idle house sites is_local old new before after (Ok (served.Answered answer secure goes_on)) =
-    (head : Head) × (body : List ℕ) × (secure ≡ is_secure head sites) × Exchanges tells gives idle house sites is_local (record { head = head; body = body; answer = Ok answer }) old new before after
-Steps tells gives idle house sites is_local old new before after (Ok (served.Refused why)) =
-    (after ≡ before) × (HasNoHead why old ⊎ (HasNoBody why old ⊎ KeepsOut tells house.opens idle sites is_local why old new))
-Steps tells gives idle house sites is_local old new before after (Ok served.Ended) = after ≡ before
+Steps tells gives idle house sites is_local old new before after (Ok (served.Answered answer secure on)) =
+    (head : Head) × (body : List ℕ) × (secure ≡ is_secure head sites) × (on ≡ goes_on head)
+    × Exchanges tells gives idle house sites is_local (record { head = head; body = body; answer = Ok answer }) old new before after
+Steps tells gives idle house sites is_local old new before after (Ok (served.Refused why)) = IsUnread tells house idle sites is_local why old new before after
+Steps tells gives idle house sites is_local old new before after (Ok served.Ended) = AsksNoMore tells house idle sites is_local before after
 Steps tells gives idle house sites is_local old new before after (Err e) =
-    (after ≡ before)
+    AsksNoMore tells house idle sites is_local before after
     ⊎ ((head : Head) × (body : List ℕ) × Exchanges tells gives idle house sites is_local (record { head = head; body = body; answer = Err e }) old new before after)

@@ -1,5 +1,5 @@
 -- What becomes of what is wanted.
-use Rattle.std.specs.Prelude.{◌≡◌, ◌<◌, ℕ, suc, Bool, true, false, if◌then◌else◌, ⊤, ◌++◌, List, [], ◌∷◌, map, codes, Option, Some, None, slice_get, Result, IfOk, IsOkAnd}
+use Rattle.std.specs.Prelude.{◌≡◌, ◌⊎◌, ◌<◌, ℕ, suc, Bool, true, false, if◌then◌else◌, ⊤, ◌++◌, List, [], ◌∷◌, map, codes, Option, Some, None, slice_get, Result, IfOk, IsOkAnd}
 use Rattle.std.specs.Str.{is_utf8}
 use Rattle.serde_json.specs.Data.{Data, null, number, unsigned, string, array, object, Items, no_items, item, member, no_members}
 use Rattle.serde_json.specs.View.{items_of}
@@ -19,11 +19,11 @@ use Rattle.kl1_host_door.specs.declared.refusal.Refusal.{Refusal}
 use Rattle.kl1_host_door.specs.declared.refusal.Refusal.TheVariants as refusal
 use Rattle.kl1_host_door.specs.declared.answer.Answer.{Answer}
 use Rattle.kl1_host_door.specs.declared.answer.Content.{Content}
+use Rattle.kl1_host_door.specs.declared.answer.Content.TheVariants.{Json}
 use Rattle.kl1_host_door.specs.declared.answer.Cookie.{Cookie}
 use Rattle.kl1_host_door.specs.declared.answer.Cookie.TheVariants.{Kept, Cleared}
-use Rattle.kl1_host_door.specs.declared.status.Status.TheVariants.{Good}
+use Rattle.kl1_host_door.specs.declared.status.Status.TheVariants.{Good, Unavailable}
 use Rattle.kl1_host_door.specs.Refusals.{status_of, words_of}
-use Rattle.kl1_host_door.specs.Sessions.{LetsIn}
 use Rattle.kl1_host_page.specs.Files.{file_at}
 use Rattle.kl1_host_web.specs.Asking.{Asked, did, looked, House}
 use Rattle.kl1_host_web.specs.Wishes.{Wanted, refuse, syntax, enter, leave, do_to, load_into, tell, show_of, show_all}
@@ -37,6 +37,7 @@ refusal_text why = compact_text (object (member (codes "error") (string (words_o
 -- an answer that refuses for this reason
 pub record IsRefusal (why : Refusal) (answer : Answer) : Type 0 where
   pub status : answer.status ≡ status_of why
+  pub content : answer.content ≡ Json
   pub cookie : answer.cookie ≡ Kept
   pub text : answer.body.items ≡ refusal_text why
 
@@ -59,12 +60,14 @@ lines_data text = array (items_of (map text_data (lines_of text).whole))
 -- an answer tells what is told of a command, and nothing else
 pub record IsReply (performed : Performed) (cookie : Cookie) (answer : Answer) : Type 0 where
   pub status : answer.status ≡ Good
+  pub content : answer.content ≡ Json
   pub cookie_is : answer.cookie ≡ cookie
   pub text : answer.body.items ≡ compact_text (object (member (codes "reply") (lines_data (told performed)) no_members))
 
 -- an answer tells what is told of a load, beside the reasons why it is refused
 pub record IsLoad (performed : Performed) (answer : Answer) : Type 0 where
   pub status : answer.status ≡ Good
+  pub content : answer.content ≡ Json
   pub cookie_is : answer.cookie ≡ Kept
   pub reasons : Items
   pub text : answer.body.items ≡ compact_text (object (member (codes "reasons") (array reasons) (member (codes "reply") (lines_data (told performed)) no_members)))
@@ -72,6 +75,7 @@ pub record IsLoad (performed : Performed) (answer : Answer) : Type 0 where
 -- an answer tells that a line is no command
 pub record IsSyntax (answer : Answer) : Type 0 where
   pub status : answer.status ≡ Good
+  pub content : answer.content ≡ Json
   pub cookie_is : answer.cookie ≡ Kept
   pub text : answer.body.items ≡ compact_text (object (member (codes "reply") (array (item (string (codes "- 1 syntax")) no_items)) no_members))
 
@@ -85,6 +89,7 @@ pub record IsShoens (lists : ℕ → ℕ → List ShoenView → Type 0) (from : 
   pub views : List ShoenView
   pub listed : lists from (suc SHOENS_A_PAGE) views
   pub status : answer.status ≡ Good
+  pub content : answer.content ≡ Json
   pub cookie_is : answer.cookie ≡ Kept
   pub shoens : Items
   pub text : answer.body.items ≡ compact_text (object (member (codes "next") (number_data (slice_get views SHOENS_A_PAGE)) (member (codes "shoens") (array shoens) no_members)))
@@ -92,6 +97,7 @@ pub record IsShoens (lists : ℕ → ℕ → List ShoenView → Type 0) (from : 
 -- an answer tells what an account is called
 pub record IsNamed (name : List ℕ) (answer : Answer) : Type 0 where
   pub status : answer.status ≡ Good
+  pub content : answer.content ≡ Json
   pub cookie_is : answer.cookie ≡ Kept
   pub text : answer.body.items ≡ compact_text (object (member (codes "name") (string (shown name)) no_members))
 
@@ -101,11 +107,19 @@ Tells of (outcome.Told answer) = of answer
 Tells of (outcome.Opens account) = ⊥
 Tells of (outcome.Closes answer) = ⊥
 
--- an outcome is an answer alone: no session of a browser begins or ends, and its cookie stays
+-- an answer is in JSON, and leaves the cookie of a browser as it is
+abbrev pub IsView : Answer → Type 0
+IsView answer = (answer.content ≡ Json) × KeepsCookie answer
+
+-- an outcome is an answer in JSON alone: no session of a browser begins or ends, and its cookie stays
 abbrev pub IsTold : Outcome → Type 0
-IsTold (outcome.Told answer) = KeepsCookie answer
+IsTold (outcome.Told answer) = IsView answer
 IsTold (outcome.Opens account) = ⊥
 IsTold (outcome.Closes answer) = ⊥
+
+-- an answer says to try again: it keeps the cookie, and the browser's session with it
+abbrev pub IsWait : Answer → Type 0
+IsWait answer = (answer.status ≡ Unavailable) × IsView answer
 
 -- an outcome is an answer that refuses for this reason
 abbrev pub Refuses : Refusal → Outcome → Type 0
@@ -113,11 +127,11 @@ Refuses why (outcome.Told answer) = IsRefusal why answer
 Refuses why (outcome.Opens account) = ⊥
 Refuses why (outcome.Closes answer) = ⊥
 
--- if a session of a browser begins, it is of one of the accounts, to which a name and a key let in
-abbrev pub IsOpenedIn : House → Outcome → Type 0
-IsOpenedIn house (outcome.Told answer) = ⊤
-IsOpenedIn house (outcome.Opens account) = (account < house.accounts) × LetsIn house.opens account
-IsOpenedIn house (outcome.Closes answer) = ⊤
+-- if a session of a browser begins, it is of one of n accounts
+abbrev pub IsOpenedIn : ℕ → Outcome → Type 0
+IsOpenedIn n (outcome.Told answer) = ⊤
+IsOpenedIn n (outcome.Opens account) = account < n
+IsOpenedIn n (outcome.Closes answer) = ⊤
 
 -- an outcome is that the session of a browser ends, and with it its cookie, as it is told of the logout if there is memory for that
 abbrev pub IsClosed : Performed → Outcome → Type 0
@@ -151,7 +165,7 @@ IsShown a path (outcome.Closes answer) = ⊥
 -- a login was answered, by `welcome` or not: the session of a browser begins only after `welcome`
 abbrev pub Enters : Bool → ℕ → Outcome → Type 0
 Enters true account o = o ≡ outcome.Opens account
-Enters false account o = Refuses refusal.ManySessions o
+Enters false account o = Refuses refusal.ManySessions o ⊎ Tells IsWait o
 
 -- a logout was answered, by `bye` or not: the session of a browser ends after `bye`, also without memory, and only then
 abbrev pub Leaves : {E : Type 0} → Bool → Performed → Result Outcome E → Type 0

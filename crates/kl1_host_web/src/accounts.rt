@@ -3,10 +3,12 @@
 ghost use Rattle.std.specs.Prelude.{◌≡◌, ◌<◌, ◌++◌, ◌∷◌, [], ℕ, List, IfOk, IfSome, OnOk, ⊤};
 ghost use Rattle.kl1_command.specs.Commands.{command_view};
 ghost use Rattle.kl1_user_events.specs.declared.shoen_view.ShoenView.{ShoenView};
-ghost use Rattle.kl1_host_web.specs.Asking.{Asked, did, looked, changed, House};
+ghost use Rattle.kl1_session.specs.Views.{entries_view};
+ghost use Rattle.kl1_host_web.specs.Asking.{Asked, did, looked, changed, let_in, House};
 
 use kl1_command::{Command, Performed};
 use kl1_host_door::{BookChange, LoginKeys};
+use kl1_session::Key;
 use kl1_user_events::{Extent, GoalNo, GoalView, Presence, ShoenNo, ShoenView, Usage};
 use std::alloc::AllocError;
 
@@ -72,7 +74,7 @@ pub trait Viewer {
 pub trait Accounts {
     type Viewer: Viewer + Drop;
 
-    /// How many accounts there are, what they are called, whom names and keys let in, and what was done before.
+    /// How many accounts there are, what they are called, whom names and keys let in, by which keys, and what was done before.
     ghost house: { Self → House };
 
     /// What was asked of accounts, in order.
@@ -89,13 +91,19 @@ pub trait Accounts {
         ensures house { house self.new ≡ house self.old }
         ensures asked { asked self.new ≡ asked self.old };
 
+    /// The keys of the accounts.
+    fn keys(&self) -> &[Key]
+        ensures { entries_view result.now ≡ (house self.now).entries };
+
     /// Puts the name of an account after the bytes.
     fn put_name(&self, account: usize, out: &mut Vec<u8>) -> Result<(), AllocError>
         requires { account < (house self.now).accounts }
         ensures { OnOk result (out.new.items ≡ out.old.items ++ (house self.now).names account) };
 
     /// Takes in that a request was let in to an account, by a session.
-    fn let_in(&self);
+    fn let_in(&mut self)
+        ensures house { house self.new ≡ house self.old }
+        ensures asked { asked self.new ≡ asked self.old ++ let_in ∷ [] };
 
     /// Does a command to an account.
     fn act(&mut self, account: usize, command: &Command) -> Performed
@@ -114,6 +122,16 @@ pub trait Accounts {
     fn note_change<K: LoginKeys>(&mut self, change: BookChange<K>)
         ensures house { house self.new ≡ house self.old }
         ensures asked { asked self.new ≡ asked self.old ++ changed change.step.value change.before.value.items ∷ [] };
+
+    /// Whether there is an account of this number: one that was removed isn't.
+    fn has(&self, _account: usize) -> bool {
+        true
+    }
+
+    /// How many events are done of how many, if an account is being restored.
+    fn restoring(&self, _account: usize) -> Option<(u64, u64)> {
+        None
+    }
 
     /// What an account has done.
     fn measures(&self, account: usize) -> Measures

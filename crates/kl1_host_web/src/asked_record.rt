@@ -2,7 +2,7 @@
 
 ghost use Rattle.std.specs.Prelude.{◌≡◌, [], ◌++◌, ◌∷◌};
 ghost use Rattle.kl1_command.specs.Commands.{command_view};
-ghost use Rattle.kl1_host_web.specs.Asking.{did, looked, changed};
+ghost use Rattle.kl1_host_web.specs.Asking.{did, looked, changed, let_in};
 ghost use Rattle.kl1_host_web.specs.Records.{asked_in};
 
 use kl1_command::{Command, Performed};
@@ -10,8 +10,8 @@ use kl1_host_door::{BookChange, BookStep, LoginKeys, WebSession};
 use logbook::{Opening, Rule, Seen, Start};
 use std::snapshot::Snapshot;
 
-/// What was asked: a command was done to an account, with what was answered; an account was looked at; or something was done to the
-/// book of sessions.
+/// What was asked: a command was done to an account, with what was answered; an account was looked at; something was done to the book of
+/// sessions; or it was told that a request was let in.
 #[derive(Drop)]
 enum Note {
     Did {
@@ -24,6 +24,7 @@ enum Note {
         step: Snapshot<BookStep>,
         sessions: Snapshot<Vec<WebSession>>,
     },
+    LetIn,
 }
 
 /// A book without words: it is there for its log.
@@ -110,6 +111,18 @@ impl AskedRecord {
         let longer = Longer {
             before: Snapshot::of(&self.seen),
             entry: Note::Looked(Snapshot::of(&account)),
+        };
+        let (seen, _pens) = Seen::open_row::<Longer, More>(&longer, Start::alone(), 0);
+        self.seen = seen;
+    }
+
+    /// Takes in that it was told that a request was let in.
+    pub fn let_in(&mut self)
+        ensures { asked_in self.new ≡ asked_in self.old ++ let_in ∷ [] }
+    {
+        let longer = Longer {
+            before: Snapshot::of(&self.seen),
+            entry: Note::LetIn,
         };
         let (seen, _pens) = Seen::open_row::<Longer, More>(&longer, Start::alone(), 0);
         self.seen = seen;

@@ -5,10 +5,10 @@ ghost use Rattle.kl1_command.specs.Commands.{command_view};
 ghost use Rattle.kl1_host_door.specs.declared.answer.Cookie.TheVariants.{Kept};
 ghost use Rattle.kl1_session.specs.Conversations.{is_welcome, is_bye};
 ghost use Rattle.kl1_host_web.specs.Wishes.{wish_view, enter, leave, do_to, load_into, show_of};
-ghost use Rattle.kl1_host_web.specs.Telling.{KeepsCookie, Grants, Entered, Shows, IsOfOne, IsTold, Tells, IsReply, IsLoad, IsSyntax, Lists, ListsFor, IsOpenedIn, Refuses, Enters, Leaves};
+ghost use Rattle.kl1_host_web.specs.Telling.{IsView, Grants, Entered, Shows, IsOfOne, IsTold, Tells, IsReply, IsLoad, IsSyntax, Lists, ListsFor, IsOpenedIn, Refuses, Enters, Leaves};
 
 use crate::accounts::Accounts;
-use crate::json::{refused, told_command, told_load, told_name, told_syntax};
+use crate::json::{refused, restoring, told_command, told_load, told_name, told_syntax};
 use crate::outcome::Outcome;
 use crate::pages::{account_page, open_page, shoens_page, waiting_page};
 use crate::wish::Wish;
@@ -19,7 +19,7 @@ use std::alloc::{AllocError, Global};
 
 /// An answer, if memory was there for it.
 fn told(answer: Result<Answer, AllocError>) -> Result<Outcome, AllocError>
-    requires { IfOk answer KeepsCookie }
+    requires { IfOk answer IsView }
     ensures { IfOk result IsTold }
 {
     Ok(Outcome::Told(answer?))
@@ -47,7 +47,7 @@ fn is_bye(performed: &Performed) -> bool
 }
 
 /// Lets in by a name and a key.
-#[tactic(auto, using(crate::proofs::Wanting::told_opens, crate::proofs::Wanting::tells_opens, crate::proofs::Wanting::refused_opens))]
+#[tactic(auto, using(crate::proofs::Wanting::told_opens, crate::proofs::Wanting::tells_opens, crate::proofs::Wanting::refused_opens, crate::proofs::Wanting::enters_refused, crate::proofs::Wanting::enters_later))]
 fn enter<A: Accounts>(
     alloc: Global,
     accounts: &mut A,
@@ -55,7 +55,7 @@ fn enter<A: Accounts>(
     key: &[u8],
 ) -> Result<Outcome, AllocError>
     ensures house { A.house accounts.new ≡ A.house accounts.old }
-    ensures within { IfOk result (IsOpenedIn (A.house accounts.old)) }
+    ensures within { IfOk result (IsOpenedIn (A.house accounts.old).accounts) }
     ensures grants { Entered ((A.house accounts.old).opens name.now key.now) (A.asked accounts.old) (A.asked accounts.new) result }
 {
     let Some(account) = accounts.open(name, key) else {
@@ -63,9 +63,11 @@ fn enter<A: Accounts>(
     };
     let performed = accounts.act(account, &Command::Does(Event::Login));
     if is_welcome(&performed) {
-        Ok(Outcome::Opens(account))
-    } else {
-        refuse(alloc, Refusal::ManySessions)
+        return Ok(Outcome::Opens(account));
+    }
+    match accounts.restoring(account) {
+        Some((done, all)) => Ok(Outcome::Told(restoring(alloc, done, all)?)),
+        None => refuse(alloc, Refusal::ManySessions),
     }
 }
 
@@ -78,7 +80,7 @@ fn leave<A: Accounts>(
 ) -> Result<Outcome, AllocError>
     requires { account < (A.house accounts.old).accounts }
     ensures house { A.house accounts.new ≡ A.house accounts.old }
-    ensures within { IfOk result (IsOpenedIn (A.house accounts.old)) }
+    ensures within { IfOk result (IsOpenedIn (A.house accounts.old).accounts) }
     ensures grants { Grants (A.house accounts.old) [] (leave account) (A.asked accounts.old) (A.asked accounts.new) result }
 {
     let performed = accounts.act(account, &Command::Does(Event::Logout));
@@ -100,7 +102,7 @@ fn perform<A: Accounts>(
 ) -> Result<Outcome, AllocError>
     requires { account < (A.house accounts.old).accounts }
     ensures house { A.house accounts.new ≡ A.house accounts.old }
-    ensures within { IfOk result (IsOpenedIn (A.house accounts.old)) }
+    ensures within { IfOk result (IsOpenedIn (A.house accounts.old).accounts) }
     ensures grants { Grants (A.house accounts.old) [] (do_to account (command_view command.now)) (A.asked accounts.old) (A.asked accounts.new) result }
 {
     let performed = accounts.act(account, command);
@@ -117,7 +119,7 @@ fn load<A: Accounts>(
 ) -> Result<Outcome, AllocError>
     requires { account < (A.house accounts.old).accounts }
     ensures house { A.house accounts.new ≡ A.house accounts.old }
-    ensures within { IfOk result (IsOpenedIn (A.house accounts.old)) }
+    ensures within { IfOk result (IsOpenedIn (A.house accounts.old).accounts) }
     ensures grants { Grants (A.house accounts.old) [] (load_into account source.items) (A.asked accounts.old) (A.asked accounts.new) result }
 {
     let command = Command::Does(Event::Load { source });
@@ -139,7 +141,7 @@ fn show<A: Accounts>(
 ) -> Result<Outcome, AllocError>
     requires { account < (A.house accounts.old).accounts }
     ensures house { A.house accounts.new ≡ A.house accounts.old }
-    ensures within { IfOk result (IsOpenedIn (A.house accounts.old)) }
+    ensures within { IfOk result (IsOpenedIn (A.house accounts.old).accounts) }
     ensures grants { Grants (A.house accounts.old) [] (show_of account ask) (A.asked accounts.old) (A.asked accounts.new) result }
     ensures lists { Lists A.Viewer.lists account ask result }
 {
@@ -177,7 +179,7 @@ pub fn grant<A: Accounts>(
 ) -> Result<Outcome, AllocError>
     requires { IsOfOne (A.house accounts.old).accounts (wish_view wish) }
     ensures house { A.house accounts.new ≡ A.house accounts.old }
-    ensures within { IfOk result (IsOpenedIn (A.house accounts.old)) }
+    ensures within { IfOk result (IsOpenedIn (A.house accounts.old).accounts) }
     ensures grants { Grants (A.house accounts.old) target.now (wish_view wish) (A.asked accounts.old) (A.asked accounts.new) result }
     ensures lists { ListsFor A.Viewer.lists (wish_view wish) result }
 {

@@ -5,7 +5,8 @@ ghost use Rattle.serde_json.specs.Data.{string, array, object, no_members, put a
 ghost use Rattle.serde_json.specs.View.{view};
 ghost use Rattle.serde_json.specs.Written.{compact_text, has_float, items_have_float};
 ghost use Rattle.kl1_session.specs.Replies.{told};
-ghost use Rattle.kl1_host_web.specs.Telling.{IsRefusal, shown, lines_data, IsReply, IsLoad, IsSyntax, IsNamed};
+ghost use Rattle.kl1_host_door.specs.declared.answer.Content.TheVariants.{Json};
+ghost use Rattle.kl1_host_web.specs.Telling.{IsRefusal, IsWait, shown, lines_data, IsReply, IsLoad, IsSyntax, IsNamed};
 ghost use Rattle.kl1_host_web.specs.Beginning.{IsWelcome};
 
 use crate::accounts::Accounts;
@@ -26,6 +27,7 @@ pub(crate) fn told_value(
     value: &Value,
 ) -> Result<Answer, AllocError>
     ensures head { IfOk result (λ answer. (answer.status ≡ status) × (answer.cookie ≡ cookie)) }
+    ensures content { IfOk result (λ answer. answer.content ≡ Json) }
     ensures text { IfOk result (λ answer. has_float (view value.now) ≡ false → answer.body.items ≡ compact_text (view value.now)) }
 {
     Ok(Answer {
@@ -58,6 +60,17 @@ pub fn refused(alloc: Global, refusal: Refusal) -> Result<Answer, AllocError>
 {
     let value = json!(in alloc; {"error": (words_of(refusal))})?;
     told_value(alloc, status_of(refusal), Cookie::Kept, &value)
+}
+
+/// The answer to who asks for an account that is being restored, of whose events so many are done.
+pub(crate) fn restoring(alloc: Global, done: u64, all: u64) -> Result<Answer, AllocError>
+    ensures { IfOk result IsWait }
+{
+    let words = format!(in alloc;
+        "The account is being restored: {done} of its {all} events are done. Try again."
+    )?;
+    let value = json!(in alloc; {"error": (words.as_str())})?;
+    told_value(alloc, Status::Unavailable, Cookie::Kept, &value)
 }
 
 /// Bytes as a text; nothing if they are none in UTF-8, as those of replies always are.

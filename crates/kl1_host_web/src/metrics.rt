@@ -98,23 +98,27 @@ pub(crate) fn put_metrics<A: Accounts>(out: &mut Vec<u8>, accounts: &A) -> Resul
     put_sum(out, &STEPS, sums.steps)?;
     put_kind(out, &ENTRIES)?;
     for account in 0..accounts.count() {
-        put_each(
-            out,
-            &ENTRIES,
-            accounts,
-            account,
-            accounts.measures(account).entries,
-        )?;
+        if accounts.has(account) {
+            put_each(
+                out,
+                &ENTRIES,
+                accounts,
+                account,
+                accounts.measures(account).entries,
+            )?;
+        }
     }
     put_kind(out, &BYTES)?;
     for account in 0..accounts.count() {
-        put_each(
-            out,
-            &BYTES,
-            accounts,
-            account,
-            accounts.measures(account).bytes,
-        )?;
+        if accounts.has(account) {
+            put_each(
+                out,
+                &BYTES,
+                accounts,
+                account,
+                accounts.measures(account).bytes,
+            )?;
+        }
     }
     Ok(())
 }

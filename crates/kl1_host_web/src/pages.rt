@@ -5,7 +5,7 @@ ghost use Rattle.serde_json.specs.Data.{array, Items};
 ghost use Rattle.serde_json.specs.View.{view};
 ghost use Rattle.serde_json.specs.Written.{has_float, items_have_float};
 ghost use Rattle.kl1_host_page.specs.Files.{file_at};
-ghost use Rattle.kl1_host_web.specs.Telling.{KeepsCookie, IsFile, IsPage, IsShoens, ShowsAll, number_data};
+ghost use Rattle.kl1_host_web.specs.Telling.{IsView, IsFile, IsPage, IsShoens, ShowsAll, number_data};
 
 use crate::accounts::{Accounts, Stop, Viewer};
 use crate::json::{pair_value, refused, text_value, told_value};
@@ -116,7 +116,7 @@ pub(crate) fn account_page<V: Viewer>(
     quiet: &Performed,
     modules: &Performed,
 ) -> Result<Answer, AllocError>
-    ensures { IfOk result KeepsCookie }
+    ensures { IfOk result IsView }
 {
     let value = account_value(alloc, viewer, name, quiet, modules)?;
     told_value(alloc, Status::Good, Cookie::Kept, &value)
@@ -207,7 +207,7 @@ pub(crate) fn shoens_page<V: Viewer>(
 
 /// The goals that wait.
 pub(crate) fn waiting_page<V: Viewer>(alloc: Global, viewer: &mut V) -> Result<Answer, AllocError>
-    ensures { IfOk result KeepsCookie }
+    ensures { IfOk result IsView }
 {
     let value = waiting_value(alloc, viewer)?;
     told_value(alloc, Status::Good, Cookie::Kept, &value)

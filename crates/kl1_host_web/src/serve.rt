@@ -1,19 +1,18 @@
 // One connection of a browser.
 
-ghost use Rattle.std.specs.Prelude.{◌≡◌, ◌<◌, ◌++◌, ◌∷◌, [], ℕ, List, true, Ok};
-ghost use Rattle.std.specs.declared.option.Option.{Option};
+ghost use Rattle.std.specs.Prelude.{◌≡◌, ◌⊎◌, ◌<◌, ◌++◌, ◌∷◌, [], ℕ, List, true, false};
 ghost use Rattle.std.specs.Io.KnownBytes.{Appends, prepend_known};
 ghost use Rattle.kl1_host_door.specs.Answers.{answer_text};
 ghost use Rattle.kl1_host_door.specs.declared.session.WebSession.{WebSession};
 ghost use Rattle.kl1_host_door.specs.declared.book.BookStep.TheVariants.{Adds, Takes};
 ghost use Rattle.kl1_host_door.specs.declared.book.SessionTest.TheVariants.{IsCalled};
-ghost use Rattle.kl1_host_door.specs.Sessions.{LetsIn, IsOpened};
 ghost use Rattle.kl1_host_door.specs.Books.{has_room};
 ghost use Rattle.kl1_command.specs.declared.performed.Performed.{Performed};
 ghost use Rattle.kl1_host_web.specs.Asking.{Asked, changed};
 ghost use Rattle.kl1_host_web.specs.Telling.{IsOpenedIn};
 ghost use Rattle.kl1_host_web.specs.Beginning.{Begun};
-ghost use Rattle.kl1_host_web.specs.Serving.{Seeks, logout_of, EndsIdle, Admits, LooksAt, closing, Ends, is_within, AnswersWithin, Attends, Exchange, Serves, Steps};
+ghost use Rattle.kl1_host_web.specs.Serving.{Seeks, logout_of, EndsIdle, SeeksOf, Forgets, Admits, LooksUp, LooksAt, closing, Ends, is_within, AnswersWithin, Attends, is_word, goes_on, Steps};
+ghost use Rattle.kl1_host_web.specs.Writing.{BreaksOff, WritesRefusal, Connects};
 
 use crate::accounts::Accounts;
 use crate::granting::grant;
@@ -70,13 +69,6 @@ fn log_out<A: Accounts>(accounts: &mut A, account: usize)
     }
 }
 
-/// Tells that a request was let in to an account, if it was.
-fn tell_in<A: Accounts>(accounts: &A, is_in: bool) {
-    if is_in {
-        accounts.let_in();
-    }
-}
-
 /// Whether a request is of no account, or of one of `accounts`.
 fn is_within(accounts: usize, allowed: &Allowed) -> bool
     ensures { result ≡ is_within accounts allowed.now }
@@ -87,9 +79,19 @@ fn is_within(accounts: usize, allowed: &Allowed) -> bool
     }
 }
 
+/// Whether a field's value is this word; small and capital letters are the same.
+#[tactic(auto, using(kl1_host_door::proofs::Names::named_by))]
+fn is_word(value: &[u8], word: &[u8]) -> bool
+    ensures { result ≡ is_word word.now value.now }
+{
+    value.eq_ignore_ascii_case(word)
+}
+
 /// Whether the connection goes on after an answer to this head. It doesn't after a HEAD: who asks so takes what comes after the answer's head
 /// for the next answer.
-fn goes_on(head: &Head) -> bool {
+fn goes_on(head: &Head) -> bool
+    ensures { result ≡ goes_on head.now }
+{
     if head.method.as_slice() == b"HEAD".as_slice() {
         return false;
     }
@@ -98,9 +100,9 @@ fn goes_on(head: &Head) -> bool {
         None => is_later,
         Some(word) => {
             if is_later {
-                !word.eq_ignore_ascii_case(b"close")
+                !is_word(word, b"close")
             } else {
-                word.eq_ignore_ascii_case(b"keep-alive")
+                is_word(word, b"keep-alive")
             }
         }
     }
@@ -133,7 +135,6 @@ impl<'p, R: Wait, M: Machine, K: LoginKeys> Service<'p, R, M, K> {
 
     /// Adds a session of a browser, and tells whether there was room for it.
     fn add<A: Accounts>(&self, accounts: &mut A, session: WebSession) -> bool
-        requires { IsOpened K.opens session }
         ensures house { A.house accounts.new ≡ A.house accounts.old }
         ensures asked { (others : List WebSession) × (result ≡ has_room others) × (A.asked accounts.new ≡ A.asked accounts.old ++ changed (Adds session) others ∷ []) }
     {
@@ -147,25 +148,51 @@ impl<'p, R: Wait, M: Machine, K: LoginKeys> Service<'p, R, M, K> {
     /// What a request may have, by the sessions that are open now.
     fn allowed<A: Accounts>(&self, accounts: &mut A, head: &Head) -> Result<Allowed, Refusal>
         ensures house { A.house accounts.new ≡ A.house accounts.old }
-        ensures admits { Admits (M.tells self.now.machine.now) K.opens self.now.page.idle self.now.page.sites.now self.now.is_local head.now (A.asked accounts.old) (A.asked accounts.new) result }
+        ensures admits { Admits (M.tells self.now.machine.now) (A.house accounts.old) self.now.page.idle self.now.page.sites.now self.now.is_local head.now (A.asked accounts.old) (A.asked accounts.new) result }
     {
         let now = self.machine.seconds();
         let since = now.saturating_sub(self.page.idle);
         let mut guard = self.page.sessions.lock(self.rt);
         let book = &mut *guard;
-        let (allowed, change) = book.admit(head, self.page.sites, self.is_local, since, now);
+        let (sites, keys) = (self.page.sites, accounts.keys());
+        let (allowed, change) = book.admit(head, sites, self.is_local, since, keys, now);
         accounts.note_change(change);
         allowed
     }
 
-    /// Whether a request is let in to an account, whose body of `count` bytes is read, by the sessions that are open now; or why that isn't read.
-    fn may_send(&self, head: &Head, count: u64) -> Result<bool, Refusal>
-        ensures { LooksAt (M.tells self.now.machine.now) K.opens self.now.page.idle self.now.page.sites.now self.now.is_local head.now count result }
+    /// Looks up whether a request is let in to an account, whose body of `count` bytes is read, by the sessions that are open now; or why that isn't
+    /// read.
+    fn look<A: Accounts>(&self, accounts: &mut A, head: &Head, count: u64) -> Result<bool, Refusal>
+        ensures house { A.house accounts.new ≡ A.house accounts.old }
+        ensures looks { LooksUp (M.tells self.now.machine.now) (A.house accounts.old) self.now.page.idle self.now.page.sites.now self.now.is_local head.now count (A.asked accounts.old) (A.asked accounts.new) result }
     {
         let since = self.machine.seconds().saturating_sub(self.page.idle);
         let guard = self.page.sessions.lock(self.rt);
         let book = &*guard;
-        book.may_send(head, self.page.sites, self.is_local, since, count)
+        let (sites, keys) = (self.page.sites, accounts.keys());
+        let (may, change) = book.may_send(head, sites, self.is_local, since, keys, count);
+        accounts.note_change(change);
+        may
+    }
+
+    /// Whether a request is let in to an account, whose body of `count` bytes is read; or why that isn't read. If it is let in, that is told.
+    fn may_send<A: Accounts>(
+        &self,
+        accounts: &mut A,
+        head: &Head,
+        count: u64,
+    ) -> Result<bool, Refusal>
+        ensures house { A.house accounts.new ≡ A.house accounts.old }
+        ensures looks { LooksAt (M.tells self.now.machine.now) (A.house accounts.old) self.now.page.idle self.now.page.sites.now self.now.is_local head.now count (A.asked accounts.old) (A.asked accounts.new) result }
+    {
+        match self.look(accounts, head, count) {
+            Ok(true) => {
+                accounts.let_in();
+                Ok(true)
+            }
+            Ok(false) => Ok(false),
+            Err(refusal) => Err(refusal),
+        }
     }
 
     /// Ends the sessions of an account whose browsers made no request for too long: each is taken out of the book and logged out, until there
@@ -182,15 +209,41 @@ impl<'p, R: Wait, M: Machine, K: LoginKeys> Service<'p, R, M, K> {
         }
     }
 
+    /// Takes the sessions of browsers of an account out of the book; answers how many. They aren't logged out of here: that waits for the account.
+    pub fn forget_account<A: Accounts>(&self, accounts: &mut A, account: usize) -> u64
+        ensures house { A.house accounts.new ≡ A.house accounts.old }
+        ensures forgets { Forgets account result (A.asked accounts.old) (A.asked accounts.new) }
+    {
+        let mut count = 0u64;
+        for _ in self.rt.forever() {
+            match self.take_of(accounts, account) {
+                Some(_session) => count = count.saturating_add(1),
+                None => return count,
+            }
+        }
+        unreachable!()
+    }
+
+    /// Takes the first session of an account out of the book; `None` if there is none.
+    fn take_of<A: Accounts>(&self, accounts: &mut A, account: usize) -> Option<WebSession>
+        ensures house { A.house accounts.new ≡ A.house accounts.old }
+        ensures seeks { (note : Asked) × SeeksOf account result note × (A.asked accounts.new ≡ A.asked accounts.old ++ note ∷ []) }
+    {
+        let mut guard = self.page.sessions.lock(self.rt);
+        let book = &mut *guard;
+        let (session, change) = book.take(SessionTest::IsOf(account));
+        accounts.note_change(change);
+        session
+    }
+
     /// Begins the session of a browser to which a session of its account is open. If it can't begin, or can't be told, that is closed again,
     /// so that a login that fails leaves nothing open.
     fn begin<A: Accounts>(&self, accounts: &mut A, account: usize) -> Result<Answer, AllocError>
-        requires within { account < (A.house accounts.old).accounts }
-        requires opened { LetsIn K.opens account }
+        requires { account < (A.house accounts.old).accounts }
         ensures house { A.house accounts.new ≡ A.house accounts.old }
-        ensures asked { Begun (M.tells self.now.machine.now) (M.gives self.now.machine.now) (A.house accounts.old).names account (A.asked accounts.old) (A.asked accounts.new) result }
+        ensures asked { Begun (M.tells self.now.machine.now) (M.gives self.now.machine.now) (A.house accounts.old) account (A.asked accounts.old) (A.asked accounts.new) result }
     {
-        let Some(session) = new_session(self.machine, account) else {
+        let Some(session) = new_session(self.machine, account, accounts.keys()) else {
             let _ = accounts.act(account, &Command::Does(Event::Logout));
             return refused(self.alloc, Refusal::Memory);
         };
@@ -215,10 +268,9 @@ impl<'p, R: Wait, M: Machine, K: LoginKeys> Service<'p, R, M, K> {
         allowed: &Allowed,
         outcome: Outcome,
     ) -> Result<Answer, AllocError>
-        requires keys { (A.house accounts.old).opens ≡ K.opens }
-        requires opened { IsOpenedIn (A.house accounts.old) outcome }
+        requires { IsOpenedIn (A.house accounts.old).accounts outcome }
         ensures house { A.house accounts.new ≡ A.house accounts.old }
-        ensures ends { Ends (M.tells self.now.machine.now) (M.gives self.now.machine.now) (A.house accounts.old).names allowed.now (Ok outcome) (A.asked accounts.old) (A.asked accounts.new) result }
+        ensures ends { Ends (M.tells self.now.machine.now) (M.gives self.now.machine.now) (A.house accounts.old) allowed.now (Ok outcome) (A.asked accounts.old) (A.asked accounts.new) result }
     {
         match outcome {
             Outcome::Told(answer) => Ok(answer),
@@ -240,7 +292,6 @@ impl<'p, R: Wait, M: Machine, K: LoginKeys> Service<'p, R, M, K> {
         allowed: &Allowed,
         body: &[u8],
     ) -> Result<Answer, AllocError>
-        requires { (A.house accounts.old).opens ≡ K.opens }
         ensures house { A.house accounts.new ≡ A.house accounts.old }
         ensures answers { AnswersWithin (M.tells self.now.machine.now) (M.gives self.now.machine.now) (is_within (A.house accounts.old).accounts allowed.now) (A.house accounts.old) allowed.now head.now.target.items body.now (A.asked accounts.old) (A.asked accounts.new) result }
     {
@@ -259,7 +310,6 @@ impl<'p, R: Wait, M: Machine, K: LoginKeys> Service<'p, R, M, K> {
         head: &Head,
         body: &[u8],
     ) -> Result<Answer, AllocError>
-        requires { (A.house accounts.old).opens ≡ K.opens }
         ensures house { A.house accounts.new ≡ A.house accounts.old }
         ensures answers { Attends (M.tells self.now.machine.now) (M.gives self.now.machine.now) self.now.page.idle (A.house accounts.old) self.now.page.sites.now self.now.is_local head.now body.now (A.asked accounts.old) (A.asked accounts.new) result }
     {
@@ -276,7 +326,6 @@ impl<'p, R: Wait, M: Machine, K: LoginKeys> Service<'p, R, M, K> {
         inbox: &mut Inbox,
         accounts: &mut A,
     ) -> Result<Served, AllocError>
-        requires { (A.house accounts.old).opens ≡ K.opens }
         ensures house { A.house accounts.new ≡ A.house accounts.old }
         ensures steps { Steps (M.tells self.now.machine.now) (M.gives self.now.machine.now) self.now.page.idle (A.house accounts.old) self.now.page.sites.now self.now.is_local (prepend_known inbox.old.kept.items (S.remaining source.old)) (prepend_known inbox.new.kept.items (S.remaining source.new)) (A.asked accounts.old) (A.asked accounts.new) result }
     {
@@ -290,11 +339,10 @@ impl<'p, R: Wait, M: Machine, K: LoginKeys> Service<'p, R, M, K> {
             Err(refusal) => return Ok(Served::Refused(refusal)),
         };
         // Who isn't let in has no long body read. A short one is read also if the request is refused, so that the next one is found.
-        let is_in = match self.may_send(&head, count) {
+        let _is_in = match self.may_send(accounts, &head, count) {
             Ok(is_in) => is_in,
             Err(refusal) => return Ok(Served::Refused(refusal)),
         };
-        tell_in(&*accounts, is_in);
         let Some(body) = inbox.body(self.alloc, source, count as usize)? else {
             return Ok(Served::Ended);
         };
@@ -306,33 +354,43 @@ impl<'p, R: Wait, M: Machine, K: LoginKeys> Service<'p, R, M, K> {
         })
     }
 
-    /// Writes an answer; `false` if that failed.
+    /// Writes an answer; `false` if that failed, or without memory for its bytes.
     fn send<T: Sink>(&self, sink: &mut T, answer: &Answer, secure: bool, goes_on: bool) -> bool
-        ensures { result ≡ true → Appends (T.contents sink.old) (T.contents sink.new) (answer_text answer.now secure goes_on) }
+        ensures sent { result ≡ true → Appends (T.contents sink.old) (T.contents sink.new) (answer_text answer.now secure goes_on) }
+        ensures kept { result ≡ true → T.failures sink.new ≡ T.failures sink.old }
+        ensures breaks { result ≡ false → BreaksOff (answer_text answer.now secure goes_on) (T.contents sink.old) (T.contents sink.new) (T.failures sink.old) (T.failures sink.new) }
     {
         let mut text = Vec::new(self.alloc);
-        put_answer(&mut text, answer, secure, goes_on).is_ok()
-            && finish(sink, text.as_slice()).is_ok()
-    }
-
-    /// Writes that a request is refused. Without memory nothing is written.
-    fn send_refusal<T: Sink>(&self, sink: &mut T, refusal: Refusal) {
-        if let Ok(answer) = refused(self.alloc, refusal) {
-            // It tells of no cookie.
-            let _ = self.send(sink, &answer, false, false);
+        match put_answer(&mut text, answer, secure, goes_on) {
+            Ok(()) => match finish(sink, text.as_slice()) {
+                Ok(()) => true,
+                Err(_) => false,
+            },
+            Err(_) => false,
         }
     }
 
-    /// Serves one connection: its requests one after another, until it ends, an answer says so, or one of them can't be read.
+    /// Writes that a request is refused. Without memory nothing is written.
+    fn send_refusal<T: Sink>(&self, sink: &mut T, refusal: Refusal)
+        ensures { (T.contents sink.new ≡ T.contents sink.old) ⊎ WritesRefusal refusal (T.contents sink.old) (T.contents sink.new) (T.failures sink.old) (T.failures sink.new) }
+    {
+        let Ok(answer) = refused(self.alloc, refusal) else {
+            return;
+        };
+        // It tells of no cookie.
+        let _is_sent = self.send(sink, &answer, false, false);
+    }
+
+    /// Serves one connection: its requests one after another, until it ends, an answer says so, or one of them can't be read. Their answers are written in
+    /// this order, each once, and nothing else.
     pub fn serve<S: Source, T: Sink, A: Accounts>(
         &self,
         source: &mut S,
         sink: &mut T,
         accounts: &mut A,
     )
-        requires { (A.house accounts.old).opens ≡ K.opens }
         ensures house { A.house accounts.new ≡ A.house accounts.old }
-        ensures served { (served : List Exchange) × (left : Option (List ℕ)) × Serves (M.tells self.now.machine.now) (M.gives self.now.machine.now) self.now.page.idle (A.house accounts.old) self.now.page.sites.now self.now.is_local served (S.remaining source.old) left (A.asked accounts.old) (A.asked accounts.new) }
+        ensures connects { Connects (M.tells self.now.machine.now) (M.gives self.now.machine.now) self.now.page.idle (A.house accounts.old) self.now.page.sites.now self.now.is_local (S.remaining source.old) (T.contents sink.old) (T.contents sink.new) (T.failures sink.old) (T.failures sink.new) (A.asked accounts.old) (A.asked accounts.new) }
     {
         let mut inbox = Inbox::new(self.alloc);
         for _ in 0..u64::MAX {
@@ -344,7 +402,10 @@ impl<'p, R: Wait, M: Machine, K: LoginKeys> Service<'p, R, M, K> {
                         goes_on,
                     },
                 ) => {
-                    if !self.send(sink, &answer, secure, goes_on) || !goes_on {
+                    if !self.send(sink, &answer, secure, goes_on) {
+                        return;
+                    }
+                    if !goes_on {
                         return;
                     }
                 }

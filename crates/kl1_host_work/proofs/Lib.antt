@@ -1,9 +1,7 @@
+pub mod Linkages
 pub mod Lobbies
 pub mod NamesInOrder
 pub mod Notices
 pub mod OpenedByName
 pub mod OwnHistories
 pub mod Restarts
-pub mod SentRestarts
-pub mod Shelves
-pub mod UsedNames

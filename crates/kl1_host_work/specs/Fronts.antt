@@ -1,5 +1,5 @@
 -- The accounts of a front, by their names.
-use Rattle.std.specs.Prelude.{◌≡◌, ◌≤◌, ℕ, List, map, length, Some, slice_get}
+use Rattle.std.specs.Prelude.{◌≡◌, ℕ, List, map, Some, slice_get}
 use Rattle.kl1_session.specs.Doors.{Opens}
 use Rattle.kl1_session.specs.Files.{Entry}
 
@@ -10,7 +10,3 @@ names_in entries = map (λ (e : Entry). e.name) entries
 -- a name and a key let in to no account but the one that is called so
 abbrev pub OpensByName : Opens → List (List ℕ) → Type 0
 OpensByName opens names = (name key : List ℕ) (account : ℕ) → opens name key ≡ Some account → slice_get names account ≡ Some name
-
--- accounts that are called so, in this order, are those of a pool of so many accounts, which has them so too
-abbrev pub AreAccountsOf : List (List ℕ) → List (List ℕ) → ℕ → Type 0
-AreAccountsOf names pool accounts = (names ≡ pool) × (length pool ≤ accounts)

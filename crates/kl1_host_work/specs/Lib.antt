@@ -1,4 +1,3 @@
-pub mod AccountFiles
 pub mod Filling
 pub mod Fronts
 pub mod Linkages
@@ -10,7 +9,6 @@ pub mod OwnHistories
 pub mod Restarts
 pub mod Standings
 pub mod Refusals
-pub mod Stages
 pub mod Sights
 pub mod Strangers
 pub mod Visitors

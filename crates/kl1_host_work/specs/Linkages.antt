@@ -30,14 +30,20 @@ module _ {D J : Type 0} {g : disk.Ghosts D} {h : naming.Ghosts J} {shown : shown
   IsLinkedIf (Linked l) j generation = IsLinked l j generation
   IsLinkedIf (Failed fault) j generation = ⊤
 
+  -- a file that isn't linked yet is of this account
+  abbrev pub IsOwnOf : ℕ → Linkage D J g h shown → Type 0
+  IsOwnOf account (Unlinked file own) = own.account ≡ account
+  IsOwnOf account (Linked l) = ⊥
+  IsOwnOf account (Failed fault) = ⊤
+
   -- a file that isn't linked yet takes the stamps of the account that it is of
   abbrev pub Takes : Linkage D J g h shown → StampValue → Type 0
   Takes (Unlinked file own) s = slice_get shown.histories own.account ≡ Some s.history
   Takes (Linked l) s = ⊤
   Takes (Failed fault) s = ⊤
 
-  -- a file that wasn't linked was shown a journal
+  -- a file that wasn't linked was shown a journal; else it stays as it is
   abbrev pub IsRead : Linkage D J g h shown → Linkage D J g h shown → Journal → ℕ → Type 0
   IsRead (Unlinked file own) after j generation = IsLinkedIf after j generation
-  IsRead (Linked l) after j generation = ⊤
-  IsRead (Failed fault) after j generation = ⊤
+  IsRead (Linked l) after j generation = after ≡ Linked l
+  IsRead (Failed fault) after j generation = after ≡ Failed fault

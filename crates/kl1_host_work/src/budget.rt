@@ -21,6 +21,21 @@ impl Budget {
         self.left.load(Ordering::SeqCst)
     }
 
+    /// Takes in that so many bytes may be loaded in all, and not so many as before.
+    pub(crate) fn change(&self, before: u64, after: u64) {
+        for _ in 0..u64::MAX {
+            let left = self.left.load(Ordering::SeqCst);
+            let next = after.saturating_sub(before.saturating_sub(left));
+            if self
+                .left
+                .compare_exchange(left, next, Ordering::SeqCst, Ordering::SeqCst)
+                .is_ok()
+            {
+                return;
+            }
+        }
+    }
+
     /// Counts a source that was loaded. Of loads at the same time some may go over the budget.
     pub(crate) fn spend(&self, bytes: usize) {
         let bytes = bytes as u64;

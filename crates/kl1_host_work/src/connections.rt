@@ -1,13 +1,11 @@
 // Connections without end, each in a thread of its own.
 
-ghost use Rattle.std.specs.Prelude.{◌≡◌};
-ghost use Rattle.kl1_host_work.specs.Fronts.{AreAccountsOf};
-
 use crate::board::Board;
 use crate::connection::{serve_lines, serve_pages};
+use crate::failing::Failing;
 use crate::front::{Front, HostEvent};
 use crate::host::Host;
-use crate::lobby::{Admission, Limits, Lobby};
+use crate::lobby::{Admission, Lobby};
 use crate::visit::Visit;
 use kl1_host_journals::Naming;
 use kl1_pool::{Pool, PoolIds, Share};
@@ -38,33 +36,8 @@ pub(crate) struct Desk<'d, 't, F: Front, R: Wait, K: PoolIds + Naming> {
     pub(crate) lobby: &'d Lobby<K>,
     pub(crate) board: &'d Board,
     pub(crate) host: Host<'d, K>,
-    pub(crate) limits: Limits,
+    pub(crate) failing: &'d Failing,
     pub(crate) alloc: Global,
-}
-
-impl<'d, 't, F: Front, R: Wait, K: PoolIds + Naming> Desk<'d, 't, F, R, K> {
-    /// A desk of these.
-    pub(crate) fn new(
-        front: &'d F,
-        pool: &'d Pool<'t, R, K>,
-        lobby: &'d Lobby<K>,
-        board: &'d Board,
-        host: Host<'d, K>,
-        limits: Limits,
-        alloc: Global,
-    ) -> Self
-        ensures { result.front.now ≡ front.now }
-    {
-        Desk {
-            front,
-            pool,
-            lobby,
-            board,
-            host,
-            limits,
-            alloc,
-        }
-    }
 }
 
 /// Serves a connection of a client, and gives the share back.
@@ -74,12 +47,17 @@ fn serve_client<'t, F: Front, W: Wait + Clock, R: Wait, K: PoolIds + Naming>(
     visit: &Visit,
     address: SocketAddr,
     share: Share<K>,
-) -> Share<K>
-    requires { AreAccountsOf (F.names desk.now.front.now) K.names K.accounts }
-{
+) -> Share<K> {
     desk.front.tell(HostEvent::Opened(address));
-    let door = desk.front.door(address);
-    let (served, share) = serve_lines(rt, desk, visit, door, share);
+    // Before the door, whose keys are of this edition or of a newer one.
+    let edition = desk.host.live.edition();
+    let (door, keys) = desk.front.door(address);
+    // There are no more, but no clause says so.
+    if keys.len() > desk.pool.accounts() {
+        return share;
+    }
+    let host = desk.host.with_keys(edition, keys);
+    let (served, share) = serve_lines(rt, desk, host, visit, door, share);
     desk.front.tell(HostEvent::Closed(address, served));
     share
 }
@@ -92,9 +70,7 @@ fn serve_visitor<'t, F: Front, W: Wait + Clock, R: Wait, K: PoolIds + Naming>(
     address: SocketAddr,
     peers: Peers,
     place: usize,
-)
-    requires { AreAccountsOf (F.names desk.now.front.now) K.names K.accounts }
-{
+) {
     let share = match desk.lobby.lend(rt, place) {
         Some(share) => Some(match peers {
             Peers::Clients => serve_client(&*rt, &*desk, &*visit, address, share),
@@ -133,7 +109,10 @@ fn arrival_of<'t, F: Front, N: Wait + Clock, R: Wait, K: PoolIds + Naming>(
     address: SocketAddr,
 ) -> Received {
     for _ in rt.forever() {
-        match desk.lobby.admit(rt, &visit, address, desk.limits) {
+        match desk
+            .lobby
+            .admit(rt, &visit, address, desk.host.live.limits())
+        {
             Admission::Open(place) => {
                 return Received::Open(Arrival {
                     visit,
@@ -170,7 +149,7 @@ fn receive<'t, F: Front, N: Wait + Clock, R: Wait, K: PoolIds + Naming>(
         thread::sleep(rt, Duration::from_millis(PAUSE_MILLISECONDS));
         return Received::Nothing;
     };
-    match Arc::new(desk.alloc, Visit::new(stream, desk.limits)) {
+    match Arc::new(desk.alloc, Visit::new(stream, desk.host.live.limits())) {
         Ok(visit) => arrival_of(rt, desk, visit, address),
         Err(_) => Received::Nothing,
     }
@@ -202,39 +181,32 @@ pub(crate) fn serve_each<'t, F: Front + Sync, N, R: Wait + Sync, K: PoolIds + Na
 where
     N: Net<Listener = TcpListener, Stream = TcpStream> + Threads + Wait + Clock + Sync,
     F::Entrance: Send,
-    requires { AreAccountsOf (F.names desk.now.front.now) K.names K.accounts }
 {
-    thread::scope(
-        thread::scope_env(),
-        rt,
-        move |scope|
-            requires { AreAccountsOf (F.names desk.now.front.now) K.names K.accounts }
-        {
-            for _ in rt.forever() {
-                let arrival = match receive(rt, listener, desk) {
-                    Received::Open(arrival) => arrival,
-                    Received::Nothing => continue,
-                    Received::Closing => return,
-                };
-                let Arrival {
-                    visit,
-                    address,
-                    place,
-                } = arrival;
-                let job = move || serve_visitor(rt, desk, visit, address, peers, place);
-                // A thread whose handle is dropped leaves nothing when it ends, and the scope waits for it all the same.
-                let Err(failed) = scope.spawn(job) else {
-                    continue;
-                };
-                let thread::SpawnError { value: job, .. } = failed;
-                make_room(rt, desk, place);
-                if let Err(failed) = scope.spawn(job) {
-                    // It isn't served here: this thread would then wait for who has connected. With what it was to do it is closed.
-                    drop(failed);
-                    desk.lobby.leave(rt, place, None);
-                    desk.front.tell(HostEvent::Unserved(address));
-                }
+    thread::scope(thread::scope_env(), rt, move |scope| {
+        for _ in rt.forever() {
+            let arrival = match receive(rt, listener, desk) {
+                Received::Open(arrival) => arrival,
+                Received::Nothing => continue,
+                Received::Closing => return,
+            };
+            let Arrival {
+                visit,
+                address,
+                place,
+            } = arrival;
+            let job = move || serve_visitor(rt, desk, visit, address, peers, place);
+            // A thread whose handle is dropped leaves nothing when it ends, and the scope waits for it all the same.
+            let Err(failed) = scope.spawn(job) else {
+                continue;
+            };
+            let thread::SpawnError { value: job, .. } = failed;
+            make_room(rt, desk, place);
+            if let Err(failed) = scope.spawn(job) {
+                // It isn't served here: this thread would then wait for who has connected. With what it was to do it is closed.
+                drop(failed);
+                desk.lobby.leave(rt, place, None);
+                desk.front.tell(HostEvent::Unserved(address));
             }
-        },
-    );
+        }
+    });
 }

@@ -1,17 +1,18 @@
 // What was done for a connection, and for what its answers wait.
 
-ghost use Rattle.std.specs.Prelude.{◌≡◌, ◌<◌, true, false, [], slice_get};
+ghost use Rattle.std.specs.Prelude.{◌≡◌, ◌⊎◌, ◌<◌, true, false, [], Some, slice_get};
 ghost use Rattle.kl1_command.specs.Commands.{command_view};
 ghost use Rattle.kl1_command.specs.declared.performed.Performed.TheVariants.{Memory};
+ghost use Rattle.kl1_pool.specs.Names.{called_at};
 ghost use Rattle.kl1_pool_history.specs.Histories.{AreAnswered};
-ghost use Rattle.kl1_host_work.specs.Noted.{is_lost, IsNoted};
+ghost use Rattle.kl1_host_work.specs.Noted.{is_lost, IsNotedAfter};
 ghost use Rattle.kl1_host_work.specs.Notices.{tells_nothing, Adds, IsNoticeOf, IsTold};
 
 use crate::filling::is_of_sessions;
-use crate::noting::note_for;
+use crate::noting::{NoReader, Noting, if_held};
 use kl1_command::{Command, Performed};
 use kl1_host_journals::{Connecting, Keeper, Naming, Outgoing};
-use kl1_pool::{Pool, PoolIds, Share};
+use kl1_pool::{Names, Pool, PoolIds, Share};
 use kl1_pool_history::History;
 use std::marker::Model;
 use std::snapshot::Snapshot;
@@ -19,49 +20,40 @@ use std::sync::Wait;
 
 /// For what an answer waits.
 #[derive(Drop)]
-enum Waiting<K: PoolIds + Naming, C: Connecting> {
+enum Waiting<K: PoolIds + Naming, C: Connecting + Names> {
     /// For nothing.
     Nothing,
     /// For a note: the leave to write was this when it was made, after this had been done.
-    Noted(Snapshot<Outgoing<K, C>>, Snapshot<History<K>>),
+    Noted(Snapshot<Outgoing<K, C>>, Snapshot<History<K, C>>),
 }
 
 /// For what the answer waits to the command that was done last. It has no bytes that tell it, so only a contract can: whoever has it knows
 /// that the note was made.
 #[derive(Drop)]
-pub struct Notice<K: PoolIds + Naming, C: Connecting> {
+pub struct Notice<K: PoolIds + Naming, C: Connecting + Names> {
     waiting: Waiting<K, C>,
 }
 
-/// Notes an account to which the last of what was done was done, and lets the leave to write of the connection wait for it. The leave is to
-/// be there, so that nobody else has it.
-fn noted<'t, W: Wait, R: Wait, K: PoolIds + Naming, C: Connecting>(
-    rt: &W,
-    pool: &Pool<'t, R, K>,
-    keeper: &Keeper<K>,
-    account: usize,
-    history: &History<K>,
-    leave: Outgoing<K, C>,
-) -> (Outgoing<K, C>, Notice<K, C>)
-    requires within { account < K.accounts }
-    requires here { is_lost leave ≡ false }
-    ensures noted { IsNoted K.rules (slice_get K.names account) account result.0 }
-    ensures notice { IsNoticeOf history.now result.0 result.1.waiting }
+/// An answer waits for a note: the leave to write is this, and this was done.
+fn noted<K: PoolIds + Naming, C: Connecting + Names>(
+    history: &History<K, C>,
+    leave: &Outgoing<K, C>,
+) -> Notice<K, C>
+    ensures { IsNoticeOf history.now leave.now result.waiting }
 {
-    let leave = note_for(rt, pool, keeper, account, leave);
-    let waiting = Waiting::Noted(Snapshot::of(&leave), Snapshot::of(history));
-    (leave, Notice { waiting })
+    let waiting = Waiting::Noted(Snapshot::of(leave), Snapshot::of(history));
+    Notice { waiting }
 }
 
 /// What was done for one connection, in order, and for what the last answer waits.
 #[derive(Drop)]
-pub(crate) struct Exchange<K: PoolIds + Naming, C: Connecting> {
-    history: History<K>,
+pub(crate) struct Exchange<K: PoolIds + Naming, C: Connecting + Names> {
+    history: History<K, C>,
     replies_wait: bool,
     notice: Notice<K, C>,
 }
 
-impl<K: PoolIds + Naming, C: Connecting> Model for Exchange<K, C> {
+impl<K: PoolIds + Naming, C: Connecting + Names> Model for Exchange<K, C> {
     ghost use Rattle.std.specs.Coded.{codes};
     ghost use Rattle.kl1_model.specs.code.TermCode.{term_code};
     ghost use Rattle.kl1_host_work.specs.Notices.{ExchangeValue, IsTold};
@@ -72,10 +64,10 @@ impl<K: PoolIds + Naming, C: Connecting> Model for Exchange<K, C> {
 
     ghost view = { λ t. record { history = t.history; replies_wait = t.replies_wait } };
 
-    ghost invariant = { λ t. IsTold K.rules K.names t.replies_wait t.history.done t.notice };
+    ghost invariant = { λ t. IsTold K.rules C.names t.replies_wait t.history.done t.notice };
 }
 
-impl<K: PoolIds + Naming, C: Connecting> Exchange<K, C> {
+impl<K: PoolIds + Naming, C: Connecting + Names> Exchange<K, C> {
     /// Nothing was done yet.
     pub(crate) fn new(share: Share<K>, replies_wait: bool) -> Self
         ensures { result ≡ record { history = record { begun = share; share = share; done = [] }; replies_wait = replies_wait } }
@@ -114,45 +106,67 @@ impl<K: PoolIds + Naming, C: Connecting> Exchange<K, C> {
         rt: &W,
         pool: &Pool<'t, R, K>,
         account: usize,
+        name: &[u8],
         command: &Command,
     ) -> Performed
         requires within { account < K.accounts }
+        requires named { slice_get C.names account ≡ Some name.now }
         requires nothing { tells_nothing (command_view command.now) self.old.replies_wait ≡ true }
         ensures { Adds account (command_view command.now) result self.old self.new }
     {
-        let performed = self.history.act(rt, pool, account, command);
+        let (performed, _) = self
+            .history
+            .act_shown(rt, pool, account, name, command, &mut NoReader);
         self.notice = Notice {
             waiting: Waiting::Nothing,
         };
         performed
     }
 
-    /// Has a pool do a command, and then lets the leave to write wait for what it did.
+    /// Has a pool do a command, and lets the leave to write wait for the note of what it did, which is made under the account's lock; if memory was
+    /// refused, it is as it was. The leave is to be there, so that nobody else has it.
     pub(crate) fn act_noted<'t, W: Wait, R: Wait>(
         &mut self,
         rt: &W,
         pool: &Pool<'t, R, K>,
         keeper: &Keeper<K>,
         account: usize,
+        name: &[u8],
         command: &Command,
         leave: Outgoing<K, C>,
     ) -> (Performed, Outgoing<K, C>)
         requires within { account < K.accounts }
+        requires named { slice_get C.names account ≡ Some name.now }
         requires here { is_lost leave ≡ false }
         ensures done { Adds account (command_view command.now) result.0 self.old self.new }
-        ensures noted { IsNoted K.rules (slice_get K.names account) account result.1 }
+        ensures noted { (result.0 ≡ Memory) ⊎ IsNotedAfter K.rules (called_at C.names account) (record { account = account; command = command_view command.now; answer = result.0 }) result.1 }
     {
-        let answered = self.history.act(rt, pool, account, command);
-        let (leave, notice) = noted(rt, pool, keeper, account, &self.history, leave);
-        self.notice = notice;
-        (answered, leave)
+        let mut noting = Noting {
+            rt,
+            keeper,
+            account,
+            outgoing: leave,
+        };
+        let (performed, is_shown) = self
+            .history
+            .act_shown(rt, pool, account, name, command, &mut noting);
+        let Noting { outgoing, .. } = noting;
+        if let Performed::Memory = &performed {
+            self.notice = Notice {
+                waiting: Waiting::Nothing,
+            };
+            return (performed, outgoing);
+        }
+        let leave = if_held(outgoing, account, is_shown);
+        self.notice = noted(&self.history, &leave);
+        (performed, leave)
     }
 
     /// The share in which what was done is counted, as `History::into_share`; and for what the last answer waits.
     pub(crate) fn into_parts(self) -> (Share<K>, Notice<K, C>)
         ensures share { result.0 ≡ self.history.share }
-        ensures answered { AreAnswered K.rules K.names self.history.done self.history.begun result.0 }
-        ensures told { IsTold K.rules K.names self.replies_wait self.history.done result.1 }
+        ensures answered { AreAnswered K.rules C.names self.history.done self.history.begun result.0 }
+        ensures told { IsTold K.rules C.names self.replies_wait self.history.done result.1 }
     {
         let Exchange {
             history,

@@ -14,10 +14,8 @@ use std::sync::Wait;
 
 /// The room for the file of an account, if it can be short.
 fn room_of(rooms: &[FileRoom], account: usize) -> Option<&Room> {
-    match rooms.get(account) {
-        Some(Some(room)) => Some(&**room),
-        _ => None,
-    }
+    let room = rooms.get(account)?.get()?;
+    Some(&**room)
 }
 
 /// Whether a message lets a shoen go on that may add entries without end; others let it stand, or are its last.
@@ -91,11 +89,11 @@ pub(crate) fn has_no_room<W: Wait, J: Naming>(
 
 /// Whether the file of an account has as many bytes as it may, with those that wait for it.
 fn is_beyond<W: Wait, J: Naming>(rt: &W, host: Host<'_, J>, account: usize, room: &Room) -> bool {
-    let waiting = match host.keepers.get(account) {
+    let waiting = match host.keeper(account) {
         Some(keeper) => keeper.waiting_bytes(rt) as u64,
         None => 0,
     };
-    room.bytes().saturating_add(waiting) >= host.disk_each
+    room.bytes().saturating_add(waiting) >= host.live.disk_each()
 }
 
 /// Takes in that a command was done: what waits for room gives way to a reset.
@@ -128,10 +126,17 @@ pub(crate) fn is_short<J: Naming>(host: Host<'_, J>, account: usize) -> bool {
     }
 }
 
+/// Lets what waits for room of an account that leaves be written from the room for resets, since none comes any more.
+pub(crate) fn hurry_room<J: Naming>(host: Host<'_, J>, account: usize) {
+    if let Some(room) = room_of(host.rooms, account) {
+        room.hurry();
+    }
+}
+
 /// Lets nothing wait for room any more.
 pub(crate) fn close_rooms<J: Naming>(host: Host<'_, J>) {
     for room in host.rooms {
-        if let Some(room) = room {
+        if let Some(room) = room.get() {
             room.close();
         }
     }

@@ -4,13 +4,16 @@ ghost use Rattle.std.specs.Prelude.{◌≡◌, ◌<◌, ◌≤◌, ◌++◌, ◌
 ghost use Rattle.kl1_command.specs.Commands.{command_view};
 ghost use Rattle.kl1_command.specs.declared.performed.Performed.TheVariants.{Memory};
 ghost use Rattle.kl1_session.specs.Conversations.{Done};
-ghost use Rattle.kl1_host_work.specs.Fronts.{OpensByName};
+ghost use Rattle.kl1_session.specs.Views.{entries_view};
+ghost use Rattle.kl1_host_work.specs.Fronts.{OpensByName, names_in};
 
+use crate::start_fault::StartFault;
+use crate::steering::Steering;
 use kl1_command::{Command, Performed};
 use kl1_lines::{Sink, Source};
 use kl1_log::LogError;
 use kl1_pool::BookTotals;
-use kl1_session::{Disconnect, Door};
+use kl1_session::{Disconnect, Door, Key};
 use kl1_user_events::{Extent, GoalNo, GoalView, Presence, ShoenNo, ShoenView, Usage};
 use std::alloc::AllocError;
 use std::net::SocketAddr;
@@ -47,6 +50,12 @@ pub enum HostEvent {
     DiskFreed { account: usize },
     /// An account was refused a source, since it has loaded as many bytes as it may.
     CodesFull { account: usize },
+    /// All accounts of the start are restored.
+    AllRestored,
+    /// The account of a place that came while the host runs can't be restored.
+    Unrestored { account: usize, fault: StartFault },
+    /// An account has left the host: its file is closed.
+    Left { account: usize },
     /// A host that was asked to stop waits for this account, which is in the midst of a reduction.
     AwaitsEnd { account: usize },
 }
@@ -78,6 +87,9 @@ pub trait HostView {
 
     /// Whether an account's file gets nothing more, and the account no commands.
     fn is_stopped(&self, account: usize) -> bool;
+
+    /// How many events are done of how many, if an account is being restored.
+    fn restoring(&self, account: usize) -> Option<(u64, u64)>;
 
     /// How many connections are open.
     fn connections(&self) -> usize;
@@ -162,30 +174,39 @@ pub trait Performer {
 pub trait Front {
     type Entrance: Door + Drop;
 
-    /// What the accounts are called, in the order of their numbers.
-    ghost names: { Self → List (List ℕ) };
+    /// The newest keys: the account of a place has the name and the key that stand there, and where no name stands nobody is let in. They stay as they
+    /// are.
+    fn keys(&self) -> &[Key];
 
-    /// Who lets in whoever connects from this address: by a name to the account that is called so, and to no other.
-    fn door(&self, address: SocketAddr) -> Self::Entrance
-        ensures accounts { Self.Entrance.accounts result ≡ length (names self.now) }
-        ensures names { OpensByName (Self.Entrance.opens result) (names self.now) };
+    /// Who lets in whoever connects from this address, and the keys by which it does, which are the newest: by a name to the account that is
+    /// called so by these, and to no other.
+    fn door(&self, address: SocketAddr) -> (Self::Entrance, &[Key])
+        ensures accounts { Self.Entrance.accounts result.0 ≡ length result.1.now }
+        ensures names { OpensByName (Self.Entrance.opens result.0) (names_in (entries_view result.1.now)) };
 
     /// Takes in what a host tells.
     fn tell(&self, event: HostEvent);
 
-    /// Serves a connection of a browser from this address. What is written waits until all is on disk that `performer` has done and `host`
-    /// has shown.
+    /// Serves a connection of a browser from this address, by these keys. What is written waits until all is on disk that `performer` has done
+    /// and `host` has shown.
     fn serve_pages<S: Source, T: Sink, P: Performer, V: HostView>(
         &self,
         address: SocketAddr,
+        keys: &[Key],
         source: &mut S,
         sink: &mut T,
         performer: &mut P,
         host: &V,
     )
-        requires { length (names self.now) ≤ P.accounts };
+        requires { length keys.now ≤ P.accounts };
 
-    /// Attends to a host, in the thread that runs it, and may do commands. The host stops when it returns.
-    fn attend<P: Performer, V: HostView>(&self, performer: &mut P, host: &V)
-        requires { length (names self.now) ≤ P.accounts };
+    /// Attends to a host, in the thread that runs it, from the moment at which clients are let in, and may do commands, to the accounts of these keys.
+    /// Answers whether it is to be called again, by the newest keys; else the host stops. It returns soon once `host` has failed.
+    fn attend<P: Performer, V: HostView + Steering>(
+        &self,
+        keys: &[Key],
+        performer: &mut P,
+        host: &V,
+    ) -> bool
+        requires { length keys.now ≤ P.accounts };
 }

@@ -1,7 +1,9 @@
 // A pool with its files as what does the commands of one connection.
 
-ghost use Rattle.std.specs.Prelude.{◌≡◌, ◌<◌, true};
+ghost use Rattle.std.specs.Prelude.{◌≡◌, ◌<◌, ◌≤◌, Some, length, slice_get, true};
 ghost use Rattle.kl1_command.specs.Commands.{command_view};
+ghost use Rattle.kl1_session.specs.Views.{entries_view};
+ghost use Rattle.kl1_host_work.specs.Fronts.{names_in};
 ghost use Rattle.kl1_host_work.specs.Notices.{tells_nothing, Adds};
 ghost use Rattle.kl1_host_work.specs.Refusals.{is_logout, is_refused, source_bytes};
 
@@ -12,20 +14,22 @@ use crate::host::Host;
 use crate::noting::{is_lost, note_told, take_leave};
 use kl1_command::{Command, Performed};
 use kl1_host_journals::{Connecting, Naming, Outgoing};
-use kl1_pool::{Pool, PoolIds};
-use kl1_session::CommandHandler;
+use kl1_pool::{Names, Pool, PoolIds};
+use kl1_session::{CommandHandler, Key};
 use kl1_user_events::{Event, Reply};
 use std::cell::Cell;
 use std::sync::Wait;
 
 /// A pool with the leave to write of one connection, and what was done for it.
 #[derive(Drop)]
-pub struct HostHandler<'p, 't, W: Wait, R: Wait, K: PoolIds + Naming, C: Connecting> {
+pub struct HostHandler<'p, 't, W: Wait, R: Wait, K: PoolIds + Naming, C: Connecting + Names> {
     pub(crate) rt: &'p W,
     pub(crate) pool: &'p Pool<'t, R, K>,
     pub(crate) host: Host<'p, K>,
     pub(crate) outgoing: &'p Cell<Outgoing<K, C>>,
     pub(crate) exchange: Exchange<K, C>,
+    pub ghost named: { names_in (entries_view host.keys.now) ≡ C.names },
+    pub ghost few: { length host.keys.now ≤ K.accounts },
 }
 
 /// How many bytes of source a command loads; 0 if it is no load.
@@ -53,11 +57,21 @@ fn is_logout(command: &Command) -> bool
     matches!(command, Command::Does(Event::Logout))
 }
 
-/// Whether a command is answered as if memory was refused, of an account that is stopped or isn't, and may load `left` bytes of sources.
-fn is_refused(command: &Command, is_stopped: bool, left: u64) -> bool
-    ensures { result ≡ is_refused (command_view command.now) is_stopped left }
+/// Whether a command is answered as if memory was refused, of an account that lets in who is served or doesn't, is stopped or isn't, and may load
+/// `left` bytes of sources.
+fn is_refused(command: &Command, lets_in: bool, is_stopped: bool, left: u64) -> bool
+    ensures { result ≡ is_refused (command_view command.now) lets_in is_stopped left }
 {
-    !is_logout(command) && (is_stopped || left < source_bytes(command) as u64)
+    !is_logout(command) && (!lets_in || is_stopped || left < source_bytes(command) as u64)
+}
+
+/// What an account is called by these keys.
+#[tactic(auto, using(crate::proofs::NamesInOrder::name_at))]
+fn name_at(keys: &[Key], account: usize) -> &[u8]
+    requires { account < length keys.now }
+    ensures { slice_get (names_in (entries_view keys.now)) account ≡ Some result.now }
+{
+    keys[account].name.as_slice()
 }
 
 /// Whether a module was loaded.
@@ -65,10 +79,18 @@ fn is_loaded(performed: &Performed) -> bool {
     matches!(performed, Performed::Whole(Reply::Loaded(_)))
 }
 
-impl<'p, 't, W: Wait, R: Wait, K: PoolIds + Naming, C: Connecting> HostHandler<'p, 't, W, R, K, C> {
-    /// Whether a command is answered as if memory was refused: the account is stopped, or it has loaded what it may.
+impl<'p, 't, W: Wait, R: Wait, K: PoolIds + Naming, C: Connecting + Names> HostHandler<
+    'p,
+    't,
+    W,
+    R,
+    K,
+    C,
+> {
+    /// Whether a command is answered as if memory was refused: the account isn't there, or has another key than who is served, it is stopped, or it
+    /// has loaded what it may.
     fn is_refused(&self, account: usize, command: &Command) -> bool {
-        let is_stopped = match self.host.keepers.get(account) {
+        let is_stopped = match self.host.keeper(account) {
             Some(keeper) => keeper.on_disk().is_stopped(),
             None => true,
         };
@@ -78,7 +100,7 @@ impl<'p, 't, W: Wait, R: Wait, K: PoolIds + Naming, C: Connecting> HostHandler<'
         {
             sources.refuse();
         }
-        is_refused(command, is_stopped, left)
+        is_refused(command, self.host.lets_in(account), is_stopped, left)
     }
 
     /// How many bytes of sources an account may still load, without end if it has loaded just this one before.
@@ -118,12 +140,16 @@ impl<'p, 't, W: Wait, R: Wait, K: PoolIds + Naming, C: Connecting> HostHandler<'
     }
 
     /// Does a command whose answer tells nothing that is to be on disk before.
-    fn act_at_once(&mut self, account: usize, command: &Command) -> Performed
+    fn act_at_once(&mut self, account: usize, name: &[u8], command: &Command) -> Performed
         requires within { account < K.accounts }
+        requires named { slice_get C.names account ≡ Some name.now }
         requires nothing { tells_nothing (command_view command.now) self.old.exchange.replies_wait ≡ true }
-        ensures { Adds account (command_view command.now) result self.old.exchange self.new.exchange }
+        ensures done { Adds account (command_view command.now) result self.old.exchange self.new.exchange }
+        ensures accounts { length self.new.host.keys.now ≡ length self.old.host.keys.now }
     {
-        let performed = self.exchange.act(self.rt, self.pool, account, command);
+        let performed = self
+            .exchange
+            .act(self.rt, self.pool, account, name, command);
         self.take_in(account, command, &performed);
         // A session that is opened while the disk is full tells nothing of the account, so its reply waits for nothing: a reset may follow.
         if !(is_of_sessions(command) && is_short(self.host, account)) {
@@ -134,34 +160,36 @@ impl<'p, 't, W: Wait, R: Wait, K: PoolIds + Naming, C: Connecting> HostHandler<'
 
     /// Does a command, and then lets the leave to write wait for what it did. If that is lost, nothing more can be told to the connection, and
     /// the command isn't done.
-    fn act_noted(&mut self, account: usize, command: &Command) -> Performed
-        requires { account < K.accounts }
-        ensures { Adds account (command_view command.now) result self.old.exchange self.new.exchange }
+    fn act_noted(&mut self, account: usize, name: &[u8], command: &Command) -> Performed
+        requires within { account < K.accounts }
+        requires named { slice_get C.names account ≡ Some name.now }
+        ensures done { Adds account (command_view command.now) result self.old.exchange self.new.exchange }
+        ensures accounts { length self.new.host.keys.now ≡ length self.old.host.keys.now }
     {
         let host = self.host;
         let leave = take_leave(self.rt, host, self.outgoing, account);
         if is_lost(&leave) {
             return self.exchange.refuse(account, command);
         }
-        let Some(keeper) = host.keepers.get(account) else {
+        let Some(keeper) = host.keeper(account) else {
             self.outgoing.set(leave);
             return self.exchange.refuse(account, command);
         };
         let (performed, leave) = self
             .exchange
-            .act_noted(self.rt, self.pool, keeper, account, command, leave);
+            .act_noted(self.rt, self.pool, keeper, account, name, command, leave);
         self.outgoing.set(leave);
         self.take_in(account, command, &performed);
         performed
     }
 }
 
-impl<'p, 't, W: Wait, R: Wait, K: PoolIds + Naming, C: Connecting> CommandHandler
+impl<'p, 't, W: Wait, R: Wait, K: PoolIds + Naming, C: Connecting + Names> CommandHandler
     for HostHandler<'p, 't, W, R, K, C> {
-    ghost use Rattle.std.specs.Prelude.{Bool};
+    ghost use Rattle.std.specs.Prelude.{Bool, length};
     ghost use Rattle.kl1_pool_tickets.specs.Counts.{Counts};
 
-    ghost accounts = { λ handler. K.accounts };
+    ghost accounts = { λ handler. length handler.host.keys.now };
 
     ghost done = { λ handler. handler.exchange.history.done };
 
@@ -170,25 +198,28 @@ impl<'p, 't, W: Wait, R: Wait, K: PoolIds + Naming, C: Connecting> CommandHandle
     ghost beside = { λ handler. (handler.exchange.history.begun, handler.exchange.replies_wait) };
 
     fn act(&mut self, account: usize, command: &Command) -> Performed {
+        let name = name_at(self.host.keys, account);
         if self.is_refused(account, command) || has_no_room(self.rt, self.host, account, command) {
             self.exchange.refuse(account, command)
         } else if self.exchange.tells_nothing(command) {
-            self.act_at_once(account, command)
+            self.act_at_once(account, name, command)
         } else {
-            self.act_noted(account, command)
+            self.act_noted(account, name, command)
         }
     }
 }
 
-impl<'p, 't, W: Wait, R: Wait, K: PoolIds + Naming, C: Connecting> Performer
+impl<'p, 't, W: Wait, R: Wait, K: PoolIds + Naming, C: Connecting + Names> Performer
     for HostHandler<'p, 't, W, R, K, C> {
     ghost accounts = { K.accounts };
 
     ghost done = { λ handler. handler.exchange.history.done };
 
     fn perform(&mut self, account: usize, command: &Command) -> Performed {
-        if account < self.pool.accounts() {
+        if account < self.host.keys.len() {
             self.act(account, command)
+        } else if account < self.pool.accounts() {
+            self.exchange.refuse(account, command)
         } else {
             Performed::Memory
         }

@@ -1,23 +1,22 @@
-// The file of an account, linked with the account's journal.
+// The file of an account, which comes with the account and is linked with its journal.
 
-ghost use Rattle.std.specs.Prelude.{◌<◌, IfOk, slice_get};
+ghost use Rattle.std.specs.Prelude.{◌≡◌, IfOk};
 ghost use Rattle.kl1_journal_stamps.specs.Stamps.{IsStampOf};
-ghost use Rattle.kl1_pool.specs.Showing.{IsSeenOfSome};
-ghost use Rattle.kl1_host_work.specs.Linkages.{IsRead, IsLinked, Takes};
+ghost use Rattle.kl1_host_work.specs.Linkages.{IsOwnOf, IsRead, Takes};
 
+use crate::account_place::AccountPlace;
 use crate::histories::OwnHistory;
-use kl1_host_journals::{LinkFault, Linked, Naming, RestingFile, link};
+use kl1_host_journals::{LinkFault, Linked, Naming, OpenedFile, RestingFile, link};
 use kl1_journal_entries::Journal;
 use kl1_journal_stamps::Stamp;
 use kl1_log::Disk;
-use kl1_pool::{JournalReader, Pool, PoolIds};
+use kl1_pool::{JournalReader, Meter, Newcomer};
 use std::alloc::Global;
 use std::mem;
-use std::sync::Wait;
 
 /// How far it is with a file.
 #[derive(Drop)]
-enum Linkage<D: Disk, J: Naming> {
+pub(crate) enum Linkage<D: Disk, J: Naming> {
     /// It isn't linked yet. The history is that of its account, and begins with it.
     Unlinked(RestingFile<D>, OwnHistory<J>),
     /// It is linked with the journal that was shown.
@@ -26,10 +25,12 @@ enum Linkage<D: Disk, J: Naming> {
     Failed(LinkFault),
 }
 
-/// Links a file with the journal that it is shown.
+/// Comes with an account: with the journal of its file, which is linked with the account's journal. The place is told how far it is.
 #[derive(Drop)]
-struct Linking<D: Disk, J: Naming> {
+pub(crate) struct Linking<'p, D: Disk, J: Naming> {
     alloc: Global,
+    place: &'p AccountPlace,
+    pub(crate) opened: OpenedFile<D>,
     linkage: Linkage<D, J>,
 }
 
@@ -53,11 +54,25 @@ fn linked<D: Disk + Drop, J: Naming>(
                 Err(fault) => Linkage::Failed(fault),
             }
         }
-        linkage => linkage,
+        Linkage::Linked(linked) => Linkage::Linked(linked),
+        Linkage::Failed(fault) => Linkage::Failed(fault),
     }
 }
 
-impl<D: Disk + Drop, J: Naming> JournalReader for Linking<D, J> {
+/// How far it is with a file of this history, if there is one.
+fn unlinked<D: Disk + Drop, J: Naming>(
+    file: Option<RestingFile<D>>,
+    own: OwnHistory<J>,
+) -> Linkage<D, J>
+    ensures { IsOwnOf own.account result }
+{
+    match file {
+        Some(file) => Linkage::Unlinked(file, own),
+        None => Linkage::Failed(LinkFault::Memory),
+    }
+}
+
+impl<D: Disk + Drop, J: Naming> JournalReader for Linking<'_, D, J> {
     ghost use Rattle.kl1_host_work.specs.Linkages.{IsRead, Takes};
 
     ghost takes = { λ l s. Takes l.linkage s };
@@ -70,32 +85,50 @@ impl<D: Disk + Drop, J: Naming> JournalReader for Linking<D, J> {
     }
 }
 
-/// The file of an account of a pool, with what waits for it: it is the file of the account's journal. The history is to be the account's.
-pub(crate) fn link_account<'t, D: Disk + Drop, W: Wait, R: Wait, K: PoolIds + Naming>(
-    rt: &W,
-    alloc: Global,
-    pool: &Pool<'t, R, K>,
-    account: usize,
-    file: RestingFile<D>,
-    own: OwnHistory<K>,
-) -> Result<Linked<D, K>, LinkFault>
-    requires { account < K.accounts }
-    ensures { IfOk result (λ l. IsSeenOfSome K.rules (slice_get K.names account) (IsLinked l)) }
-{
-    if own.account as usize != account {
-        return Err(LinkFault::Memory);
+impl<D: Disk + Drop, J: Naming> Meter for Linking<'_, D, J> {
+    fn goes_on(&self, events: u64) -> bool {
+        self.place.goes_on(events)
     }
-    let mut linking = Linking {
-        alloc,
-        linkage: Linkage::Unlinked(file, own),
-    };
-    if !pool.look(rt, account, &mut linking) {
-        return Err(LinkFault::Memory);
+}
+
+impl<D: Disk + Drop, J: Naming> Newcomer for Linking<'_, D, J> {
+    ghost brings = { λ l. l.opened.journal };
+
+    fn journal(&self) -> &Journal {
+        self.opened.journal()
     }
-    let Linking { linkage, .. } = linking;
-    match linkage {
-        Linkage::Linked(linked) => Ok(linked),
-        Linkage::Failed(fault) => Err(fault),
-        Linkage::Unlinked(..) => Err(LinkFault::Memory),
+}
+
+impl<'p, D: Disk + Drop, J: Naming> Linking<'p, D, J> {
+    /// The file of the account of a place, with its history, which begins with it. A file that was taken before can't be linked.
+    pub(crate) fn new(
+        alloc: Global,
+        place: &'p AccountPlace,
+        opened: OpenedFile<D>,
+        own: OwnHistory<J>,
+    ) -> Self
+        ensures account { IsOwnOf own.account result.linkage }
+        ensures journal { result.opened.journal ≡ opened.journal }
+    {
+        let mut opened = opened;
+        let file = opened.take_file();
+        Linking {
+            alloc,
+            place,
+            opened,
+            linkage: unlinked(file, own),
+        }
+    }
+
+    /// The file, with what waits for it.
+    pub(crate) fn into_linked(self) -> Result<Linked<D, J>, LinkFault>
+        ensures { IfOk result (λ l. self.entry.linkage ≡ Linkage.Linked l) }
+    {
+        let Linking { linkage, .. } = self;
+        match linkage {
+            Linkage::Linked(linked) => Ok(linked),
+            Linkage::Failed(fault) => Err(fault),
+            Linkage::Unlinked(..) => Err(LinkFault::Memory),
+        }
     }
 }

@@ -146,6 +146,12 @@ impl<K: PoolIds> Lobby<K> {
         self.visitors.lock(rt).count()
     }
 
+    /// Ends those connections, once they are answered, of which a key has let in to one of these accounts last; and, if `others`, those of
+    /// browsers and of who has shown no key.
+    pub(crate) fn end_those<W: Wait>(&self, rt: &W, accounts: &[usize], others: bool) {
+        self.visitors.lock(rt).end_those(accounts, others);
+    }
+
     /// Lets nobody in from now on, and ends the connections that are open.
     pub(crate) fn close<W: Wait>(&self, rt: &W) {
         let mut guard = self.visitors.lock(rt);

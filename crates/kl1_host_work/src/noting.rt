@@ -1,15 +1,16 @@
 // What has come to an account's journal, noted under the account's lock.
 
-ghost use Rattle.std.specs.Prelude.{◌≡◌, ◌<◌, slice_get};
+ghost use Rattle.std.specs.Prelude.{◌≡◌, ◌<◌};
+ghost use Rattle.kl1_pool.specs.Names.{called_at};
 ghost use Rattle.kl1_pool.specs.Showing.{IsSeenOfSome};
 ghost use Rattle.kl1_host_journals.specs.Outgoings.{IsNotedFor};
-ghost use Rattle.kl1_host_work.specs.Noted.{is_lost, IsNoted};
+ghost use Rattle.kl1_host_work.specs.Noted.{is_lost, IsHeldFor, IsNoted};
 
 use crate::host::Host;
 use kl1_host_journals::{Connecting, Keeper, Naming, Outgoing};
 use kl1_journal_entries::Journal;
 use kl1_journal_stamps::Stamp;
-use kl1_pool::{JournalReader, Pool, PoolIds};
+use kl1_pool::{JournalReader, LastReader, Pool, PoolIds};
 use std::cell::Cell;
 use std::marker::Brand;
 use std::mem;
@@ -17,11 +18,11 @@ use std::sync::Wait;
 
 /// Notes a journal of an account that it is shown, and lets the leave to write of a connection wait for it.
 #[derive(Drop)]
-struct Noting<'k, W: Wait, J: Naming, C: Connecting> {
-    rt: &'k W,
-    keeper: &'k Keeper<J>,
-    account: usize,
-    outgoing: Outgoing<J, C>,
+pub(crate) struct Noting<'k, W: Wait, J: Naming, C: Connecting> {
+    pub(crate) rt: &'k W,
+    pub(crate) keeper: &'k Keeper<J>,
+    pub(crate) account: usize,
+    pub(crate) outgoing: Outgoing<J, C>,
 }
 
 impl<'k, W: Wait, J: Naming, C: Connecting> JournalReader for Noting<'k, W, J, C> {
@@ -40,6 +41,28 @@ impl<'k, W: Wait, J: Naming, C: Connecting> JournalReader for Noting<'k, W, J, C
     }
 }
 
+/// Reads nothing.
+#[derive(Drop)]
+pub(crate) struct NoReader;
+
+impl JournalReader for NoReader {
+    ghost takes = { λ reader stamp. Unit {0} };
+
+    ghost reads = { λ before after journal ended. Unit {0} };
+
+    fn read(&mut self, _journal: &Journal, _ended: u64, _stamp: &Stamp) {}
+}
+
+impl LastReader for NoReader {
+    ghost use Rattle.std.specs.Prelude.{true};
+
+    ghost has_read = { λ _. true };
+
+    fn is_done(&self) -> bool {
+        true
+    }
+}
+
 /// Notes what has come to the journal of an account, and lets the leave to write of a connection wait until it is on disk. `Lost` if memory
 /// was refused, or if another account was found, which never is so.
 pub(crate) fn note_for<'t, W: Wait, R: Wait, K: PoolIds + Naming, C: Connecting>(
@@ -50,7 +73,7 @@ pub(crate) fn note_for<'t, W: Wait, R: Wait, K: PoolIds + Naming, C: Connecting>
     outgoing: Outgoing<K, C>,
 ) -> Outgoing<K, C>
     requires { account < K.accounts }
-    ensures { IsNoted K.rules (slice_get K.names account) account result }
+    ensures { IsNoted K.rules (called_at K.names account) account result }
 {
     let mut noting = Noting {
         rt,
@@ -60,10 +83,21 @@ pub(crate) fn note_for<'t, W: Wait, R: Wait, K: PoolIds + Naming, C: Connecting>
     };
     let is_seen = pool.look(rt, account, &mut noting);
     let Noting { outgoing, .. } = noting;
+    if_held(outgoing, account, is_seen)
+}
+
+/// A leave to write, if it waits for this account and `is_held`; else it is lost.
+pub(crate) fn if_held<J: Naming, C: Connecting>(
+    outgoing: Outgoing<J, C>,
+    account: usize,
+    is_held: bool,
+) -> Outgoing<J, C>
+    ensures { IsHeldFor account is_held outgoing result }
+{
     let Outgoing::Waits(held) = outgoing else {
         return Outgoing::Lost;
     };
-    if is_seen && held.account() as usize == account {
+    if is_held && held.account() as usize == account {
         Outgoing::Waits(held)
     } else {
         Outgoing::Lost
@@ -117,7 +151,7 @@ pub(crate) fn note_told<'t, W: Wait, R: Wait, K: PoolIds + Naming, C: Connecting
 )
     requires { account < K.accounts }
 {
-    let Some(keeper) = host.keepers.get(account) else {
+    let Some(keeper) = host.keeper(account) else {
         return;
     };
     if host.syncing.replies_wait {

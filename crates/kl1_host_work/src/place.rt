@@ -100,6 +100,16 @@ impl<S: Drop> Place<S> {
         }
     }
 
+    /// Ends who has it, once they are answered, as `Visitors::end_those`.
+    pub(crate) fn end_if(&self, accounts: &[usize], others: bool) {
+        if let Some(visitor) = &self.visitor {
+            let visit = &*visitor.visit;
+            if visit.is_of(accounts) || (others && visit.is_open_to_all()) {
+                visit.end_reading();
+            }
+        }
+    }
+
     /// The rank by which who has it gives way to one that comes; `None` if it doesn't.
     pub(crate) fn rank(&self, before: u64) -> Option<u128>
         ensures { result ≡ rank_of before self.now.visitor }

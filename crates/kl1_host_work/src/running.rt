@@ -1,26 +1,17 @@
 // The threads of a host.
 
-ghost use Rattle.std.specs.Prelude.{◌≡◌};
-ghost use Rattle.kl1_host_work.specs.Fronts.{AreAccountsOf};
-
+use crate::attending::attend;
 use crate::connections::{Desk, Peers, serve_each};
-use crate::exchange::Exchange;
 use crate::filling::close_rooms;
 use crate::front::{Front, HostEvent};
-use crate::handler::HostHandler;
 use crate::host::Host;
+use crate::keeping::{Means, Opener, keep};
 use crate::noting::note;
 use crate::start_fault::StartFault;
-use crate::view::View;
 use crate::watching::{tell_waits, watch};
-use kl1_host_journals::{
-    Bell, Connecting, FaultTeller, FreshConnection, Keeper, KeptFile, Naming, Outgoing, Scribe,
-};
+use kl1_host_journals::{Bell, FaultTeller, Naming};
 use kl1_log::{Disk, LogError, LogFile};
 use kl1_pool::{Gate, Pool, PoolIds, Share, worker};
-use std::alloc::{AllocError, Global};
-use std::cell::Cell;
-use std::marker::Brand;
 use std::net::{Net, TcpListener, TcpStream};
 use std::sync::Wait;
 use std::thread;
@@ -39,14 +30,22 @@ impl Gate for OpenGate {
 
 /// Tells a front of faults.
 #[derive(Drop)]
-struct Telling<'f, F: Front> {
-    front: &'f F,
+pub(crate) struct Telling<'f, F: Front> {
+    pub(crate) front: &'f F,
 }
 
 impl<F: Front> FaultTeller for Telling<'_, F> {
     fn tell(&self, account: usize, error: LogError) {
         self.front.tell(HostEvent::Stopped { account, error });
     }
+}
+
+/// The shares of workers and of the program, and what those have who keep places.
+#[derive(Drop)]
+pub(crate) struct Shares<K: PoolIds + Naming> {
+    pub(crate) workers: Vec<Share<K>>,
+    pub(crate) attending: Share<K>,
+    pub(crate) places: Vec<Means<K>>,
 }
 
 /// Goes on with accounts until the pool is closed, and gives the share back.
@@ -67,8 +66,8 @@ fn note_all<'t, W: Wait, R: Wait, K: PoolIds + Naming>(
     pool: &Pool<'t, R, K>,
     host: Host<'_, K>,
 ) {
-    for (account, keeper) in host.keepers.iter().enumerate() {
-        if account < pool.accounts() {
+    for account in 0..pool.accounts() {
+        if let Some(keeper) = host.keeper(account) {
             note(rt, pool, keeper, account);
         }
     }
@@ -105,47 +104,10 @@ fn wake<N: Net<Listener = TcpListener, Stream = TcpStream> + Clock>(
     }
 }
 
-/// `attend` as a connection that no type names yet.
-fn attend_as<'p, 't, F: Front, N: Wait + Clock, R: Wait, K, C: Connecting>(
-    rt: &'p N,
-    desk: &'p Desk<'p, 't, F, R, K>,
-    share: Share<K>,
-    connection: FreshConnection,
-)
-where
-    K: PoolIds + Naming,
-    requires accounts { AreAccountsOf (F.names desk.now.front.now) K.names K.accounts }
-    requires connection { connection.pen.book ≡ C.connection }
-{
-    let outgoing = Cell::new(Outgoing::<K, C>::new(connection));
-    let mut performer = HostHandler {
-        rt,
-        pool: desk.pool,
-        host: desk.host,
-        outgoing: &outgoing,
-        exchange: Exchange::new(share, desk.host.syncing.replies_wait),
-    };
-    let view = View::<F, N, R, K, C> {
-        rt,
-        desk,
-        outgoing: None,
-        visit: None,
-    };
-    desk.front.attend(&mut performer, &view);
-}
-
-/// Lets the program attend to a host if all its threads are there, with a share for the commands that it does.
-fn attend<'p, 't, F: Front, N: Wait + Clock, R: Wait, K: PoolIds + Naming>(
-    rt: &'p N,
-    desk: &'p Desk<'p, 't, F, R, K>,
-    all_are_there: bool,
-    share: Share<K>,
-)
-    requires { AreAccountsOf (F.names desk.now.front.now) K.names K.accounts }
-{
-    if all_are_there {
-        let connection = FreshConnection::new();
-        attend_as::<F, N, R, K, Brand>(rt, desk, share, connection);
+/// Ends what is waited for or restored at places.
+fn end_places<W: Wait, J: Naming>(rt: &W, host: Host<'_, J>) {
+    for place in host.places {
+        place.end(rt);
     }
 }
 
@@ -159,6 +121,7 @@ where
     N: Net<Listener = TcpListener, Stream = TcpStream> + Wait + Clock,
 {
     desk.lobby.close(rt);
+    end_places(rt, desk.host);
     // Who waits for the disk isn't to wait for room on it.
     close_rooms(desk.host);
     wake(rt, listeners.clients);
@@ -197,105 +160,74 @@ fn run_accounts<'t, F: Front + Sync, R, K: PoolIds + Naming + Send + Sync>(
 where
     R: Net<Listener = TcpListener, Stream = TcpStream> + Threads + Wait + Clock + Sync,
     F::Entrance: Send,
-    requires { AreAccountsOf (F.names desk.now.front.now) K.names K.accounts }
 {
     let over = Bell::new();
     let over = &over;
     // Without room for their handles workers aren't waited for before the scope ends.
     let handles = Vec::with_capacity(desk.alloc, workers.len());
-    thread::scope(
-        thread::scope_env(),
-        rt,
-        move |scope| -> bool
-            requires { AreAccountsOf (F.names desk.now.front.now) K.names K.accounts }
-        {
-            let Ok(handles) = handles else {
-                return false;
-            };
-            let mut handles = handles;
-            let mut number = 0u64;
-            for share in workers {
-                if let Ok(handle) = scope.spawn(move || drop(work(rt, desk.pool, number, share))) {
-                    let _ = handles.push(handle);
-                }
-                number = number.saturating_add(1);
+    thread::scope(thread::scope_env(), rt, move |scope| -> bool {
+        let Ok(handles) = handles else {
+            return false;
+        };
+        let mut handles = handles;
+        let mut number = 0u64;
+        for share in workers {
+            if let Ok(handle) = scope.spawn(move || drop(work(rt, desk.pool, number, share))) {
+                let _ = handles.push(handle);
             }
-            let mut all_are_there = true;
-            for account in 0..desk.pool.accounts() {
-                if let Some(outlook) = desk.board.outlook(account) {
-                    let watching = scope.spawn(move || watch(rt, desk, account, outlook));
-                    all_are_there = all_are_there && watching.is_ok();
-                }
+            number = number.saturating_add(1);
+        }
+        let mut all_are_there = true;
+        for account in 0..desk.pool.accounts() {
+            if let Some(outlook) = desk.board.outlook(account) {
+                let watching = scope.spawn(move || watch(rt, desk, account, outlook));
+                all_are_there = all_are_there && watching.is_ok();
             }
-            let clients = listeners.clients;
-            let accepting = scope.spawn(
-                move ||
-                    requires { AreAccountsOf (F.names desk.now.front.now) K.names K.accounts }
-                { serve_each(rt, clients, Peers::Clients, desk) },
-            );
-            all_are_there = all_are_there && accepting.is_ok();
-            if let Some(browsers) = listeners.browsers {
-                let showing = scope.spawn(
-                    move ||
-                        requires { AreAccountsOf (F.names desk.now.front.now) K.names K.accounts }
-                    { serve_each(rt, browsers, Peers::Browsers, desk) },
-                );
-                all_are_there = all_are_there && showing.is_ok();
-            }
-            attend(&*rt, &*desk, all_are_there, attending);
-            // Without a thread for it nobody is told for whom the host waits.
-            let _ = scope.spawn(move || tell_waits(rt, desk, over));
-            wind_down(rt, desk, listeners, handles);
-            over.end(rt);
-            desk.board.close(rt);
-            all_are_there
-        },
-    )
+        }
+        let clients = listeners.clients;
+        let accepting = scope.spawn(move || { serve_each(rt, clients, Peers::Clients, desk) });
+        all_are_there = all_are_there && accepting.is_ok();
+        if let Some(browsers) = listeners.browsers {
+            let showing = scope.spawn(move || { serve_each(rt, browsers, Peers::Browsers, desk) });
+            all_are_there = all_are_there && showing.is_ok();
+        }
+        attend(&*rt, &*desk, all_are_there, attending);
+        // Without a thread for it nobody is told for whom the host waits.
+        let _ = scope.spawn(move || tell_waits(rt, desk, over));
+        wind_down(rt, desk, listeners, handles);
+        over.end(rt);
+        desk.board.close(rt);
+        all_are_there
+    })
 }
 
-/// The scribes of accounts with these keepers and files, in order.
-fn scribes_of<D: Disk + Drop, J: Naming>(
-    alloc: Global,
-    keepers: &[Keeper<J>],
-    files: Vec<KeptFile<D, J>>,
-) -> Result<Vec<Scribe<'_, D, J>>, AllocError> {
-    let mut scribes = Vec::with_capacity(alloc, files.len())?;
-    for (account, (keeper, file)) in keepers.iter().zip(files).enumerate() {
-        scribes.push(Scribe::new(account, keeper, file))?;
-    }
-    Ok(scribes)
-}
-
-/// Writes for an account until its bell says that it is to end, and gives the file back.
-fn write_on<D: Disk + Drop, J: Naming, W: Wait + Clock, T: FaultTeller>(
-    rt: &W,
-    scribe: Scribe<'_, D, J>,
-    period: Duration,
-    faults: &T,
-) -> LogFile<D> {
-    let mut scribe = scribe;
-    scribe.work(rt, period, faults);
-    scribe.into_file().into_file()
-}
-
-/// Lets each scribe write in a thread of its own while `run` runs, which is told whether all of these could be made, and which ends their
-/// bells. Answers the files, or that some thread couldn't be made.
-fn write_while<D: Disk + Drop + Send, J, R, T: FaultTeller + Sync, G: FnOnce(bool) -> bool>(
+/// Lets the place of each account be kept in a thread of its own while `run` runs, which is told whether all of these could be made, and which
+/// ends them. Answers the files, or why an account of the start isn't there, or that some thread couldn't be made.
+fn keep_while<
+    't,
+    F: Front + Sync,
+    D: Disk + Drop + Send,
+    O: Opener<D> + Sync,
+    R,
+    K,
+    G: FnOnce(bool) -> bool,
+>(
     rt: &R,
-    alloc: Global,
-    scribes: Vec<Scribe<'_, D, J>>,
-    period: Duration,
-    faults: &T,
+    desk: &Desk<'_, 't, F, R, K>,
+    opener: &O,
+    firsts: usize,
+    means: Vec<Means<K>>,
     run: G,
 ) -> Result<Vec<LogFile<D>>, StartFault>
 where
-    J: Naming + Send + Sync,
     R: Threads + Wait + Clock + Sync,
+    F::Entrance: Send,
+    K: PoolIds + Naming + Send + Sync,
     requires { (there : _) → G.pre run there }
 {
-    // No memory is asked for once a scribe is there, so that nothing keeps `run` from ending it.
-    let handles = Vec::with_capacity(alloc, scribes.len())?;
-    let back = Vec::with_capacity(alloc, scribes.len())?;
+    // No memory is asked for once one is there, so that nothing keeps `run` from ending it.
+    let handles = Vec::with_capacity(desk.alloc, means.len())?;
+    let back = Vec::with_capacity(desk.alloc, means.len())?;
     thread::scope(
         thread::scope_env(),
         rt,
@@ -305,22 +237,27 @@ where
             let mut handles = handles;
             let mut back = back;
             let mut all_are_there = true;
-            for scribe in scribes {
-                match scope.spawn(move || write_on(rt, scribe, period, faults)) {
+            let mut account = 0usize;
+            for mean in means {
+                let is_first = account < firsts;
+                match scope.spawn(move || keep(rt, desk, opener, account, is_first, mean)) {
                     Ok(handle) => {
                         let _ = handles.push(handle);
                     }
                     Err(_) => all_are_there = false,
                 }
+                account = account.saturating_add(1);
             }
             let all_were_there = run(all_are_there);
             for handle in handles {
-                let _ = back.push(handle.join(rt));
+                if let Some(file) = handle.join(rt) {
+                    let _ = back.push(file);
+                }
             }
-            if all_were_there {
-                Ok(back)
-            } else {
-                Err(StartFault::Threads)
+            match desk.failing.take(rt) {
+                Some(fault) => Err(fault),
+                None if all_were_there => Ok(back),
+                None => Err(StartFault::Threads),
             }
         },
     )
@@ -339,47 +276,45 @@ fn run_noted<'t, F: Front + Sync, R, K: PoolIds + Naming + Send + Sync>(
 where
     R: Net<Listener = TcpListener, Stream = TcpStream> + Threads + Wait + Clock + Sync,
     F::Entrance: Send,
-    requires { AreAccountsOf (F.names desk.now.front.now) K.names K.accounts }
 {
     let all_are_there = scribes_are_there && run_accounts(rt, listeners, desk, workers, attending);
+    // No account comes from here on, so each scribe that is there hears its bell.
+    end_places(rt, desk.host);
     note_all(rt, desk.pool, desk.host);
-    for keeper in desk.host.keepers {
-        keeper.bell().end(rt);
+    for place in desk.host.keepers {
+        if let Some(keeper) = place.get() {
+            keeper.bell().end(rt);
+        }
     }
     all_are_there
 }
 
-/// Runs a host until its program has attended to it, with a scribe for each account in a thread of its own: replies that wait for the disk
-/// need them as long as a connection is open. Answers the files.
-pub(crate) fn run_threads<
-    't,
-    F: Front + Sync,
-    D: Disk + Drop + Send,
-    R,
-    K: PoolIds + Naming + Send + Sync,
->(
+/// Runs a host until its program has attended to it, with each place kept in a thread of its own: replies that wait for the disk need these as
+/// long as a connection is open. The accounts of the first places come at once. Answers the files.
+pub(crate) fn run_threads<'t, F: Front + Sync, D: Disk + Drop + Send, O: Opener<D> + Sync, R, K>(
     rt: &R,
     listeners: Listeners<'_>,
     desk: &Desk<'_, 't, F, R, K>,
-    workers: Vec<Share<K>>,
-    attending: Share<K>,
-    files: Vec<KeptFile<D, K>>,
+    opener: &O,
+    firsts: usize,
+    shares: Shares<K>,
 ) -> Result<Vec<LogFile<D>>, StartFault>
 where
     R: Net<Listener = TcpListener, Stream = TcpStream> + Threads + Wait + Clock + Sync,
     F::Entrance: Send,
-    requires { AreAccountsOf (F.names desk.now.front.now) K.names K.accounts }
+    K: PoolIds + Naming + Send + Sync,
 {
-    let faults = Telling { front: desk.front };
-    let scribes = scribes_of(desk.alloc, desk.host.keepers, files)?;
-    write_while(
+    let Shares {
+        workers,
+        attending,
+        places,
+    } = shares;
+    keep_while(
         rt,
-        desk.alloc,
-        scribes,
-        desk.host.syncing.period,
-        &faults,
-        move |there: bool| -> bool
-            requires { AreAccountsOf (F.names desk.now.front.now) K.names K.accounts }
-        { run_noted(rt, listeners, desk, workers, attending, there) },
+        desk,
+        opener,
+        firsts,
+        places,
+        move |there: bool| -> bool { run_noted(rt, listeners, desk, workers, attending, there) },
     )
 }

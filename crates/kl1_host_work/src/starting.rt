@@ -1,29 +1,28 @@
 // A host from its files to its end.
 
-ghost use Rattle.std.specs.Prelude.{◌≡◌, IfOk};
-ghost use Rattle.kl1_model_server.specs.laws.TextLaws.{AreNames};
-ghost use Rattle.kl1_pool.specs.Parts.{AreUsed, used_names};
-ghost use Rattle.kl1_host_work.specs.AccountFiles.{names_of, names_used};
-ghost use Rattle.kl1_host_work.specs.Fronts.{AreAccountsOf};
+ghost use Rattle.std.specs.Prelude.{◌≡◌};
 ghost use Rattle.kl1_host_work.specs.OwnHistories.{AreFresh};
 
+use crate::account_place::AccountPlace;
 use crate::board::Board;
+use crate::budget::Budget;
 use crate::connections::Desk;
+use crate::failing::Failing;
 use crate::front::Front;
-use crate::histories::{fresh_histories, own_histories};
-use crate::host::{Host, Syncing};
+use crate::histories::{OwnHistory, fresh_histories, own_histories};
+use crate::host::{FileRoom, Host, Syncing};
+use crate::keeping::{Means, Opener};
+use crate::live::{Amounts, Live};
 use crate::lobby::{Limits, Lobby};
-use crate::restoring::{AccountFile, Shelf, restore_all};
-use crate::running::{Listeners, run_threads};
+use crate::running::{Listeners, Shares, run_threads};
+use crate::sources::Sources;
 use crate::start_fault::StartFault;
 use kl1_atoms::AtomTable;
 use kl1_codes::CodeTable;
-use kl1_host_journals::{FreshHistory, Naming};
-use kl1_journal_entries::Journal;
+use kl1_host_journals::{FreshHistory, KeeperPlace, Naming};
 use kl1_log::{Disk, LogFile};
 use kl1_model::limits::MOST_ACCOUNTS;
-use kl1_pool::{AccountName, Pool, PoolIds, PoolParts, Rules, Share};
-use kl1_text::AtomText;
+use kl1_pool::{Pool, PoolIds, PoolParts, Rules, Share};
 use std::alloc::{AllocError, Global};
 use std::marker::Brand;
 use std::net::{Net, TcpListener, TcpStream};
@@ -46,6 +45,41 @@ pub struct Setup {
     pub memory_each: u64,
     /// How many bytes the file of each account may have.
     pub disk_each: u64,
+    /// How many accounts come at the start: those of the first places.
+    pub accounts: usize,
+    /// How many places there are in all.
+    pub places: usize,
+}
+
+/// What is there for each place, and what all threads share of it.
+#[derive(Drop)]
+struct Places<J: Naming> {
+    places: Vec<AccountPlace>,
+    keepers: Vec<KeeperPlace<J>>,
+    budgets: Vec<Budget>,
+    rooms: Vec<FileRoom>,
+    sources: Vec<Sources>,
+}
+
+impl<J: Naming> Places<J> {
+    /// So many places, each of whose accounts may load so many bytes of sources.
+    fn new(alloc: Global, count: usize, codes_each: u64) -> Result<Self, AllocError> {
+        let mut made = Places {
+            places: Vec::with_capacity(alloc, count)?,
+            keepers: Vec::with_capacity(alloc, count)?,
+            budgets: Vec::with_capacity(alloc, count)?,
+            rooms: Vec::with_capacity(alloc, count)?,
+            sources: Vec::with_capacity(alloc, count)?,
+        };
+        for _ in 0..count {
+            made.places.push(AccountPlace::new())?;
+            made.keepers.push(KeeperPlace::new())?;
+            made.budgets.push(Budget::new(codes_each))?;
+            made.rooms.push(FileRoom::new())?;
+            made.sources.push(Sources::new(alloc))?;
+        }
+        Ok(made)
+    }
 }
 
 /// The last `count` of some shares, or all if they are fewer; the others are left.
@@ -63,183 +97,183 @@ fn take_shares<K: PoolIds>(
     Ok(taken)
 }
 
-/// The names that an account had used when its journal began.
-fn names_of(alloc: Global, journal: &Journal) -> Result<Vec<AtomText>, AllocError>
-    ensures may { IfOk result (λ names. AreNames names.items) }
-    ensures are { IfOk result (λ names. names.items ≡ journal.now.journal.names) }
-{
-    // That these are names that an account may have used.
-    journal.shows_written();
-    Vec::from_slice(alloc, journal.names())
-}
-
-/// The names that each account had used when its journal began.
-fn used_of<D: Disk>(
-    alloc: Global,
-    accounts: &[AccountFile<D>],
-) -> Result<Vec<Vec<AtomText>>, AllocError>
-    ensures may { IfOk result (λ used. AreUsed used.items) }
-    ensures are { IfOk result (λ used. used_names used.items ≡ names_used accounts.now) }
-{
-    let mut used = Vec::with_capacity(alloc, accounts.len())?;
-    for account in accounts {
-        let names = names_of(alloc, account.opened.journal())?;
-        used.push(names)?;
+/// What is set of a host, and may be set anew.
+fn amounts_of(setup: Setup) -> Amounts {
+    Amounts {
+        limits: setup.limits,
+        codes_each: setup.codes_each,
+        disk_each: setup.disk_each,
     }
-    Ok(used)
 }
 
-/// What accounts are called, in order.
-fn called<D: Disk>(
+/// What those have who keep places, for each of them a share and a history of the place's account.
+fn means_of<K: PoolIds + Naming>(
     alloc: Global,
-    accounts: &[AccountFile<D>],
-) -> Result<Vec<AccountName>, AllocError>
-    ensures { IfOk result (λ names. names.items ≡ names_of accounts.now) }
-{
-    accounts.iter().map(|account| account.name).collect(alloc)
+    shares: Vec<Share<K>>,
+    own: Vec<OwnHistory<K>>,
+) -> Result<Vec<Means<K>>, AllocError> {
+    let mut own = own;
+    let mut means = Vec::with_capacity(alloc, shares.len())?;
+    for share in shares {
+        // The first account's is the last.
+        means.push(Means {
+            share,
+            own: own.pop(),
+        })?;
+    }
+    Ok(means)
 }
 
-/// The files that a host begins with, and for each a history in which nothing is yet.
-#[derive(Drop)]
-struct FoundFiles<D: Disk> {
-    accounts: Vec<AccountFile<D>>,
-    histories: Vec<FreshHistory>,
+/// Lets the accounts of the first places come.
+fn begin_places<W: Wait>(rt: &W, places: &[AccountPlace], firsts: usize) {
+    for place in places.iter().take(firsts) {
+        let _ = place.order(rt);
+    }
 }
 
 /// Runs a host over a pool until its end.
-fn run_pool<'p, 't, F: Front + Sync, D: Disk + Drop + Send, R, K: PoolIds + Naming + Send + Sync>(
+fn run_pool<'p, 't, F: Front + Sync, D: Disk + Drop + Send, O: Opener<D> + Sync, R, K>(
     rt: &R,
     alloc: Global,
     listeners: Listeners<'_>,
     front: &'p F,
     pool: &'p Pool<'t, R, K>,
     shares: Vec<Share<K>>,
-    found: FoundFiles<D>,
+    opener: &O,
+    histories: Vec<FreshHistory>,
     setup: Setup,
 ) -> Result<Vec<LogFile<D>>, StartFault>
 where
     R: Net<Listener = TcpListener, Stream = TcpStream> + Threads + Wait + Clock + Sync,
     F::Entrance: Send,
-    requires accounts { AreAccountsOf (F.names front.now) K.names K.accounts }
-    requires histories { AreFresh K.books found.histories.items }
+    K: PoolIds + Naming + Send + Sync,
+    requires { AreFresh K.books histories.items }
 {
-    let FoundFiles {
-        accounts,
-        histories,
-    } = found;
     let own = own_histories::<K>(alloc, histories)?;
     let mut shares = shares;
-    let restoring = take_shares(alloc, &mut shares, accounts.len())?;
-    let Shelf {
-        files,
-        keepers,
-        budgets,
-        rooms,
-        sources,
-        ..
-    } = restore_all(
-        rt,
-        alloc,
-        pool,
-        front,
-        accounts,
-        own,
-        setup.codes_each,
-        restoring,
-    )?;
+    let count = pool.accounts();
+    let places_shares = take_shares(alloc, &mut shares, count)?;
     let workers = take_shares(alloc, &mut shares, setup.workers)?;
     let Some(attending) = shares.pop() else {
         return Err(StartFault::Memory);
     };
+    let Places {
+        places,
+        keepers,
+        budgets,
+        rooms,
+        sources,
+    } = Places::<K>::new(alloc, count, setup.codes_each)?;
+    begin_places(rt, places.as_slice(), setup.accounts);
+    let live = Live::new(amounts_of(setup));
+    let failing = Failing::new(setup.accounts);
     let lobby = Lobby::new(alloc, shares)?;
-    let board = Board::new(alloc, pool.accounts())?;
+    let board = Board::new(alloc, count)?;
     let host = Host {
+        places: places.as_slice(),
         keepers: keepers.as_slice(),
         budgets: budgets.as_slice(),
         rooms: rooms.as_slice(),
         sources: sources.as_slice(),
+        live: &live,
         syncing: setup.syncing,
         memory_each: setup.memory_each,
-        disk_each: setup.disk_each,
+        edition: 0,
+        keys: &[],
     };
-    let desk = Desk::new(&*front, &*pool, &lobby, &board, host, setup.limits, alloc);
-    run_threads(rt, listeners, &desk, workers, attending, files)
+    let desk = Desk {
+        front,
+        pool,
+        lobby: &lobby,
+        board: &board,
+        host,
+        failing: &failing,
+        alloc,
+    };
+    let shares = Shares {
+        workers,
+        attending,
+        places: means_of(alloc, places_shares, own)?,
+    };
+    run_threads(rt, listeners, &desk, opener, setup.accounts, shares)
 }
 
 /// Runs a host over the parts of a pool until its end.
-fn run_parts<'t, F: Front + Sync, D: Disk + Drop + Send, R, K: PoolIds + Naming + Send + Sync>(
+fn run_parts<'t, F: Front + Sync, D: Disk + Drop + Send, O: Opener<D> + Sync, R, K>(
     rt: &'t R,
     alloc: Global,
     listeners: Listeners<'_>,
     front: &F,
     parts: PoolParts<'t>,
-    found: FoundFiles<D>,
+    opener: &O,
+    histories: Vec<FreshHistory>,
     setup: Setup,
 ) -> Result<Vec<LogFile<D>>, StartFault>
 where
     R: Net<Listener = TcpListener, Stream = TcpStream> + Threads + Wait + Clock + Sync,
     F::Entrance: Send,
+    K: PoolIds + Naming + Send + Sync,
     requires tables { (parts.table ≡ K.table) × (parts.seats ≡ K.seats) × (parts.codes ≡ K.codes) }
     requires names { (parts.rules ≡ K.rules) × (parts.names ≡ K.names) }
     requires bound { parts.most_bytes ≡ K.most_bytes }
     requires most { parts.most_bytes ≡ setup.memory_each }
     requires tickets { (parts.tally ≡ K.tally) × (parts.queue ≡ K.queue) × (parts.accounts ≡ K.accounts) × (parts.shares ≡ K.shares) }
     requires shown { parts.histories ≡ K.histories }
-    requires accounts { AreAccountsOf (F.names front.now) parts.names parts.accounts }
-    requires histories { AreFresh K.books found.histories.items }
+    requires histories { AreFresh K.books histories.items }
 {
     let (pool, shares) = Pool::<R, K>::new(rt, alloc, parts)?;
-    let ended = run_pool(rt, alloc, listeners, front, &pool, shares, found, setup);
+    let ended = run_pool(
+        rt, alloc, listeners, front, &pool, shares, opener, histories, setup,
+    );
     pool.discard();
     ended
 }
 
 /// `run_parts` of parts that no type names yet.
-fn run_brand<'t, F: Front + Sync, D: Disk + Drop + Send, R>(
+fn run_brand<'t, F: Front + Sync, D: Disk + Drop + Send, O: Opener<D> + Sync, R>(
     rt: &'t R,
     alloc: Global,
     listeners: Listeners<'_>,
     front: &F,
     parts: PoolParts<'t>,
-    found: FoundFiles<D>,
+    opener: &O,
+    histories: Vec<FreshHistory>,
     setup: Setup,
 ) -> Result<Vec<LogFile<D>>, StartFault>
 where
     R: Net<Listener = TcpListener, Stream = TcpStream> + Threads + Wait + Clock + Sync,
     F::Entrance: Send,
-    requires accounts { AreAccountsOf (F.names front.now) parts.names parts.accounts }
     requires most { parts.most_bytes ≡ setup.memory_each }
 {
-    run_parts::<F, D, R, Brand>(rt, alloc, listeners, front, parts, found, setup)
+    run_parts::<F, D, O, R, Brand>(rt, alloc, listeners, front, parts, opener, histories, setup)
 }
 
-/// Restores accounts from their files, which are those of the accounts of `front` in its order, and serves them to whoever it lets in, until that has attended to the host: then connections
-/// are ended, and what is left is written. Answers the files.
-pub fn run_host<F: Front + Sync, D: Disk + Drop + Send, R>(
+/// Serves accounts to whoever `front` lets in, until that has attended to the host: then connections are ended, and what is left is written.
+/// The accounts of the first places are restored from their files, each of them while those that are there are served already; others come when
+/// the front says so. If one of the first can't be restored, the host ends. Answers the files.
+pub fn run_host<F: Front + Sync, D: Disk + Drop + Send, O: Opener<D> + Sync, R>(
     rt: &R,
     alloc: Global,
     listeners: Listeners<'_>,
     front: &F,
-    accounts: Vec<AccountFile<D>>,
+    opener: &O,
     setup: Setup,
 ) -> Result<Vec<LogFile<D>>, StartFault>
 where
     R: Net<Listener = TcpListener, Stream = TcpStream> + Threads + Wait + Clock + Sync,
     F::Entrance: Send,
-    requires { F.names front.now ≡ names_of accounts.items }
 {
-    let names = called(alloc, accounts.as_slice())?;
-    if names.is_empty() || names.len() > MOST_ACCOUNTS {
+    if setup.accounts == 0 || setup.places < setup.accounts || setup.places > MOST_ACCOUNTS {
         return Err(StartFault::Accounts);
     }
-    let used = used_of(alloc, accounts.as_slice())?;
-    let (table, seats) = AtomTable::new(alloc, names.len())?;
+    let (table, seats) = AtomTable::new(alloc, setup.places)?;
     let codes = CodeTable::new(alloc)?;
     let parts = PoolParts::new(
         alloc,
         &table,
         &codes,
-        names.as_slice(),
+        // They come with their files.
+        &[],
         Rules::Four,
         seats,
         setup
@@ -247,15 +281,10 @@ where
             .saturating_add(setup.connections)
             // The program attends to the host with one.
             .saturating_add(1)
-            // Accounts are restored with shares of their own.
-            .saturating_add(accounts.len()),
+            // Places are kept with shares of their own.
+            .saturating_add(setup.places),
     )?
-    .with_names(used)
     .bounded(setup.memory_each);
-    let histories = fresh_histories(alloc, accounts.len())?;
-    let found = FoundFiles {
-        accounts,
-        histories,
-    };
-    run_brand(rt, alloc, listeners, front, parts, found, setup)
+    let histories = fresh_histories(alloc, setup.places)?;
+    run_brand::<F, D, O, R>(rt, alloc, listeners, front, parts, opener, histories, setup)
 }

@@ -1,7 +1,8 @@
 // A host as its program sees it.
 
-ghost use Rattle.std.specs.Prelude.{◌<◌};
+ghost use Rattle.std.specs.Prelude.{◌≡◌, ◌<◌, true};
 
+use crate::account_place::PlaceState;
 use crate::connections::Desk;
 use crate::front::{Front, HostView, Sight};
 use crate::noting::note_told;
@@ -30,6 +31,8 @@ pub(crate) struct View<
 > {
     pub(crate) rt: &'v N,
     pub(crate) desk: &'v Desk<'d, 't, F, R, K>,
+    /// The edition of the keys of who is served, or an older one.
+    pub(crate) edition: u64,
     /// The leave to write of the connection that is told what is seen; `None` if no connection is.
     pub(crate) outgoing: Option<&'v Cell<Outgoing<K, C>>>,
     /// That connection.
@@ -78,6 +81,13 @@ impl<F: Front, N: Wait + Clock, R: Wait, K: PoolIds + Naming, C: Connecting> Vie
     K,
     C,
 > {
+    /// Whether an account may be looked at: it is there, and has no other key than who is served. So nobody waits for one that is restored.
+    fn may_look(&self, account: usize) -> bool
+        ensures { result ≡ true → account < K.accounts }
+    {
+        account < self.desk.pool.accounts() && self.desk.host.lets_in_by(account, self.edition)
+    }
+
     /// Lets the connection wait until what was seen of an account is on disk.
     fn note(&self, account: usize) {
         if let Some(outgoing) = self.outgoing
@@ -104,11 +114,17 @@ impl<F: Front, N: Wait + Clock, R: Wait, K: PoolIds + Naming, C: Connecting> Hos
     }
 
     fn is_stopped(&self, account: usize) -> bool {
-        let desk = self.desk;
-        let keepers = desk.host.keepers;
-        match keepers.get(account) {
+        match self.desk.host.keeper(account) {
             Some(keeper) => keeper.on_disk().is_stopped(),
             None => true,
+        }
+    }
+
+    fn restoring(&self, account: usize) -> Option<(u64, u64)> {
+        let host = self.desk.host;
+        match host.places.get(account)?.standing(self.rt) {
+            PlaceState::Restores { done, all } => Some((done, all)),
+            _ => None,
         }
     }
 
@@ -153,7 +169,7 @@ impl<F: Front, N: Wait + Clock, R: Wait, K: PoolIds + Naming, C: Connecting> Hos
     }
 
     fn usage(&self, account: usize) -> Result<Usage, AllocError> {
-        if account >= self.desk.pool.accounts() {
+        if !self.may_look(account) {
             return Err(AllocError);
         }
         let usage = self.desk.pool.usage(self.rt, account)?;
@@ -162,7 +178,7 @@ impl<F: Front, N: Wait + Clock, R: Wait, K: PoolIds + Naming, C: Connecting> Hos
     }
 
     fn bytes(&self, account: usize) -> Result<u64, AllocError> {
-        if account >= self.desk.pool.accounts() {
+        if !self.may_look(account) {
             return Err(AllocError);
         }
         let Some(bytes) = self.desk.pool.bytes(self.rt, account) else {
@@ -173,7 +189,7 @@ impl<F: Front, N: Wait + Clock, R: Wait, K: PoolIds + Naming, C: Connecting> Hos
     }
 
     fn counted(&self, account: usize) -> Result<BookTotals, AllocError> {
-        if account >= self.desk.pool.accounts() {
+        if !self.may_look(account) {
             return Err(AllocError);
         }
         let Some(totals) = self.desk.pool.counted(self.rt, account) else {
@@ -189,7 +205,7 @@ impl<F: Front, N: Wait + Clock, R: Wait, K: PoolIds + Naming, C: Connecting> Hos
         from: ShoenNo,
         count: usize,
     ) -> Result<Vec<ShoenView>, AllocError> {
-        if account >= self.desk.pool.accounts() {
+        if !self.may_look(account) {
             return Err(AllocError);
         }
         let views = self.desk.pool.shoens_from(self.rt, account, from, count)?;
@@ -203,7 +219,7 @@ impl<F: Front, N: Wait + Clock, R: Wait, K: PoolIds + Naming, C: Connecting> Hos
         from: GoalNo,
         count: usize,
     ) -> Result<Vec<GoalView>, AllocError> {
-        if account >= self.desk.pool.accounts() {
+        if !self.may_look(account) {
             return Err(AllocError);
         }
         let views = self.desk.pool.goals_from(self.rt, account, from, count)?;
@@ -217,7 +233,7 @@ impl<F: Front, N: Wait + Clock, R: Wait, K: PoolIds + Naming, C: Connecting> Hos
         goal: GoalNo,
         extent: Extent,
     ) -> Result<Option<Vec<u8>>, AllocError> {
-        if account >= self.desk.pool.accounts() {
+        if !self.may_look(account) {
             return Err(AllocError);
         }
         let text = self.desk.pool.goal_text(self.rt, account, goal, extent)?;
@@ -226,7 +242,7 @@ impl<F: Front, N: Wait + Clock, R: Wait, K: PoolIds + Naming, C: Connecting> Hos
     }
 
     fn awaited(&self, account: usize, goal: GoalNo) -> Result<Option<Vec<u32>>, AllocError> {
-        if account >= self.desk.pool.accounts() {
+        if !self.may_look(account) {
             return Err(AllocError);
         }
         let awaited = self.desk.pool.awaited(self.rt, account, goal)?;
@@ -241,7 +257,7 @@ impl<F: Front, N: Wait + Clock, R: Wait, K: PoolIds + Naming, C: Connecting> Hos
         variable: u64,
         most: u64,
     ) -> Result<Presence, AllocError> {
-        if account >= self.desk.pool.accounts() {
+        if !self.may_look(account) {
             return Err(AllocError);
         }
         let presence = self

@@ -27,6 +27,10 @@ pub(crate) struct Visit {
     is_trying: AtomicBool,
     /// 0, or one more than the number of the account of which an answer to it is made or written.
     answers: AtomicUsize,
+    /// 0, or one more than the number of the account to which a key has let in last.
+    account: AtomicUsize,
+    /// Whether it is of a browser.
+    is_page: AtomicBool,
 }
 
 impl Visit {
@@ -40,6 +44,8 @@ impl Visit {
             is_in: AtomicBool::new(false),
             is_trying: AtomicBool::new(false),
             answers: AtomicUsize::new(0),
+            account: AtomicUsize::new(0),
+            is_page: AtomicBool::new(false),
         }
     }
 
@@ -88,6 +94,35 @@ impl Visit {
         }
     }
 
+    /// Notes to which account a key has let in.
+    pub(crate) fn note_account(&self, account: usize) {
+        self.account
+            .store(account.saturating_add(1), Ordering::SeqCst);
+    }
+
+    /// Notes that it is of a browser.
+    pub(crate) fn note_page(&self) {
+        self.is_page.store(true, Ordering::SeqCst);
+    }
+
+    /// Whether a key has let in to one of these accounts last.
+    pub(crate) fn is_of(&self, accounts: &[usize]) -> bool {
+        match self.account.load(Ordering::SeqCst).checked_sub(1) {
+            Some(account) => accounts.contains(&account),
+            None => false,
+        }
+    }
+
+    /// Whether it is of a browser, or of somebody who has shown no key.
+    pub(crate) fn is_open_to_all(&self) -> bool {
+        self.is_page.load(Ordering::SeqCst) || !self.is_in()
+    }
+
+    /// Reads nothing more of it: what it is answered is still written, and then it ends.
+    pub(crate) fn end_reading(&self) {
+        let _ = self.stream.shutdown(Shutdown::Read);
+    }
+
     /// Whether a key has let in.
     pub(crate) fn is_in(&self) -> bool {
         self.is_in.load(Ordering::SeqCst)
@@ -120,7 +155,8 @@ impl<D: Door + Drop> Door for WatchedDoor<'_, D> {
         self.visit.is_trying.store(true, Ordering::SeqCst);
         let found = self.door.open(name, key);
         // Before its key is no longer looked at, so that it never gives way as others do.
-        if found.is_some() {
+        if let Some(account) = found {
+            self.visit.note_account(account);
             self.visit.let_in();
         }
         self.visit.is_trying.store(false, Ordering::SeqCst);

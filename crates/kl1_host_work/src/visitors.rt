@@ -148,6 +148,13 @@ impl<S: Drop> Visitors<S> {
         }
     }
 
+    /// Ends those, once they are answered, that `Visit::is_of` tells of these accounts; and, if `others`, that `is_open_to_all` tells.
+    pub(crate) fn end_those(&self, accounts: &[usize], others: bool) {
+        for place in self.places.iter() {
+            place.end_if(accounts, others);
+        }
+    }
+
     /// Whether nobody is let in any more.
     pub(crate) fn is_closing(&self) -> bool
         ensures { result ≡ self.now.is_closing }

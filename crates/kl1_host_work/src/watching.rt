@@ -6,6 +6,7 @@ use crate::board::Outlook;
 use crate::connections::Desk;
 use crate::filling::{is_beyond_disk, is_short};
 use crate::front::{Front, HostEvent, Sight};
+use crate::keeping::close_up;
 use crate::noting::note;
 use crate::overruns::change_of;
 use crate::view::sessions_of;
@@ -136,9 +137,20 @@ pub(crate) fn watch<'t, F: Front, W: Wait + Clock, R: Wait, K: PoolIds + Naming>
         if outlook.bell().wait(rt, period.min(most)) {
             return;
         }
+        if !desk.host.is_open(account) {
+            // There is nothing to see, and nobody waits for it.
+            let (asked, _) = outlook.asked(rt);
+            outlook.show(rt, None, asked);
+            if let Some(place) = desk.host.places.get(account)
+                && place.is_leaving(rt)
+            {
+                close_up(rt, desk, account);
+            }
+            continue;
+        }
         let now = now_of(rt);
         if now.saturating_sub(noted) >= period
-            && let Some(keeper) = desk.host.keepers.get(account)
+            && let Some(keeper) = desk.host.keeper(account)
         {
             noted = now;
             note(rt, desk.pool, keeper, account);

@@ -39,7 +39,33 @@ goes_on (suc n) s mid after here one so =
     ap (λ (t : State). one_more (suc n) (first_step t)) same
     ∙ ap (λ (r : Reply). moved x.state r) reply ∙ ap (λ (y : Transition). moved y.state (ran (suc (suc n)))) so
 
-abbrev run_by : ℕ → ℕ → Kept → Option Chosen → Done
+-- the state after steps, and after more of them
+state_on : (n m : ℕ) (s mid : State) → (first_steps n s).state ≡ mid → (first_steps (n + m) s).state ≡ (first_steps m mid).state
+state_on n zero s mid h =
+    let none : n + 0 ≡ n = omega arith in
+    ap (λ k. (first_steps k s).state) none ∙ h
+state_on n (suc m) s mid h =
+    let sum : n + suc m ≡ suc (n + m) = omega arith in
+    ap (λ k. (first_steps k s).state) sum ∙ ap (λ (t : State). (first_step t).state) (state_on n m s mid h)
+
+-- steps that are all done, and then more that are
+pub steps_on : (n m : ℕ) (s mid after : State) → first_steps n s ≡ moved mid (ran n) → first_steps m mid ≡ moved after (ran m) → first_steps (n + m) s ≡ moved after (ran (n + m))
+steps_on n zero s mid after begun on =
+    let at : mid ≡ after = ap (λ (x : Transition). x.state) on in
+    let none : n + 0 ≡ n = omega arith in
+    let P : ℕ → Type 0 = λ k. first_steps k s ≡ moved after (ran k) in
+    subst P (sym none) (begun ∙ ap (λ (t : State). moved t (ran n)) at)
+steps_on n (suc m) s mid after begun on =
+    let x = first_step (first_steps m mid).state in
+    let same : (first_steps (n + m) s).state ≡ (first_steps m mid).state = state_on n m s mid (ap (λ (y : Transition). y.state) begun) in
+    let at : x.state ≡ after = ap (λ (y : Transition). y.state) on in
+    let reply : (if is_refused x.reply then x.reply else ran (suc (n + m))) ≡ ran (suc (n + m)) = ran_by (is_refused x.reply) x.reply (suc m) (suc (n + m)) refl (ap (λ (y : Transition). y.reply) on) in
+    let sum : n + suc m ≡ suc (n + m) = omega arith in
+    let P : ℕ → Type 0 = λ k. first_steps k s ≡ moved after (ran k) in
+    subst P (sym sum)
+    (ap (λ (t : State). one_more (n + m) (first_step t)) same ∙ ap (λ (r : Reply). moved x.state r) reply ∙ ap (λ (t : State). moved t (ran (suc (n + m)))) at)
+
+abbrev pub run_by : ℕ → ℕ → Kept → Option Chosen → Done
 run_by most n k o = elim o [
   | None ↦ said k (ran n)
   | Some c ↦
@@ -47,10 +73,10 @@ run_by most n k o = elim o [
       if is_refused x.reply then said k (if n == 0 then x.reply else ran n) else run_from most (suc n) x.kept
 ]
 
-ran_same : (n m : ℕ) → ran n ≡ ran m → n ≡ m
+pub ran_same : (n m : ℕ) → ran n ≡ ran m → n ≡ m
 ran_same n m e = cc
 
-not_stopped : (b : Bool) (r : Reply) (n m : ℕ) → is_refused r ≡ true → n < m → (if b then r else ran n) ≡ ran m → ⊥
+pub not_stopped : (b : Bool) (r : Reply) (n m : ℕ) → is_refused r ≡ true → n < m → (if b then r else ran n) ≡ ran m → ⊥
 not_stopped true r n m is less e = let z : true ≡ false = sym is ∙ ap is_refused e in cc
 not_stopped false r n m is less e = let z : n ≡ m = ran_same n m e in omega (arith, less, z)
 

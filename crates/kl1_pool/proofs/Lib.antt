@@ -3,7 +3,11 @@ pub mod Tells
 pub mod PoolAccounts
 pub mod Naming
 pub mod Answering
+pub mod Calling
+pub mod Coming
 pub mod FirstSteps
+pub mod GoingOn
+pub mod Pieces
 pub mod ToldEntries
 pub mod RestoredEntries
 pub mod RestoredEvents

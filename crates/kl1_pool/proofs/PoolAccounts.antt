@@ -17,6 +17,7 @@ use Rattle.kl1_user.specs.Readings.{reading_of, reading_fits}
 use Rattle.kl1_pool.specs.declared.totals_before_reset.TotalsBeforeReset.{TotalsBeforeReset}
 use Rattle.kl1_command.specs.Told.{events_by, steps_by}
 use Rattle.kl1_pool.specs.Counted.{IsCounted, with_more, past_by, is_run, ended, HasRoom}
+use Rattle.kl1_pool.specs.Names.{IsNamed}
 use Rattle.kl1_pool.specs.PoolAccounts.{StandsIn}
 use Rattle.kl1_pool.proofs.Tells.{done_counts, ended_is}
 
@@ -66,6 +67,9 @@ held_stays old new e reply names is =
     let d = is f (reading_fits new.0.names names) in
     (sym (ap (λ (x : Done). x.kept.state.rules) d) ∙ rules_stay (kept_of f old).state e, sym (ap (λ (x : Done). x.kept.state.own_name) d) ∙ names_stay (kept_of f old).state e)
 
--- the name of an account is still that at the number of its book
-pub named_still : (names : List (List ℕ)) (b c : Book) (e n : ℕ) (old new : List ℕ) → c ≡ with_more b e n → new ≡ old → slice_get names b.account ≡ Some old → slice_get names c.account ≡ Some new
-named_still names b c e n old new is same named = ap (λ (x : Book). slice_get names x.account) is ∙ named ∙ ap (λ (t : List ℕ). Some t) (sym same)
+-- an account is still called by its name
+pub named_still : (names : List (List ℕ)) (b c : Book) (e n : ℕ) (name old new : List ℕ) → c ≡ with_more b e n → new ≡ old → IsNamed names b.account name old → IsNamed names c.account name new
+named_still names b c e n name old new is same named = record {
+  is = same ∙ named.is;
+  listed = λ other at. named.listed other (sym (ap (λ (x : Book). slice_get names x.account) is) ∙ at);
+}

@@ -1,5 +1,5 @@
 -- What becomes of one entry, by the reply to it or by how its run ended.
-use Rattle.std.proofs.Common.{◌≡◌, ℕ, zero, suc, ◌+◌, ◌<◌, ◌≤◌, Bool, true, false, if◌then◌else◌, [], ◌∷◌, refl, sym, ap, ◌∙◌, subst, arith}
+use Rattle.std.proofs.Common.{◌≡◌, ℕ, zero, suc, ◌+◌, ◌-◌, ◌<◌, ◌≤◌, Bool, true, false, if◌then◌else◌, [], ◌∷◌, refl, sym, ap, ◌∙◌, subst, arith}
 use Rattle.std.specs.Prelude.{Option, Some, None}
 use Rattle.std.proofs.lemmas.Option.{same_Some, none-some}
 use Rattle.kl1_model.specs.State.{State, has_runs}
@@ -13,14 +13,14 @@ use Rattle.kl1_journal_entries.specs.Lined.{entry_of}
 use Rattle.kl1_command.specs.declared.first_step.FirstStep.{FirstStep}
 use Rattle.kl1_command.specs.declared.first_step.FirstStep.TheVariants as first_step
 use Rattle.kl1_command.specs.Told.{told_by, told_steps}
-use Rattle.kl1_command.specs.Room.{HasRoomFor, done_within}
+use Rattle.kl1_command.specs.Room.{HasRoomFor, less, done_within}
 use Rattle.kl1_command.specs.Stepping.{RunsOn, IsEnd}
 use Rattle.kl1_command.proofs.Runs.{all_done}
 use Rattle.kl1_pool.specs.declared.restoring.RestoreEnd.TheVariants as ending
 use Rattle.kl1_pool.specs.declared.restoring.EntryResult.{EntryResult}
 use Rattle.kl1_pool.specs.declared.restoring.EntryResult.TheVariants as result
-use Rattle.kl1_pool.specs.Restoring.{IsNext, IsEntryDone, run_length, result_by, result_of_run, told_of, told_entry}
-use Rattle.kl1_pool.proofs.FirstSteps.{runs_first, run_refused, quiet_refused, step_refused, run_does, run_is_refused}
+use Rattle.kl1_pool.specs.Restoring.{Leads, IsNext, IsEntryDone, run_length, result_by, result_of_run, told_of, told_entry}
+use Rattle.kl1_pool.proofs.FirstSteps.{steps_on, runs_first, run_refused, quiet_refused, step_refused, run_does, run_is_refused}
 use Rattle.kl1_pool.proofs.ToldEntries.{told_event}
 use Rattle.kl1_pool.proofs.RestoredEntries.{told_is}
 
@@ -94,13 +94,23 @@ event_told room k after e y r x has is does so =
 pub run_without : (s : State) (n : ℕ) → has_runs s.rules ≡ false → IsEntryDone s (runs n) (result.Stopped 0 ending.Refused) s
 run_without s n h = (refl, (run_is_refused s n h, (none_of s (runs n)).1))
 
--- what becomes of a run of which `n` steps are done
-pub run_done : (s after : Kept) (all n : ℕ) (last : FirstStep) (x : EntryResult) → has_runs s.state.rules ≡ true → n ≤ all → RunsOn s n after → IsEnd all n last after → x ≡ result_of_run n last → IsEntryDone s.state (runs all) x after.state
-run_done s after all n last x has few on end is = subst (λ q. IsEntryDone s.state (runs all) q after.state) (sym is) (by_last last end)
-  where
-    those : first_steps n s.state ≡ record { state = after.state; reply = ran n }
-    those = let sum : n ≡ n + 0 = omega arith in runs_first n 0 n s after sum (all_done s after n on)
+-- steps of a run that are all done, and that go on where others ended
+pub runs_lead : (s mid after : Kept) (n m : ℕ) → Leads s.state n mid.state → RunsOn mid m after → Leads s.state (n + m) after.state
+runs_lead s mid after n m begun on =
+    let sum : m ≡ m + 0 = omega arith in
+    steps_on n m s.state mid.state after.state begun (runs_first m 0 m mid after sum (all_done mid after m on))
 
+-- how a piece of a run ended that was cut short is how the run ended
+pub end_of_all : (all begun piece n : ℕ) (o : FirstStep) (after : Kept) → begun + piece ≤ all → n < piece → IsEnd piece n o after → IsEnd all (begun + n) o after
+end_of_all all begun piece n first_step.Done after within less end = let whole : n ≡ piece = end in absurd (omega (arith, less, whole))
+end_of_all all begun piece n first_step.Quiet after within less end = (omega (arith, within, less), end.1)
+end_of_all all begun piece n (first_step.Refused r) after within less end = (omega (arith, within, less), end.1)
+end_of_all all begun piece n first_step.Memory after within less end = let few : begun + n < all = omega (arith, within, less) in few
+
+-- what becomes of a run of which `n` steps are done
+pub run_done : (s after : Kept) (all n : ℕ) (last : FirstStep) (x : EntryResult) → has_runs s.state.rules ≡ true → n ≤ all → Leads s.state n after.state → IsEnd all n last after → x ≡ result_of_run n last → IsEntryDone s.state (runs all) x after.state
+run_done s after all n last x has few those end is = subst (λ q. IsEntryDone s.state (runs all) q after.state) (sym is) (by_last last end)
+  where
     not_whole : n < all → is_refused (first_step after.state).reply ≡ true → IsEntryDone s.state (runs all) (result.Stopped n ending.Refused) after.state
     not_whole less stuck = (those, (ap (λ (t : Transition). is_refused t.reply) (run_does s.state all has) ∙ run_refused all n s.state after.state less those stuck, few))
 
@@ -125,3 +135,13 @@ run_told s after all n last x end is = subst (λ q. told_steps n ≡ told_entry 
     by_last first_step.Quiet e = some
     by_last (first_step.Refused r) e = some
     by_last first_step.Memory e = some
+
+-- the room that is left after a piece is enough for the rest
+pub room_less : (all begun n : ℕ) (room left : Option ℕ) → left ≡ less room n → HasRoomFor (all - begun) room → HasRoomFor (all - (begun + n)) left
+room_less all begun n None left is has = subst (HasRoomFor (all - (begun + n))) (sym is) tt
+room_less all begun n (Some k) left is has = subst (HasRoomFor (all - (begun + n))) (sym is) (let enough : all - begun ≤ k = has in omega (arith, enough))
+
+-- there is room for a part of what there is room for
+pub room_enough : (all n : ℕ) (room : Option ℕ) → n ≤ all → HasRoomFor all room → HasRoomFor n room
+room_enough all n None few has = tt
+room_enough all n (Some k) few has = let enough : all ≤ k = has in let some : n ≤ k = omega (arith, few, enough) in some

@@ -1,6 +1,6 @@
 -- Seats of accounts in which nothing has happened.
-use Rattle.std.proofs.Common.{◌≡◌, ℕ, List, [], ◌∷◌, ◌++◌, get_or, slice_get, Some}
-use Rattle.std.specs.Prelude.{All}
+use Rattle.std.proofs.Common.{◌≡◌, ℕ, List, [], ◌∷◌, ◌++◌, get_or, slice_get, Some, subst}
+use Rattle.std.specs.Prelude.{All, IfSome, Option}
 use Rattle.std.proofs.lemmas.List.Elements.{All-pop}
 use Rattle.std.proofs.lemmas.Option.{slice_get-get_or}
 use Rattle.atomic_table.specs.Seated.{TableId}
@@ -19,3 +19,7 @@ fresh_seats table accounts seats new k d lt =
 -- what holds of each of a list holds of each but the last
 pub but_last : {X : Type 0} (P : X → Type 0) (xs ys : List X) (x : X) → xs ≡ ys ++ x ∷ [] → All P xs → All P ys
 but_last P xs ys x e h = (All-pop P xs ys (Some x) e h).0
+
+-- what holds of what is there, if it is this
+pub some_is : {X : Type 0} (P : X → Type 0) (o : Option X) (x : X) → o ≡ Some x → IfSome o P → P x
+some_is P o x is h = subst (λ q. IfSome q P) is h

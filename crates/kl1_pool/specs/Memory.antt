@@ -1,5 +1,5 @@
 -- How many bytes an account takes, and which commands may make it take more.
-use Rattle.std.specs.Prelude.{◌≡◌, ℕ, ◌+◌, ◌*◌, ◌-◌, ◌^◌, ◌<◌, ◌≤◌, min, Bool, true, false, List, Option, Some}
+use Rattle.std.specs.Prelude.{◌≡◌, ℕ, ◌+◌, ◌*◌, ◌-◌, ◌^◌, ◌<◌, ◌≤◌, min, Bool, true, false, List, Some}
 use Rattle.kl1_model.specs.Event as model
 use Rattle.kl1_model.specs.declared.rules.Rules.{Rules}
 use Rattle.kl1_model_server.specs.Journal.{is_entry, Kept}
@@ -76,16 +76,16 @@ IsWithinTurn most short a = (f : Reading) → bytes_taken (kept_of f a.held) ≤
 
 -- some account of these rules and of this name, whose book has some room, and which takes no more bytes than this command may find if that
 -- takes memory, answers it so
-abbrev pub IsGivenBySomeWithin : Rules → Option (List ℕ) → ℕ → Command → Performed → Type 0
+abbrev pub IsGivenBySomeWithin : Rules → (List ℕ → Type 0) → ℕ → Command → Performed → Type 0
 IsGivenBySomeWithin rules name most c p =
     (room : ℕ) × (before : Kept) × (after : Kept) × IsAccount rules name before × PerformsWithin (Some room) before c p after × (takes_memory c ≡ true → bytes_taken before ≤ bound_of most c)
 
 -- so, unless memory was refused
-abbrev pub IsGivenWithin : Rules → Option (List ℕ) → ℕ → Command → Performed → Type 0
+abbrev pub IsGivenWithin : Rules → (List ℕ → Type 0) → ℕ → Command → Performed → Type 0
 IsGivenWithin rules name most c (performed.Whole reply) = IsGivenBySomeWithin rules name most c (performed.Whole reply)
 IsGivenWithin rules name most c (performed.Short n) = IsGivenBySomeWithin rules name most c (performed.Short n)
 IsGivenWithin rules name most c performed.Memory = Unit {0}
 
 -- some account of these rules and of this name, the replay of its journal, takes so many bytes
-abbrev pub IsTakenBySome : Rules → Option (List ℕ) → ℕ → Type 0
+abbrev pub IsTakenBySome : Rules → (List ℕ → Type 0) → ℕ → Type 0
 IsTakenBySome rules name bytes = (k : Kept) × IsAccount rules name k × (bytes ≡ bytes_taken k)

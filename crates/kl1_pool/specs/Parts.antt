@@ -1,6 +1,5 @@
 -- What contracts see of the parts of a pool that no type names yet, and of new seats.
-use Rattle.std.specs.Prelude.{◌≡◌, ℕ, List, [], All, map, slice_get, Some, Vec}
-use Rattle.std.specs.declared.alloc.Global.{Global}
+use Rattle.std.specs.Prelude.{◌≡◌, ℕ, List, [], All, map, slice_get, Some}
 use Rattle.atomic_table.specs.Seated.{TableId}
 use Rattle.boxcar.specs.Table.{Shelves}
 use Rattle.kl1_model.specs.declared.rules.Rules.{Rules}
@@ -8,10 +7,9 @@ use Rattle.kl1_atoms.specs.Seats.{face_in, IsSharedSeat}
 use Rattle.kl1_atoms.specs.declared.atom_seat.AtomSeat.{AtomSeat}
 use Rattle.kl1_tally.specs.Seats.{Book}
 use Rattle.kl1_journal_stamps.specs.Stamps.{HistoryId, ShownValue, AreNew, histories_of}
-use Rattle.kl1_model_server.specs.laws.TextLaws.{AreNames}
 
 -- which table of names they have, and for how many accounts that was made; which table of codes; which rules the accounts keep to, and
--- what they are called; which names they had used at their last resets, those that had used some; how many bytes each may take; which
+-- what the first of them are called; how many bytes each may take; which
 -- tally and which queue; and for how many accounts and shares these are
 pub record PoolPartsValue : Type 0 where
   pub table : TableId
@@ -19,7 +17,6 @@ pub record PoolPartsValue : Type 0 where
   pub codes : Shelves
   pub rules : Rules
   pub names : List (List ℕ)
-  pub used : List (List (List ℕ))
   pub most_bytes : ℕ
   pub tally : TableId
   pub queue : TableId
@@ -39,18 +36,6 @@ AreFreshSeats table accounts seats = All (IsFreshSeat table accounts) seats
 abbrev pub AreAt : {X : Type 0} → List X → List Book → List X → Type 0
 AreAt {X} all books xs = map (λ (b : Book). slice_get all b.account) books ≡ map (λ (x : X). Some x) xs
 
--- so do these names
-abbrev pub AreNamed : List (List ℕ) → List Book → List (List ℕ) → Type 0
-AreNamed all books names = AreAt all books names
-
--- and these histories, in which no journal was shown yet
+-- so do these histories, in which no journal was shown yet
 abbrev pub AreUnshown : List HistoryId → List Book → List ShownValue → Type 0
 AreUnshown all books shown = AreAt all books (histories_of shown) × AreNew shown
-
--- for each account the names that it had used
-abbrev pub used_names : List (Vec (List ℕ) Global) → List (List (List ℕ))
-used_names used = map (λ v. v.items) used
-
--- each account may have used its names
-abbrev pub AreUsed : List (Vec (List ℕ) Global) → Type 0
-AreUsed used = All (λ v. AreNames v.items) used

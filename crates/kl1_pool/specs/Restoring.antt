@@ -1,9 +1,9 @@
 -- What the entries of a journal do to an account, one after another, and how a restore ends.
-use Rattle.std.specs.Prelude.{◌≡◌, ℕ, ◌+◌, ◌≤◌, ◌⊎◌, true, false, if◌then◌else◌, List, [], ◌∷◌, length, take, drop, fold, Option, IsTrue}
+use Rattle.std.specs.Prelude.{◌≡◌, ℕ, ◌+◌, ◌≤◌, ◌⊎◌, true, false, if◌then◌else◌, List, [], ◌∷◌, length, take, drop, fold, IsTrue}
 use Rattle.kl1_model.specs.declared.rules.Rules.{Rules}
 use Rattle.kl1_model.specs.State.{State}
 use Rattle.kl1_model.specs.Event.{Reply, ran, is_refused}
-use Rattle.kl1_model_server.specs.Journal.{Entry, loads, starts, sends, steps, answers, runs, entry_step, first_steps, Kept}
+use Rattle.kl1_model_server.specs.Journal.{Entry, loads, starts, sends, steps, answers, runs, entry_step, first_steps, Journal, Kept}
 use Rattle.kl1_model_server.specs.laws.ReplayLaws.{are_accepted}
 use Rattle.kl1_command.specs.Told.{Told}
 use Rattle.kl1_command.specs.declared.first_step.FirstStep.{FirstStep}
@@ -37,6 +37,10 @@ run_length (steps goal clause) = 0
 run_length (answers n report t) = 0
 run_length (runs n) = n
 
+-- so many first steps, all of them done, lead from one account to another
+abbrev pub Leads : State → ℕ → State → Type 0
+Leads s n after = first_steps n s ≡ record { state = after; reply = ran n }
+
 -- an entry is what is next, and `k` first steps were done that it has
 abbrev pub IsNext : List Entry → ℕ → Type 0
 IsNext [] k = ⊥
@@ -58,13 +62,13 @@ IsEndAt ending.Full s es k = IsNext es k
 pub record IsRestored (s : State) (es : List Entry) (r : Restored) (after : State) : Type 0 where
   pub few : r.entries ≤ length es
   pub accepted : IsTrue (are_accepted s (take r.entries es))
-  pub steps : first_steps r.steps (after_entries s (take r.entries es)) ≡ record { state = after; reply = ran r.steps }
+  pub steps : Leads (after_entries s (take r.entries es)) r.steps after
   pub ended : IsEndAt r.end (after_entries s (take r.entries es)) (drop r.entries es) r.steps
 
 -- an entry was done whole, or so many first steps of it were
 abbrev pub IsEntryDone : State → Entry → EntryResult → State → Type 0
 IsEntryDone s e result.Whole after = (is_refused (entry_step s e).reply ≡ false) × (after ≡ (entry_step s e).state)
-IsEntryDone s e (result.Stopped k end) after = (first_steps k s ≡ record { state = after; reply = ran k }) × IsEndAt end s (e ∷ []) k
+IsEntryDone s e (result.Stopped k end) after = Leads s k after × IsEndAt end s (e ∷ []) k
 
 -- what became of an entry to which this is the reply
 abbrev pub result_by : Reply → EntryResult
@@ -82,13 +86,14 @@ abbrev pub told_entry : Entry → EntryResult → Told
 told_entry e result.Whole = told_of (e ∷ []) 0
 told_entry e (result.Stopped k end) = told_of [] k
 
--- some account of these rules and of this name, whose journal had no entries, was restored so
-abbrev pub IsRestoredBySome : Rules → Option (List ℕ) → List Entry → Restored → Type 0
-IsRestoredBySome rules name es r = (before : Kept) × (after : State) × IsAccount rules name before × (before.journal.entries ≡ []) × IsRestored before.state es r after
+-- some account of these rules and of this name, which had used the names of this journal and whose own journal had no entries, was restored so
+-- from it
+abbrev pub IsRestoredBySome : Rules → (List ℕ → Type 0) → Journal → Restored → Type 0
+IsRestoredBySome rules name j r = (before : Kept) × (after : State) × IsAccount rules name before × (before.journal.entries ≡ []) × (before.journal.names ≡ j.names) × IsRestored before.state j.entries r after
 
 -- so, or memory was refused before anything was done
-abbrev pub IsRestoredOf : Rules → Option (List ℕ) → List Entry → Restored → Type 0
-IsRestoredOf rules name es r = IsRestoredBySome rules name es r ⊎ (r ≡ record { entries = 0; steps = 0; end = ending.Memory })
+abbrev pub IsRestoredOf : Rules → (List ℕ → Type 0) → Journal → Restored → Type 0
+IsRestoredOf rules name j r = IsRestoredBySome rules name j r ⊎ (r ≡ record { entries = 0; steps = 0; end = ending.Memory })
 
 -- how many events and steps are counted of a restore from these entries
 abbrev pub events_of : List Entry → Restored → ℕ

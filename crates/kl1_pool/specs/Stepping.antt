@@ -1,5 +1,5 @@
 -- What a turn leaves.
-use Rattle.std.specs.Prelude.{◌≡◌, ℕ, ◌≤◌, ◌⊎◌, true, nat_le, not, ◌&&◌, Bool, false, List, Option}
+use Rattle.std.specs.Prelude.{◌≡◌, ℕ, ◌+◌, ◌≤◌, ◌⊎◌, true, nat_le, nat_lt, not, ◌&&◌, ◌||◌, Bool, false, List}
 use Rattle.kl1_model.specs.declared.rules.Rules.{Rules}
 use Rattle.kl1_model.specs.Event as model
 use Rattle.kl1_model.specs.Choice.{quiet}
@@ -7,7 +7,7 @@ use Rattle.kl1_model_server.specs.Journal.{Kept}
 use Rattle.kl1_model_server.specs.Command.{run_from}
 use Rattle.kl1_pool_tickets.specs.declared.serving.TheConstants.{MOST_STEPS}
 use Rattle.kl1_pool_tickets.specs.declared.serving.TimeSlice.{TimeSlice}
-use Rattle.kl1_pool.specs.declared.turn.TheConstants.{MOST_GRANTED_STEPS}
+use Rattle.kl1_pool.specs.declared.turn.TheConstants.{MOST_GRANTED_STEPS, STEPS_A_LOOK}
 use Rattle.kl1_pool.specs.Answers.{IsAccount}
 use Rattle.kl1_pool.specs.Memory.{bytes_taken, turn_bound}
 
@@ -19,23 +19,40 @@ AreFirstSteps s n after = run_from n 0 s ≡ record { kept = after; reply = mode
 abbrev pub goes_on : ℕ → ℕ → Kept → Bool
 goes_on most n after = nat_le most n && not (quiet after.state)
 
--- whether one does after a turn that is a short one or not; a short one is gone on only if `more` is to be read
-abbrev pub turn_goes_on : Bool → Bool → ℕ → Kept → Bool
-turn_goes_on true more n after = more && goes_on MOST_GRANTED_STEPS n after
-turn_goes_on false more n after = goes_on MOST_STEPS n after
+-- whether one does after a short turn, which is gone on only if `more` is to be read, or if the account takes no more than `most` bytes then
+abbrev pub short_goes_on : ℕ → Bool → ℕ → Kept → Bool
+short_goes_on most more n after = (more || not (nat_lt most (bytes_taken after))) && goes_on MOST_GRANTED_STEPS n after
 
--- before a turn an account takes no more bytes than it may; or no more than are kept besides, and the turn is a short one. The account goes on
--- only if all steps of such a turn were done, and a goal can step
-abbrev pub IsTurnWithin : ℕ → Kept → Kept → TimeSlice → Type 0
-IsTurnWithin most before after t =
-    ((bytes_taken before ≤ most) × (t.again ≡ goes_on MOST_STEPS t.steps after))
-    ⊎ ((bytes_taken before ≤ turn_bound most true) × (t.steps ≤ MOST_GRANTED_STEPS) × (t.again ≡ true → goes_on MOST_GRANTED_STEPS t.steps after ≡ true))
+-- whether one does after a whole turn, which ends also once the account takes more than `most` bytes
+abbrev pub whole_goes_on : ℕ → ℕ → Kept → Bool
+whole_goes_on most n after = (nat_le MOST_STEPS n || nat_lt most (bytes_taken after)) && not (quiet after.state)
+
+-- whether one does after a turn that is a short one or not
+abbrev pub turn_goes_on : ℕ → Bool → Bool → ℕ → Kept → Bool
+turn_goes_on most true more n after = short_goes_on most more n after
+turn_goes_on most false more n after = whole_goes_on most n after
+
+-- the last of n first steps, no more than there are between two looks, were begun by an account that took no more bytes than it may
+abbrev pub IsBegunWithin : ℕ → Kept → ℕ → Kept → Type 0
+IsBegunWithin most s n after =
+    (mid : Kept) × (begun : ℕ) × (last : ℕ) × (begun + last ≡ n) × (last ≤ STEPS_A_LOOK) × AreFirstSteps s begun mid × AreFirstSteps mid last after × (bytes_taken mid ≤ most)
+
+-- before a turn, and before its last steps, an account takes no more bytes than it may; or before it no more than are kept besides, and the turn
+-- is a short one
+abbrev pub IsTurnWithin : ℕ → Bool → Kept → Kept → TimeSlice → Type 0
+IsTurnWithin most more before after t =
+    ((bytes_taken before ≤ most) × IsBegunWithin most before t.steps after × (t.again ≡ whole_goes_on most t.steps after))
+    ⊎ ((bytes_taken before ≤ turn_bound most true) × (t.steps ≤ MOST_GRANTED_STEPS) × (t.again ≡ short_goes_on most more t.steps after))
 
 -- some account of these rules and of this name does the steps of a turn, its first ones, within its bytes; the turn tells whether it goes on
-abbrev pub IsTurnOfSome : Rules → Option (List ℕ) → ℕ → TimeSlice → Type 0
-IsTurnOfSome rules name most t =
-    (before : Kept) × (after : Kept) × IsAccount rules name before × AreFirstSteps before t.steps after × IsTurnWithin most before after t
+abbrev pub IsTurnOfSome : Rules → (List ℕ → Type 0) → ℕ → Bool → TimeSlice → Type 0
+IsTurnOfSome rules name most more t =
+    (before : Kept) × (after : Kept) × IsAccount rules name before × AreFirstSteps before t.steps after × IsTurnWithin most more before after t
 
 -- a turn is that of some such account; or none was done, and the ticket isn't put back
-abbrev pub IsTurn : Rules → Option (List ℕ) → ℕ → TimeSlice → Type 0
-IsTurn rules name most t = IsTurnOfSome rules name most t ⊎ ((t.steps ≡ 0) × (t.again ≡ false))
+abbrev pub IsTurnIf : Rules → (List ℕ → Type 0) → ℕ → Bool → TimeSlice → Type 0
+IsTurnIf rules name most more t = IsTurnOfSome rules name most more t ⊎ ((t.steps ≡ 0) × (t.again ≡ false))
+
+-- so, if there is more to be read, or if there isn't
+abbrev pub IsTurn : Rules → (List ℕ → Type 0) → ℕ → TimeSlice → Type 0
+IsTurn rules name most t = (more : Bool) × IsTurnIf rules name most more t

@@ -22,6 +22,7 @@ pub fn gather<'t, R: Wait, K: PoolIds, W: Wait>(
         tables: _,
         common,
         places,
+        named: _,
         most_bytes: _,
     } = pool;
     kl1_pool_tickets::gather(rt, common, places, shares)

@@ -3,9 +3,12 @@
 ghost use Rattle.std.specs.Prelude.{◌≡◌, ℕ, ◌<◌, Some, slice_get, IsTrue, false};
 ghost use Rattle.kl1_model_server.specs.Journal.{Journal as Entered};
 ghost use Rattle.kl1_journal_stamps.specs.Stamps.{StampValue, IsStampOf};
-ghost use Rattle.kl1_pool.specs.Showing.{IsSeenOfSome};
+ghost use Rattle.kl1_pool.specs.Names.{called_at};
+ghost use Rattle.kl1_pool.specs.Showing.{IsFound, IsSeenOfSome};
 
+use crate::locked_slot::Tenant;
 use crate::pool::Pool;
+use crate::pool_account::PoolAccount;
 use crate::pool_ids::PoolIds;
 use kl1_journal_entries::Journal;
 use kl1_journal_stamps::Stamp;
@@ -29,21 +32,37 @@ pub trait JournalReader {
 
 impl<'t, R: Wait, K: PoolIds> Pool<'t, R, K> {
     /// Lets a reader read the journal of an account once, under its lock, with how many events were counted before the last reset.
-    /// Answers whether it did: it didn't if another account was found, or other journals in its history, which never is so.
+    /// Answers whether it did: it didn't if there is no account here; or if another was found, or other journals in its history, which never is so.
     pub fn look<W: Wait, L: JournalReader>(&self, rt: &W, account: usize, reader: &mut L) -> bool
         requires within { account < K.accounts }
         requires takes { (s : StampValue) → slice_get K.histories account ≡ Some s.history → L.takes reader.old s }
-        ensures seen { IsTrue result → IsSeenOfSome K.rules (slice_get K.names account) (λ j ended. L.reads reader.old reader.new j ended) }
+        ensures seen { IsTrue result → IsSeenOfSome K.rules (called_at K.names account) (λ j ended. L.reads reader.old reader.new j ended) }
         ensures same { result ≡ false → reader.new ≡ reader.old }
     {
         let mut guard = self.places[account].lock(rt);
-        let found = &mut *guard.account;
-        // As in `visit`.
-        if found.account() != account {
+        let slot = &mut *guard;
+        match &mut *slot.tenant {
+            Some(Tenant::Account(found)) => found.look_at(account, reader),
+            _ => false,
+        }
+    }
+}
+
+impl<'t, R: Wait, K: PoolIds> PoolAccount<'t, R, K> {
+    /// `look`, if the account has this number.
+    pub(crate) fn look_at<L: JournalReader>(&mut self, account: usize, reader: &mut L) -> bool
+        requires { (s : StampValue) → slice_get K.histories account ≡ Some s.history → L.takes reader.old s }
+        ensures found { IsTrue result → IsFound K.rules (called_at K.names account) self.old.held }
+        ensures seen { IsTrue result → L.reads reader.old reader.new self.old.held.1 self.old.past.events }
+        ensures same { self.new ≡ self.old }
+        ensures none { result ≡ false → reader.new ≡ reader.old }
+    {
+        // The lock tells nothing of which account lies under it. It is always this one.
+        if self.account() != account {
             return false;
         }
-        // Called for the facts that it proves: the account is the replay of its journal, with the rules and the name that K names.
-        found.shows_counts();
-        found.look(reader)
+        // Called for the facts that it proves: the account is the replay of its journal, with the rules of the pool.
+        self.shows_counts();
+        self.look(reader)
     }
 }

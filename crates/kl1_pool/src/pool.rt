@@ -1,23 +1,20 @@
 // Accounts under locks, with what threads share besides.
 
-ghost use Rattle.std.specs.Prelude.{◌≡◌, ◌<◌, ◌≤◌, IfOk, All, slice_get, vec_len};
+ghost use Rattle.std.specs.Prelude.{◌≡◌, ◌<◌, ◌≤◌, ◌-◌, nat_lt, IsSome, IfOk, All, length, vec_len};
 ghost use Rattle.kl1_pool_tickets.specs.Counts.{Moved, Acts, new_counts};
 ghost use Rattle.kl1_pool_tickets.specs.declared.serving.TheConstants.{MOST_STEPS};
-ghost use Rattle.kl1_command.specs.Commands.{command_view};
-ghost use Rattle.kl1_command.specs.Told.{events_told, steps_told};
-ghost use Rattle.kl1_pool.specs.Stepping.{IsTurn};
+ghost use Rattle.kl1_pool.specs.Names.{called_at};
+ghost use Rattle.kl1_pool.specs.Stepping.{IsTurnIf, IsTurn};
+ghost use Rattle.kl1_pool.specs.declared.turn.TheConstants.{MOST_GRANTED_STEPS};
 
-use crate::answer::Answer;
 use crate::gate::Gate;
-use crate::locked_slot::LockedSlot;
+use crate::locked_slot::{LockedSlot, Tenant};
 use crate::locked_slots::{drop_all, places_of};
-use crate::memory::was_sent;
 use crate::parts::PoolParts;
-use crate::pool_account::DueTicket;
+use crate::pool_account::{DueTicket, PoolAccount};
 use crate::pool_ids::PoolIds;
 use crate::shared_tables::SharedTables;
 use crate::turn::MOST_GRANTED_STEPS;
-use kl1_command::Command;
 use kl1_pool_tickets::{Opened, PoolShared, Share, TimeSlice};
 use std::alloc::{AllocError, Global};
 use std::marker::PhantomData;
@@ -31,10 +28,13 @@ pub struct Pool<'t, R: Wait, K: PoolIds> {
     pub(crate) tables: SharedTables<'t, K>,
     pub(crate) common: PoolShared<K>,
     pub(crate) places: Vec<Mutex<LockedSlot<'t, R, K>>>,
+    /// How many accounts have names that K names: those of the first places.
+    pub(crate) named: usize,
     /// The most bytes that an account may take if it is to go on.
     pub(crate) most_bytes: u64,
     pub ghost counted: { vec_len places ≡ K.accounts },
     pub ghost bounded: { most_bytes ≡ K.most_bytes },
+    pub ghost listed: { named ≡ length K.names },
 }
 
 /// What becomes of a ticket if no turn was done.
@@ -44,7 +44,8 @@ const NO_TURN: TimeSlice = TimeSlice {
 };
 
 impl<'t, R: Wait, K: PoolIds> Pool<'t, R, K> {
-    /// The pool of these parts, in whose accounts nothing has happened, and its shares, which are at zero. By `rt` codes are put in.
+    /// The pool of these parts, in whose accounts nothing has happened, and its shares, which are at zero. By `rt` codes are put in. To the other places
+    /// accounts may come, by `admit`.
     /// An account that takes more bytes than it may gets no turns, and commands to it that take memory are answered as if memory was refused,
     /// until it is reset; but messages to its shoens and answers go through as long as what is kept for them lasts, and short turns read them.
     pub fn new(
@@ -66,7 +67,6 @@ impl<'t, R: Wait, K: PoolIds> Pool<'t, R, K> {
             accounts,
             rules,
             seats,
-            used,
             most_bytes,
             tickets,
             shown,
@@ -81,84 +81,29 @@ impl<'t, R: Wait, K: PoolIds> Pool<'t, R, K> {
             codes: code_table,
             of: PhantomData,
         };
-        let places = places_of::<LockedSlot<'t, R, K>>(
-            alloc,
-            &tables,
-            accounts,
-            rules,
-            seats,
-            books,
-            used.as_slice(),
-            shown,
-        )?;
-        Ok((
-            Pool {
-                rt,
-                tables,
-                common,
-                places,
-                most_bytes,
-            },
-            shares,
-        ))
+        let places = places_of::<LockedSlot<'t, R, K>>(alloc, rules, seats, books, shown)?;
+        let pool = Pool {
+            rt,
+            tables,
+            common,
+            places,
+            named: accounts.len(),
+            most_bytes,
+        };
+        match pool.settle(alloc, accounts.as_slice()) {
+            Ok(()) => Ok((pool, shares)),
+            Err(refused) => {
+                pool.discard();
+                Err(refused)
+            }
+        }
     }
 
-    /// How many accounts there are.
+    /// How many places for accounts there are.
     pub fn accounts(&self) -> usize
         ensures { result ≡ K.accounts }
     {
         self.places.len()
-    }
-
-    /// Does a command to an account under its lock; and its ticket that is to be put, if there is one.
-    fn visit<W: Wait>(
-        &self,
-        rt: &W,
-        account: usize,
-        command: &Command,
-        share: &mut Share<K>,
-    ) -> (Answer<K>, Option<DueTicket<K>>)
-        requires within { account < K.accounts }
-        ensures counted { Moved account (events_told result.0.performed) (steps_told result.0.performed) 0 0 share.old share.new }
-        ensures account { result.0.account ≡ account }
-        ensures command { result.0.command ≡ command_view command.now }
-    {
-        let mut guard = self.places[account].lock(rt);
-        let found = &mut *guard.account;
-        // The lock tells nothing of which account lies under it. It is always this one.
-        if found.account() != account {
-            return (Answer::misplaced(found, account, command), None);
-        }
-        if found.is_beyond(self.most_bytes, command) {
-            return (Answer::over(found, account, command), None);
-        }
-        let (answer, due) = found.act(self.rt, &self.common, &self.tables, share, command);
-        // What was sent is read over the bound too, by short turns.
-        if was_sent(answer.performed()) {
-            guard.unread = guard.unread.saturating_add(1);
-        }
-        (answer, due)
-    }
-
-    /// Does a command to an account under its lock, as `PoolAccount::perform`. Afterwards a ticket of the account is put unless the
-    /// account is quiet or one is out.
-    pub fn act<W: Wait>(
-        &self,
-        rt: &W,
-        account: usize,
-        command: &Command,
-        share: &mut Share<K>,
-    ) -> Answer<K>
-        requires within { account < K.accounts }
-        ensures counted { Acts account (events_told result.performed) (steps_told result.performed) share.old share.new }
-        ensures account { result.account ≡ account }
-        ensures command { result.command ≡ command_view command.now }
-    {
-        let (answer, due) = self.visit(rt, account, command, share);
-        if let Some(due) = due {
-            self.offer(rt, account, due, share);
-        }
-        answer
     }
 
     /// Puts an account's ticket; if it can't be put, none is out.
@@ -173,39 +118,42 @@ impl<'t, R: Wait, K: PoolIds> Pool<'t, R, K> {
         ensures { Acts account 0 0 share.old share.new }
     {
         if let Some(unput) = due.put(rt, &self.common, account, share) {
-            self.places[account].lock(rt).account.take_back(unput);
+            let mut guard = self.places[account].lock(rt);
+            let slot = &mut *guard;
+            match &mut *slot.tenant {
+                Some(Tenant::Account(found)) => found.take_back(unput),
+                Some(Tenant::Nobody(place)) => unput.forget(place),
+                None => unreachable!(),
+            }
         }
     }
 
     /// Notes that no ticket of an account is out.
     pub(crate) fn clear_ticket<W: Wait>(&self, rt: &W, account: usize) {
         if let Some(place) = self.places.get(account) {
-            place.lock(rt).account.clear_ticket();
+            let mut guard = place.lock(rt);
+            let slot = &mut *guard;
+            if let Some(Tenant::Account(found)) = &mut *slot.tenant {
+                found.clear_ticket();
+            }
         }
     }
 
-    /// A turn of an account under its lock, as `PoolAccount::turn`, between `enter` and `leave` of a gate. An account that takes more bytes
-    /// than it may gets none, but short ones while messages to its shoens may be unread. Unless the ticket is to be put back, none is out
-    /// afterwards.
-    pub(crate) fn turn<G: Gate, W: Wait>(
+    /// A turn of an account that is found at a place, as `turn`, while so many messages to its shoens may be unread.
+    fn turn_on<G: Gate>(
         &self,
-        rt: &W,
+        found: &mut PoolAccount<'t, R, K>,
         gate: &G,
         number: u64,
         account: usize,
         share: &mut Share<K>,
+        unread: u64,
     ) -> TimeSlice
         ensures few { result.steps ≤ MOST_STEPS }
-        ensures turn { IsTurn K.rules (slice_get K.names account) K.most_bytes result }
+        ensures turn { IsTurnIf K.rules (called_at K.names account) K.most_bytes (nat_lt MOST_GRANTED_STEPS unread) result }
         ensures counted { Moved account result.steps result.steps 0 0 share.old share.new }
     {
-        let Some(place) = self.places.get(account) else {
-            return NO_TURN;
-        };
-        let mut guard = place.lock(rt);
-        let unread = guard.unread;
-        let found = &mut *guard.account;
-        // As in `visit`.
+        // As in `act_on`.
         if found.account() != account {
             return NO_TURN;
         }
@@ -216,10 +164,84 @@ impl<'t, R: Wait, K: PoolIds> Pool<'t, R, K> {
             return NO_TURN;
         }
         gate.enter(number);
-        let slice = found.time_slice(self.rt, &self.common, &self.tables, share, is_short, more);
+        let slice = found.time_slice(
+            self.rt,
+            &self.common,
+            &self.tables,
+            share,
+            self.most_bytes,
+            is_short,
+            more,
+        );
         gate.leave(number);
-        guard.note_steps(slice.steps);
         slice
+    }
+
+    /// `turn_on` of the account at a place, if there is one.
+    fn turn_at<G: Gate>(
+        &self,
+        tenant: &mut Option<Tenant<'t, R, K>>,
+        gate: &G,
+        number: u64,
+        account: usize,
+        share: &mut Share<K>,
+        unread: u64,
+    ) -> TimeSlice
+        requires some { IsSome tenant.old }
+        ensures some { IsSome tenant.new }
+        ensures few { result.steps ≤ MOST_STEPS }
+        ensures turn { IsTurnIf K.rules (called_at K.names account) K.most_bytes (nat_lt MOST_GRANTED_STEPS unread) result }
+        ensures counted { Moved account result.steps result.steps 0 0 share.old share.new }
+    {
+        match tenant {
+            Some(Tenant::Account(found)) => {
+                self.turn_on(found, gate, number, account, share, unread)
+            }
+            _ => NO_TURN,
+        }
+    }
+
+    /// A turn of the account at a place under its lock, as `turn`. Over its bytes the account is gone on only if more was unread than such a turn
+    /// reads, and each step takes one from that: so such turns come to an end.
+    fn turn_in<G: Gate>(
+        &self,
+        slot: &mut LockedSlot<'t, R, K>,
+        gate: &G,
+        number: u64,
+        account: usize,
+        share: &mut Share<K>,
+    ) -> TimeSlice
+        ensures few { result.steps ≤ MOST_STEPS }
+        ensures turn { IsTurnIf K.rules (called_at K.names account) K.most_bytes (nat_lt MOST_GRANTED_STEPS slot.old) result }
+        ensures fewer { slot.new ≤ slot.old - result.steps }
+        ensures counted { Moved account result.steps result.steps 0 0 share.old share.new }
+    {
+        let unread = slot.unread;
+        let slice = self.turn_at(&mut *slot.tenant, gate, number, account, share, unread);
+        slot.note_steps(slice.steps);
+        slice
+    }
+
+    /// A turn of an account under its lock, as `PoolAccount::turn`, between `enter` and `leave` of a gate. An account that takes more bytes
+    /// than it may gets none, but short ones while messages to its shoens may be unread; if such a one leaves it within its bytes, others follow.
+    /// Unless the ticket is to be put back, none is out afterwards.
+    pub(crate) fn turn<G: Gate, W: Wait>(
+        &self,
+        rt: &W,
+        gate: &G,
+        number: u64,
+        account: usize,
+        share: &mut Share<K>,
+    ) -> TimeSlice
+        ensures few { result.steps ≤ MOST_STEPS }
+        ensures turn { IsTurn K.rules (called_at K.names account) K.most_bytes result }
+        ensures counted { Moved account result.steps result.steps 0 0 share.old share.new }
+    {
+        let Some(place) = self.places.get(account) else {
+            return NO_TURN;
+        };
+        let mut guard = place.lock(rt);
+        self.turn_in(&mut *guard, gate, number, account, share)
     }
 
     /// Drops a pool whose shares can't be gathered. A drop without this call is proved only where the tables that are lent to the pool
@@ -230,6 +252,7 @@ impl<'t, R: Wait, K: PoolIds> Pool<'t, R, K> {
             tables: _,
             common: _,
             places,
+            named: _,
             most_bytes: _,
         } = self;
         drop_all(places);

@@ -3,7 +3,7 @@
 mod ticket;
 mod viewing;
 
-ghost use Rattle.std.specs.Prelude.{◌≡◌, ◌<◌, ◌≤◌, ◌^◌, [], Some, None, slice_get, IfOk, IsOk, IsTrue, OnErr, false, option_map};
+ghost use Rattle.std.specs.Prelude.{◌≡◌, ◌↔◌, ◌<◌, ◌≤◌, ◌^◌, [], Some, None, slice_get, IfOk, IsOk, IsTrue, OnErr, false, option_map};
 ghost use Rattle.kl1_model.specs.Event.{reduce as reduce_event, refused, journal_full};
 ghost use Rattle.kl1_model.specs.State.{has_runs};
 ghost use Rattle.kl1_model.specs.Choice.{first, quiet};
@@ -18,6 +18,7 @@ ghost use Rattle.kl1_pool_tickets.specs.Parts.{IsNewBook};
 ghost use Rattle.kl1_journal.specs.Keeping.{Reading, Fits, kept_of, IsKept};
 ghost use Rattle.kl1_command.specs.Told.{events_by, steps_by};
 ghost use Rattle.kl1_pool.specs.PoolAccounts.{StandsIn};
+ghost use Rattle.kl1_pool.specs.Names.{IsNamed, called_at, is_called};
 ghost use Rattle.kl1_pool.specs.Counted.{no_past, with_more, IsCounted, past_by, room_in, HasRoom};
 
 use crate::counting::{MOST_EVENTS, count, count_step, is_full, past_after};
@@ -25,7 +26,7 @@ use crate::named_atoms::NamedAtoms;
 use crate::pool_ids::PoolIds;
 use crate::totals_before_reset::TotalsBeforeReset;
 use kl1_codes::SharedCodes;
-use kl1_journal::JournaledAccount;
+use kl1_journal::{AccountName, JournaledAccount};
 use kl1_journal_entries::Journal;
 use kl1_journal_stamps::ShownHistory;
 use kl1_pool_tickets::{Booked, Share};
@@ -47,6 +48,7 @@ pub struct PoolAccount<'t, R: Wait, K: PoolIds> {
     past: TotalsBeforeReset,
     is_out: bool,
     shown: ShownHistory,
+    name: AccountName,
     of: PhantomData<K>,
 }
 
@@ -60,6 +62,7 @@ impl<'t, R: Wait, K: PoolIds> Model for PoolAccount<'t, R, K> {
     ghost use Rattle.kl1_journal_stamps.specs.Stamps.{MayFollow};
     ghost use Rattle.kl1_pool.specs.PoolAccounts.{PoolAccountValue, StandsIn};
     ghost use Rattle.kl1_pool.specs.Counted.{IsCounted};
+    ghost use Rattle.kl1_pool.specs.Names.{IsNamed};
 
     ghost Value = { PoolAccountValue };
 
@@ -67,13 +70,14 @@ impl<'t, R: Wait, K: PoolIds> Model for PoolAccount<'t, R, K> {
 
     ghost view = { λ c. record { held = c.kept.1; book = c.book; past = c.past; is_out = c.is_out } };
 
-    ghost invariant = { λ c. IsSharedSeat K.table c.kept.0.badge.table_id K.seats (face_in c.kept.0.badge.views) c.kept.0.account × ArePlaced (StandsIn K.codes) c.kept.1.0.modules × (c.book.tally ≡ K.tally) × (c.book.account < MOST_ACCOUNTS) × IsCounted c.past c.kept.1.1 c.book × (c.kept.1.0.rules ≡ K.rules) × (slice_get K.names c.book.account ≡ Some c.kept.1.0.own_name) × (slice_get K.histories c.book.account ≡ Some c.shown.history) × MayFollow c.shown.last c.past.events c.kept.1.1 };
+    ghost invariant = { λ c. IsSharedSeat K.table c.kept.0.badge.table_id K.seats (face_in c.kept.0.badge.views) c.kept.0.account × ArePlaced (StandsIn K.codes) c.kept.1.0.modules × (c.book.tally ≡ K.tally) × (c.book.account < MOST_ACCOUNTS) × IsCounted c.past c.kept.1.1 c.book × (c.kept.1.0.rules ≡ K.rules) × IsNamed K.names c.book.account c.name c.kept.1.0.own_name × (slice_get K.histories c.book.account ≡ Some c.shown.history) × MayFollow c.shown.last c.past.events c.kept.1.1 };
 }
 
 impl<'t, R: Wait, K: PoolIds> PoolAccount<'t, R, K> {
-    /// An account whose journal has no entries, with a new book, of which no journal was shown; no ticket of it is out.
+    /// An account of this name whose journal has no entries, with a new book, of which no journal was shown; no ticket of it is out.
     pub fn new(
         kept: JournaledAccount<NamedAtoms<'t, K>, SharedCodes<'t, R>>,
+        name: AccountName,
         book: BookSeat,
         shown: ShownHistory,
     ) -> Self
@@ -82,7 +86,7 @@ impl<'t, R: Wait, K: PoolIds> PoolAccount<'t, R, K> {
         requires entries { kept.1.1.entries ≡ [] }
         requires book { IsNewBook K.tally book }
         requires rules { kept.1.0.rules ≡ K.rules }
-        requires name { slice_get K.names book.account ≡ Some kept.1.0.own_name }
+        requires name { IsNamed K.names book.account name kept.1.0.own_name }
         requires shown { (slice_get K.histories book.account ≡ Some shown.history) × (shown.last ≡ None) }
         ensures held { result.held ≡ kept.entry.1 }
         ensures book { result.book ≡ book }
@@ -98,6 +102,7 @@ impl<'t, R: Wait, K: PoolIds> PoolAccount<'t, R, K> {
             },
             is_out: false,
             shown,
+            name,
             of: PhantomData,
         }
     }
@@ -170,13 +175,13 @@ impl<'t, R: Wait, K: PoolIds> PoolAccount<'t, R, K> {
 
     /// Tells a caller's proof what the type keeps: the account is the replay of its journal for each reading of its names, there is
     /// such a reading; the book tells what was counted before the last reset and the events that the journal's entries are; and the
-    /// rules and the name are those that K names. It does nothing.
+    /// rules and the name are those that K names, if it names one. It does nothing.
     pub fn shows_counts(&self)
         ensures kept { IsKept self.now.held }
         ensures names { AreNames self.now.held.0.names }
         ensures counted { IsCounted self.now.past self.now.held.1 self.now.book }
         ensures rules { self.now.held.0.rules ≡ K.rules }
-        ensures name { slice_get K.names self.now.book.account ≡ Some self.now.held.0.own_name }
+        ensures name { called_at K.names self.now.book.account self.now.held.0.own_name }
     {
         self.kept.shows_replay();
     }
@@ -223,6 +228,14 @@ impl<'t, R: Wait, K: PoolIds> PoolAccount<'t, R, K> {
         ensures { (f : Reading) → Fits self.now.held.0.names f → result ≡ quiet (kept_of f self.now.held).state }
     {
         self.kept.quiet()
+    }
+
+    /// Whether the account is called so.
+    pub(crate) fn is_called(&self, name: &[u8]) -> bool
+        ensures { IsTrue result ↔ is_called name.now self.now.held.0.own_name }
+    {
+        let own = self.name.text().unpacked();
+        own.as_slice() == name
     }
 
     /// The account's number.

@@ -1,6 +1,6 @@
 // Doing the entries of a journal to an account.
 
-ghost use Rattle.std.specs.Prelude.{◌≡◌, take, Some, IfOk, IsTrue, false};
+ghost use Rattle.std.specs.Prelude.{◌≡◌, ◌≤◌, take, Some, IfOk, IsTrue, false};
 ghost use Rattle.kl1_model.specs.State.{has_runs};
 ghost use Rattle.kl1_model_server.specs.Journal.{Entry as Entered, runs};
 ghost use Rattle.kl1_user_events.specs.Views.{event_of, reply_of};
@@ -8,9 +8,10 @@ ghost use Rattle.kl1_journal_entries.specs.Found.{deed_in};
 ghost use Rattle.kl1_journal_entries.specs.Lined.{entry_of};
 ghost use Rattle.kl1_journal_entries.specs.Shown.{entry_shown};
 ghost use Rattle.kl1_journal_entries.specs.Slots.{goal_in};
-ghost use Rattle.kl1_command.specs.Told.{Told};
+ghost use Rattle.kl1_command.specs.Told.{Told, told_steps};
+ghost use Rattle.kl1_command.specs.Stepping.{IsEnd};
 ghost use Rattle.kl1_command.specs.Room.{HasRoomFor};
-ghost use Rattle.kl1_pool.specs.Restoring.{IsEntryDone, IsRestored, result_by, result_of_run, told_entry, told_of, told_sum};
+ghost use Rattle.kl1_pool.specs.Restoring.{Leads, IsEntryDone, IsRestored, result_by, result_of_run, told_entry, told_of, told_sum};
 
 use kl1_command::{FirstStep, Host, Steps, run_steps};
 use kl1_journal_entries::{Deed, Entry, Journal};
@@ -48,6 +49,15 @@ pub(crate) enum EntryResult {
     Whole,
     /// So many of its first steps are done, and no more since it ended so.
     Stopped { steps: u64, end: RestoreEnd },
+}
+
+/// The first steps of a run between two looks at a meter.
+const STEPS_A_PIECE: u64 = 65_536;
+
+/// Who is told how far a restore is, and may end it.
+pub trait Meter {
+    /// Takes in that so many events more are done, none before the first entry; whether the restore goes on, if there is more to do.
+    fn goes_on(&self, events: u64) -> bool;
 }
 
 /// A host that tells whether its account keeps to rules by which there are runs, and that adds up what it counts.
@@ -178,8 +188,43 @@ fn restore_event<H: RestoringHost>(host: &mut H, event: &Event) -> EntryResult
     }
 }
 
+/// Like `run_steps`, in pieces, between which the meter is asked: if it ends them, that is told as want of memory.
+fn metered_steps<H: RestoringHost, M: Meter>(host: &mut H, meter: &M, most: u64) -> Steps
+    requires { HasRoomFor most (H.room host.old) }
+    ensures few { result.done ≤ most }
+    ensures goes { (f : H.Reading) → H.fits host.new f → Leads (H.kept f host.old).state result.done (H.kept f host.new).state }
+    ensures last { (f : H.Reading) → H.fits host.new f → IsEnd most result.done result.last (H.kept f host.new) }
+    ensures counted { H.counted host.old (told_steps result.done) host.new }
+    ensures before { (f : H.Reading) → H.fits host.new f → H.fits host.old f }
+    ensures beside { H.beside host.new ≡ H.beside host.old }
+{
+    let mut done = 0;
+    while done < most {
+        let piece = STEPS_A_PIECE.min(most - done);
+        let run = run_steps(host, piece);
+        done += run.done;
+        if run.done < piece {
+            return Steps {
+                done,
+                last: run.last,
+            };
+        }
+        // What is the last piece is told with its entry.
+        if done < most && !meter.goes_on(piece) {
+            return Steps {
+                done,
+                last: FirstStep::Memory,
+            };
+        }
+    }
+    Steps {
+        done,
+        last: FirstStep::Done,
+    }
+}
+
 /// Does a run.
-fn restore_run<H: RestoringHost>(host: &mut H, reductions: u64) -> EntryResult
+fn restore_run<H: RestoringHost, M: Meter>(host: &mut H, meter: &M, reductions: u64) -> EntryResult
     ensures does { (f : H.Reading) → H.fits host.new f → IsEntryDone (H.kept f host.old).state (runs reductions) result (H.kept f host.new).state }
     ensures counted { (f : H.Reading) → H.fits host.new f → H.counted host.old (told_entry (runs reductions) result) host.new }
     ensures before { (f : H.Reading) → H.fits host.new f → H.fits host.old f }
@@ -197,12 +242,12 @@ fn restore_run<H: RestoringHost>(host: &mut H, reductions: u64) -> EntryResult
             end: RestoreEnd::Full,
         };
     }
-    let run = run_steps(host, reductions);
+    let run = metered_steps(host, meter, reductions);
     result_of_run(run)
 }
 
 /// Does what an entry asks for.
-fn restore_deed<H: RestoringHost>(host: &mut H, deed: Deed) -> EntryResult
+fn restore_deed<H: RestoringHost, M: Meter>(host: &mut H, meter: &M, deed: Deed) -> EntryResult
     ensures does { (e : Entered) → deed_in deed ≡ Some e → (f : H.Reading) → H.fits host.new f → IsEntryDone (H.kept f host.old).state e result (H.kept f host.new).state }
     ensures counted { (e : Entered) → deed_in deed ≡ Some e → (f : H.Reading) → H.fits host.new f → H.counted host.old (told_entry e result) host.new }
     ensures before { (f : H.Reading) → H.fits host.new f → H.fits host.old f }
@@ -210,12 +255,17 @@ fn restore_deed<H: RestoringHost>(host: &mut H, deed: Deed) -> EntryResult
 {
     match deed {
         Deed::Event(event) => restore_event(host, &event),
-        Deed::Run(reductions) => restore_run(host, reductions),
+        Deed::Run(reductions) => restore_run(host, meter, reductions),
     }
 }
 
 /// Does an entry.
-fn restore_entry<H: RestoringHost>(alloc: Global, host: &mut H, entry: Entry<'_>) -> EntryResult
+fn restore_entry<H: RestoringHost, M: Meter>(
+    alloc: Global,
+    host: &mut H,
+    meter: &M,
+    entry: Entry<'_>,
+) -> EntryResult
     ensures does { (f : H.Reading) → H.fits host.new f → IsEntryDone (H.kept f host.old).state (entry_shown entry.entry) result (H.kept f host.new).state }
     ensures counted { (f : H.Reading) → H.fits host.new f → H.counted host.old (told_entry (entry_shown entry.entry) result) host.new }
     ensures before { (f : H.Reading) → H.fits host.new f → H.fits host.old f }
@@ -226,14 +276,27 @@ fn restore_entry<H: RestoringHost>(alloc: Global, host: &mut H, entry: Entry<'_>
             steps: 0,
             end: RestoreEnd::Memory,
         },
-        Ok(deed) => restore_deed(host, deed),
+        Ok(deed) => restore_deed(host, meter, deed),
     }
 }
 
-/// Does the entries of a journal, one after another, until one isn't accepted whole.
-pub(crate) fn restore_all<H: RestoringHost>(
+/// The events of an entry that are told when it is done: of a run those of its last piece.
+fn last_events(entry: &Entry<'_>) -> u64 {
+    match entry {
+        Entry::Run(reductions) => match reductions % STEPS_A_PIECE {
+            0 => STEPS_A_PIECE,
+            rest => rest,
+        },
+        _ => 1,
+    }
+}
+
+/// Does the entries of a journal, one after another, until one isn't accepted whole, or `meter` says so before one, which is told as want of
+/// memory.
+pub(crate) fn restore_all<H: RestoringHost, M: Meter>(
     alloc: Global,
     host: &mut H,
+    meter: &M,
     journal: &Journal,
 ) -> Restored
     ensures restored { (f : H.Reading) → H.fits host.new f → IsRestored (H.kept f host.old).state journal.now.journal.entries result (H.kept f host.new).state }
@@ -243,6 +306,7 @@ pub(crate) fn restore_all<H: RestoringHost>(
 {
     let mut entries = journal.entries();
     let mut done = 0;
+    let mut events = 0;
     while let Some(entry) = entries.next() {
         if done == u64::MAX {
             return Restored {
@@ -251,7 +315,16 @@ pub(crate) fn restore_all<H: RestoringHost>(
                 end: RestoreEnd::Full,
             };
         }
-        match restore_entry(alloc, host, entry) {
+        // That the entry before is done is told first, so that the meter ends nothing that is done whole.
+        if !meter.goes_on(events) {
+            return Restored {
+                entries: done,
+                steps: 0,
+                end: RestoreEnd::Memory,
+            };
+        }
+        events = last_events(&entry);
+        match restore_entry(alloc, host, meter, entry) {
             EntryResult::Whole => done += 1,
             EntryResult::Stopped { steps, end } => {
                 return Restored {
@@ -262,6 +335,7 @@ pub(crate) fn restore_all<H: RestoringHost>(
             }
         }
     }
+    let _last = meter.goes_on(events);
     Restored {
         entries: done,
         steps: 0,

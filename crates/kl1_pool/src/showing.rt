@@ -1,10 +1,12 @@
 // What is shown of an account of a pool, under its lock.
 
-ghost use Rattle.std.specs.Prelude.{◌≡◌, ◌<◌, slice_get, IfOk, IfSome, option_map};
+ghost use Rattle.std.specs.Prelude.{◌≡◌, ◌<◌, IfOk, IfSome, option_map};
 ghost use Rattle.kl1_user_events.specs.Viewing.{shoen_page, goal_page, goal_text, goal_term, AreAwaited, IsPresence, usage_of};
 ghost use Rattle.kl1_pool.specs.Memory.{IsTakenBySome};
+ghost use Rattle.kl1_pool.specs.Names.{called_at};
 ghost use Rattle.kl1_pool.specs.Showing.{IsOfSome, IsCountedBySome};
 
+use crate::locked_slot::Tenant;
 use crate::pool::Pool;
 use crate::pool_account::BookTotals;
 use crate::pool_ids::PoolIds;
@@ -22,10 +24,12 @@ impl<'t, R: Wait, K: PoolIds> Pool<'t, R, K> {
         count: usize,
     ) -> Result<Vec<ShoenView>, AllocError>
         requires within { account < K.accounts }
-        ensures { IfOk result (λ views. IsOfSome K.rules (slice_get K.names account) (λ s. views.items ≡ shoen_page s from.0 count)) }
+        ensures { IfOk result (λ views. IsOfSome K.rules (called_at K.names account) (λ s. views.items ≡ shoen_page s from.0 count)) }
     {
         let guard = self.places[account].lock(rt);
-        let found = &*guard.account;
+        let Some(found) = guard.account() else {
+            return Err(AllocError);
+        };
         // As in `visit`.
         if !found.is_at(account) {
             return Err(AllocError);
@@ -42,10 +46,12 @@ impl<'t, R: Wait, K: PoolIds> Pool<'t, R, K> {
         count: usize,
     ) -> Result<Vec<GoalView>, AllocError>
         requires within { account < K.accounts }
-        ensures { IfOk result (λ views. IsOfSome K.rules (slice_get K.names account) (λ s. views.items ≡ goal_page s from.0 count)) }
+        ensures { IfOk result (λ views. IsOfSome K.rules (called_at K.names account) (λ s. views.items ≡ goal_page s from.0 count)) }
     {
         let guard = self.places[account].lock(rt);
-        let found = &*guard.account;
+        let Some(found) = guard.account() else {
+            return Err(AllocError);
+        };
         // As in `visit`.
         if !found.is_at(account) {
             return Err(AllocError);
@@ -62,15 +68,20 @@ impl<'t, R: Wait, K: PoolIds> Pool<'t, R, K> {
         extent: Extent,
     ) -> Result<Option<Vec<u8>>, AllocError>
         requires within { account < K.accounts }
-        ensures { IfOk result (λ shown. IsOfSome K.rules (slice_get K.names account) (λ s. option_map (λ text. text.items) shown ≡ goal_text extent s goal.0)) }
+        ensures { IfOk result (λ shown. IsOfSome K.rules (called_at K.names account) (λ s. option_map (λ text. text.items) shown ≡ goal_text extent s goal.0)) }
     {
         let mut guard = self.places[account].lock(rt);
-        let found = &mut *guard.account;
-        // As in `visit`.
-        if !found.is_at(account) {
-            return Err(AllocError);
+        let slot = &mut *guard;
+        match &mut *slot.tenant {
+            Some(Tenant::Account(found)) => {
+                // As in `visit`.
+                if !found.is_at(account) {
+                    return Err(AllocError);
+                }
+                found.goal_text(&mut self.tables.atoms(), goal, extent)
+            }
+            _ => Err(AllocError),
         }
-        found.goal_text(&mut self.tables.atoms(), goal, extent)
     }
 
     /// The numbers of the variables that a goal of an account waits for, as `PoolAccount::awaited`.
@@ -81,10 +92,12 @@ impl<'t, R: Wait, K: PoolIds> Pool<'t, R, K> {
         goal: GoalNo,
     ) -> Result<Option<Vec<u32>>, AllocError>
         requires within { account < K.accounts }
-        ensures { IfOk result (λ awaited. IsOfSome K.rules (slice_get K.names account) (λ s. AreAwaited s goal.0 (option_map (λ numbers. numbers.items) awaited))) }
+        ensures { IfOk result (λ awaited. IsOfSome K.rules (called_at K.names account) (λ s. AreAwaited s goal.0 (option_map (λ numbers. numbers.items) awaited))) }
     {
         let guard = self.places[account].lock(rt);
-        let found = &*guard.account;
+        let Some(found) = guard.account() else {
+            return Err(AllocError);
+        };
         // As in `visit`.
         if !found.is_at(account) {
             return Err(AllocError);
@@ -102,10 +115,12 @@ impl<'t, R: Wait, K: PoolIds> Pool<'t, R, K> {
         most: u64,
     ) -> Result<Presence, AllocError>
         requires within { account < K.accounts }
-        ensures { IfOk result (λ presence. IsOfSome K.rules (slice_get K.names account) (λ s. IsPresence variable most (goal_term s goal.0) presence)) }
+        ensures { IfOk result (λ presence. IsOfSome K.rules (called_at K.names account) (λ s. IsPresence variable most (goal_term s goal.0) presence)) }
     {
         let guard = self.places[account].lock(rt);
-        let found = &*guard.account;
+        let Some(found) = guard.account() else {
+            return Err(AllocError);
+        };
         // As in `visit`.
         if !found.is_at(account) {
             return Err(AllocError);
@@ -116,10 +131,12 @@ impl<'t, R: Wait, K: PoolIds> Pool<'t, R, K> {
     /// What an account has of what is limited.
     pub fn usage<W: Wait>(&self, rt: &W, account: usize) -> Result<Usage, AllocError>
         requires within { account < K.accounts }
-        ensures { IfOk result (λ usage. IsOfSome K.rules (slice_get K.names account) (λ s. usage ≡ usage_of s)) }
+        ensures { IfOk result (λ usage. IsOfSome K.rules (called_at K.names account) (λ s. usage ≡ usage_of s)) }
     {
         let guard = self.places[account].lock(rt);
-        let found = &*guard.account;
+        let Some(found) = guard.account() else {
+            return Err(AllocError);
+        };
         // As in `visit`.
         if !found.is_at(account) {
             return Err(AllocError);
@@ -127,13 +144,13 @@ impl<'t, R: Wait, K: PoolIds> Pool<'t, R, K> {
         Ok(found.usage())
     }
 
-    /// What the book of an account tells; `None` if another account was found, which never is so.
+    /// What the book of an account tells; `None` if there is none here, or another was found, which never is so.
     pub fn counted<W: Wait>(&self, rt: &W, account: usize) -> Option<BookTotals>
         requires within { account < K.accounts }
-        ensures { IfSome result (λ totals. IsCountedBySome K.rules (slice_get K.names account) totals.events totals.steps) }
+        ensures { IfSome result (λ totals. IsCountedBySome K.rules (called_at K.names account) totals.events totals.steps) }
     {
         let guard = self.places[account].lock(rt);
-        let found = &*guard.account;
+        let found = guard.account()?;
         // As in `visit`.
         if !found.is_at(account) {
             return None;
@@ -143,13 +160,13 @@ impl<'t, R: Wait, K: PoolIds> Pool<'t, R, K> {
         Some(found.counted())
     }
 
-    /// About how many bytes an account takes; `None` if another account was found, which never is so.
+    /// About how many bytes an account takes; `None` if there is none here, or another was found, which never is so.
     pub fn bytes<W: Wait>(&self, rt: &W, account: usize) -> Option<u64>
         requires within { account < K.accounts }
-        ensures { IfSome result (λ bytes. IsTakenBySome K.rules (slice_get K.names account) bytes) }
+        ensures { IfSome result (λ bytes. IsTakenBySome K.rules (called_at K.names account) bytes) }
     {
         let guard = self.places[account].lock(rt);
-        let found = &*guard.account;
+        let found = guard.account()?;
         // As in `visit`.
         if !found.is_at(account) {
             return None;

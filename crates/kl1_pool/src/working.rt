@@ -1,9 +1,10 @@
 // Workers, which go on with accounts.
 
-ghost use Rattle.std.specs.Prelude.{◌≡◌, ◌<◌, ◌≤◌, slice_get};
+ghost use Rattle.std.specs.Prelude.{◌≡◌, ◌<◌, ◌≤◌};
 ghost use Rattle.kl1_tally.specs.declared.amounts.TheConstants.{MOST_ACCOUNTS};
 ghost use Rattle.kl1_pool_tickets.specs.Counts.{Moved, ServesTickets, Worked};
 ghost use Rattle.kl1_pool_tickets.specs.declared.serving.TheConstants.{MOST_STEPS};
+ghost use Rattle.kl1_pool.specs.Names.{called_at};
 ghost use Rattle.kl1_pool.specs.Stepping.{IsTurn};
 
 use crate::gate::Gate;
@@ -21,10 +22,10 @@ struct AtWork<'p, 't, G: Gate, R: Wait, K: PoolIds> {
 }
 
 impl<'p, 't, G: Gate, R: Wait, K: PoolIds> Accounts<K> for AtWork<'p, 't, G, R, K> {
-    ghost use Rattle.std.specs.Prelude.{slice_get};
+    ghost use Rattle.kl1_pool.specs.Names.{called_at};
     ghost use Rattle.kl1_pool.specs.Stepping.{IsTurn};
 
-    ghost turned = { λ account slice _ _. IsTurn K.rules (slice_get K.names account) K.most_bytes slice };
+    ghost turned = { λ account slice _ _. IsTurn K.rules (called_at K.names account) K.most_bytes slice };
 
     fn turn<W: Wait>(&self, rt: &W, account: usize, share: &mut Share<K>) -> TimeSlice {
         self.pool.turn(rt, self.gate, self.number, account, share)
@@ -44,7 +45,7 @@ pub fn worker<'t, G: Gate, R: Wait, K: PoolIds, W: Wait>(
     number: u64,
     share: &mut Share<K>,
 )
-    ensures tickets { ServesTickets (λ account slice _ _. IsTurn K.rules (slice_get K.names account) K.most_bytes slice) share.old share.new }
+    ensures tickets { ServesTickets (λ account slice _ _. IsTurn K.rules (called_at K.names account) K.most_bytes slice) share.old share.new }
     ensures worked { Worked share.old share.new }
 {
     kl1_pool_tickets::worker(rt, &pool.common, &AtWork { pool, gate, number }, share)

@@ -1,10 +1,11 @@
 -- What was done for one connection, and how it was answered and counted.
-use Rattle.std.specs.Prelude.{◌≡◌, ℕ, List, [], ◌∷◌, All, slice_get}
+use Rattle.std.specs.Prelude.{◌≡◌, ℕ, List, [], ◌∷◌, All}
 use Rattle.kl1_model.specs.declared.rules.Rules.{Rules}
 use Rattle.kl1_command.specs.Told.{events_told, steps_told}
 use Rattle.kl1_pool_tickets.specs.Counts.{Counts, Acts}
 use Rattle.kl1_session.specs.Conversations.{Done}
 use Rattle.kl1_pool.specs.Answers.{IsGiven}
+use Rattle.kl1_pool.specs.Names.{called_at}
 
 -- what the share counted before anything was done, and now; and what was done, in order
 pub record HistoryValue : Type 0 where
@@ -12,9 +13,9 @@ pub record HistoryValue : Type 0 where
   pub share : Counts
   pub done : List Done
 
--- an account of these rules and of its name, the replay of its journal, gives this answer to just this command, unless memory was refused
+-- an account of these rules and of the name at its number, the replay of its journal, gives this answer to just this command, unless memory was refused
 abbrev pub IsAnswered : Rules → List (List ℕ) → Done → Type 0
-IsAnswered rules names d = IsGiven rules (slice_get names d.account) d.command d.answer
+IsAnswered rules names d = IsGiven rules (called_at names d.account) d.command d.answer
 
 -- a share counts what an answer tells
 abbrev pub IsCounted : Done → Counts → Counts → Type 0

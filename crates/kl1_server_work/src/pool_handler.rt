@@ -11,7 +11,7 @@ use std::sync::Wait;
 pub struct PoolHandler<'p, 't, R: Wait, K: PoolIds> {
     pub rt: &'p R,
     pub pool: &'p Pool<'t, R, K>,
-    pub history: History<K>,
+    pub history: History<K, K>,
 }
 
 impl<'p, 't, R: Wait, K: PoolIds> CommandHandler for PoolHandler<'p, 't, R, K> {

@@ -1,2 +1,1 @@
-pub mod FilesOfKeys
 pub mod Growings

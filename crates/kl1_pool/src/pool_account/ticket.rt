@@ -6,6 +6,7 @@ ghost use Rattle.kl1_journal.specs.Keeping.{Reading, Fits, kept_of};
 ghost use Rattle.kl1_pool_tickets.specs.Counts.{Moved};
 ghost use Rattle.kl1_tally.specs.declared.amounts.TheConstants.{MOST_ACCOUNTS};
 
+use crate::locked_slot::EmptyPlace;
 use crate::pool_account::PoolAccount;
 use crate::pool_ids::PoolIds;
 use kl1_pool_tickets::{PoolShared, Share};
@@ -17,7 +18,7 @@ pub(crate) struct DueTicket<K: PoolIds> {
     of: PhantomData<K>,
 }
 
-/// A ticket that couldn't be put. It can't be dropped either: it is used up by `take_back`.
+/// A ticket that couldn't be put. It can't be dropped either: it is used up by `take_back`, or `forget` if its account has left.
 pub(crate) struct UnputTicket<K: PoolIds> {
     of: PhantomData<K>,
 }
@@ -40,6 +41,13 @@ impl<K: PoolIds> DueTicket<K> {
         } else {
             Some(UnputTicket { of })
         }
+    }
+}
+
+impl<K: PoolIds> UnputTicket<K> {
+    /// Forgets it, since its account has left this place.
+    pub(crate) fn forget(self, _place: &EmptyPlace<K>) {
+        let UnputTicket { of: _ } = self;
     }
 }
 

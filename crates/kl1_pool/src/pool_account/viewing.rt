@@ -1,21 +1,25 @@
 // What is shown of an account with its book.
 
-ghost use Rattle.std.specs.Prelude.{◌≡◌, [], nat_lt, Some, slice_get, IfOk, IsTrue, false, option_map};
+ghost use Rattle.std.specs.Prelude.{◌≡◌, [], nat_lt, Some, slice_get, IfOk, IsTrue, true, false, option_map};
 ghost use Rattle.kl1_command.specs.Commands.{command_view};
 ghost use Rattle.kl1_journal.specs.Keeping.{Reading, Fits, kept_of};
 ghost use Rattle.kl1_journal_stamps.specs.Stamps.{StampValue};
 ghost use Rattle.kl1_user_events.specs.Viewing.{shoen_page, goal_page, goal_text, goal_term, AreAwaited, IsPresence, usage_of};
 ghost use Rattle.kl1_pool.specs.Counted.{reduces_in};
 ghost use Rattle.kl1_pool.specs.Memory.{bytes_taken, IsBeyond, IsWithin, IsWithinTurn};
-ghost use Rattle.kl1_pool.specs.Showing.{IsFound};
+ghost use Rattle.kl1_pool.specs.Names.{called_at};
+ghost use Rattle.kl1_pool.specs.Showing.{IsFound, IsLastOf};
 
 use crate::looking::JournalReader;
 use crate::memory::{bound_of, bytes_of, takes_memory, turn_bound};
 use crate::named_atoms::NamedAtoms;
 use crate::pool_account::PoolAccount;
 use crate::pool_ids::PoolIds;
+use crate::tenancy::LastReader;
 use kl1_codes::SharedCodes;
 use kl1_command::Command;
+use kl1_journal_stamps::ShownHistory;
+use kl1_tally::BookSeat;
 use kl1_user_events::{Extent, GoalNo, GoalView, Presence, ShoenNo, ShoenView, Usage};
 use std::alloc::AllocError;
 use std::sync::Wait;
@@ -93,9 +97,10 @@ impl<'t, R: Wait, K: PoolIds> PoolAccount<'t, R, K> {
         }
     }
 
-    /// Whether the account has this number. Then it keeps to the rules and has the name that K names, and is the replay of its journal.
+    /// Whether the account has this number. Then it keeps to the rules and has the name that K names, if it names one, and is the replay of its
+    /// journal.
     pub(crate) fn is_at(&self, account: usize) -> bool
-        ensures { IsTrue result → IsFound K.rules (slice_get K.names account) self.now.held }
+        ensures { IsTrue result → IsFound K.rules (called_at K.names account) self.now.held }
     {
         // Called for the facts that it proves.
         self.shows_counts();
@@ -144,14 +149,6 @@ impl<'t, R: Wait, K: PoolIds> PoolAccount<'t, R, K> {
         !self.is_over(turn_bound(most, is_short))
     }
 
-    /// Whether the journal has no entries.
-    pub(crate) fn has_no_entries(&self) -> bool
-        ensures { IsTrue result → self.now.held.1.entries ≡ [] }
-    {
-        let mut entries = self.lent_journal().entries();
-        entries.next().is_none()
-    }
-
     /// Lets a reader read the journal, and how many events were counted before the last reset. Answers whether it did: it didn't if
     /// the history of the account has other journals, which never is so.
     pub fn look<L: JournalReader>(&mut self, reader: &mut L) -> bool
@@ -167,5 +164,53 @@ impl<'t, R: Wait, K: PoolIds> PoolAccount<'t, R, K> {
         };
         reader.read(journal, ended, &stamp);
         true
+    }
+
+    /// Lets a reader read the journal for the last time, as `look`, and takes the account apart: its book is left, and the history of its journals that
+    /// were shown, which is at this one. It is given back if the reader wasn't shown the journal, or asks to come again.
+    pub(crate) fn last_look<L: LastReader>(
+        self,
+        reader: &mut L,
+    ) -> Result<(BookSeat, ShownHistory), Self>
+        requires { (s : StampValue) → slice_get K.histories self.book.account ≡ Some s.history → L.takes reader.old s }
+        ensures book { IfOk result (λ r. (r.0 ≡ self.entry.book) × (r.0.tally ≡ K.tally)) }
+        ensures history { IfOk result (λ r. slice_get K.histories self.entry.book.account ≡ Some r.1.history) }
+        ensures seen { IfOk result (λ r. L.reads reader.old reader.new self.entry.held.1 self.entry.past.events × IsLastOf r.1 self.entry.held.1 self.entry.past.events) }
+        ensures read { IfOk result (λ r. L.has_read reader.new ≡ true) }
+    {
+        let PoolAccount {
+            kept,
+            book,
+            past,
+            is_out,
+            mut shown,
+            name,
+            of,
+        } = self;
+        let journal = kept.lent_journal();
+        let Some(last) = shown.show(journal, past.events) else {
+            return Err(PoolAccount {
+                kept,
+                book,
+                past,
+                is_out,
+                shown,
+                name,
+                of,
+            });
+        };
+        reader.read(journal, past.events, &last);
+        if !reader.is_done() {
+            return Err(PoolAccount {
+                kept,
+                book,
+                past,
+                is_out,
+                shown,
+                name,
+                of,
+            });
+        }
+        Ok((book, shown))
     }
 }

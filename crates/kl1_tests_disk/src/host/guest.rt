@@ -1,16 +1,14 @@
 // The program around a host: a client that sends lines, and what comes back.
 
-ghost use Rattle.kl1_session.specs.Views.{entries_view};
-ghost use Rattle.kl1_host_work.specs.Fronts.{names_in};
-
-use kl1_host_work::{Front, HostEvent, HostView, Performer};
+use kl1_host_work::{Front, HostEvent, HostView, Performer, PlaceState, Steering};
 use kl1_lines::{Sink, Source};
 use kl1_session::{Key, Keys};
 use std::alloc::{AllocError, Global};
 use std::io::{self, Read, Write};
 use std::net::{Net, Shutdown, SocketAddr, TcpListener, TcpStream};
 use std::sync::{Mutex, Wait};
-use std::time::Duration;
+use std::thread;
+use std::time::{Clock, Duration};
 
 /// The seconds for which a client waits for bytes.
 const PATIENCE: u64 = 30;
@@ -121,17 +119,39 @@ where
     }
 }
 
+impl<R: Wait + Clock> Guest<'_, R> {
+    /// Waits until the account of each key is there; not if the host is to end.
+    fn await_accounts<V: Steering>(&self, host: &V) -> bool {
+        for _ in self.rt.forever() {
+            if host.has_failed() {
+                return false;
+            }
+            let are_open = (0..self.keys.len()).all(|place| matches!(
+                host.standing(place),
+                PlaceState::Open
+            ));
+            if are_open {
+                return true;
+            }
+            thread::sleep(self.rt, Duration::from_millis(1));
+        }
+        false
+    }
+}
+
 impl<'g, R> Front for Guest<'g, R>
 where
-    R: Net<Listener = TcpListener, Stream = TcpStream> + Wait,
+    R: Net<Listener = TcpListener, Stream = TcpStream> + Wait + Clock,
 {
     type Entrance = Keys<'g>;
 
-    ghost names = { λ guest. names_in (entries_view guest.keys.now) };
+    fn keys(&self) -> &[Key] {
+        self.keys
+    }
 
     #[tactic(auto, using(kl1_host_work::proofs::OpenedByName::found_by_name, kl1_host_work::proofs::NamesInOrder::length_names))]
-    fn door(&self, _address: SocketAddr) -> Keys<'g> {
-        Keys { keys: self.keys }
+    fn door(&self, _address: SocketAddr) -> (Keys<'g>, &[Key]) {
+        (Keys { keys: self.keys }, self.keys)
     }
 
     fn tell(&self, _event: HostEvent) {}
@@ -139,15 +159,24 @@ where
     fn serve_pages<S: Source, T: Sink, P: Performer, V: HostView>(
         &self,
         _address: SocketAddr,
+        _keys: &[Key],
         _source: &mut S,
         _sink: &mut T,
         _performer: &mut P,
         _host: &V,
     ) {}
 
-    fn attend<P: Performer, V: HostView>(&self, _performer: &mut P, _host: &V) {
-        if let Ok(replies) = self.replies() {
+    fn attend<P: Performer, V: HostView + Steering>(
+        &self,
+        _keys: &[Key],
+        _performer: &mut P,
+        host: &V,
+    ) -> bool {
+        if self.await_accounts(host)
+            && let Ok(replies) = self.replies()
+        {
             *self.replies.lock(self.rt) = replies;
         }
+        false
     }
 }

@@ -1,18 +1,14 @@
 // A host that is started, asked and stopped.
 
-ghost use Rattle.std.specs.Prelude.{◌≡◌, IfOk};
-ghost use Rattle.kl1_session.specs.Views.{entries_view};
-ghost use Rattle.kl1_host_work.specs.AccountFiles.{names_of};
-ghost use Rattle.kl1_host_work.specs.Fronts.{names_in};
-
 use crate::host::guest::{Guest, Visit, keys};
 use crate::sums::text_in;
 use kl1_host_journals::{OpenFault, open_file};
-use kl1_host_work::{AccountFile, Limits, Listeners, Setup, StartFault, Syncing, run_host};
+use kl1_host_work::{AccountFile, Limits, Listeners, Opener, Setup, StartFault, Syncing, run_host};
 use kl1_log::{LogFile, Memory};
 use kl1_pool::{AccountName, Rules};
 use kl1_session::Key;
 use std::alloc::{AllocError, Global};
+use std::io;
 use std::net::{Net, TcpListener, TcpStream};
 use std::sync::{Mutex, Wait};
 use std::thread::Threads;
@@ -36,6 +32,8 @@ pub(crate) fn setup() -> Setup {
         codes_each: 1_000,
         memory_each: u64::MAX,
         disk_each: u64::MAX,
+        accounts: 2,
+        places: 2,
     }
 }
 
@@ -46,31 +44,30 @@ pub(crate) struct Outcome {
     pub(crate) files: Vec<Vec<u8>>,
 }
 
-/// Files in memory with these bytes, which do as many calls and bytes as `left` says, opened for the accounts of these keys.
-#[tactic(auto, using(crate::proofs::FilesOfKeys::next_of_keys, crate::proofs::FilesOfKeys::all_of_keys))]
-fn accounts_of(
+/// Opens files in memory with these bytes, which do as many calls and bytes as `left` says, for the accounts of these keys.
+#[derive(Drop)]
+struct TextOpener<'o> {
     alloc: Global,
-    keys: &[Key],
-    texts: &[&[u8]],
+    keys: &'o [Key],
+    texts: &'o [&'o [u8]],
     left: usize,
-) -> Result<Vec<AccountFile<Memory>>, StartFault>
-    ensures { IfOk result (λ accounts. names_of accounts.items ≡ names_in (entries_view keys.now)) }
-{
-    let mut accounts = Vec::new(alloc);
-    for account in 0..keys.len() {
-        let Some(name) = AccountName::read(keys[account].name.as_slice()) else {
-            return Err(StartFault::Accounts);
+}
+
+impl Opener<Memory> for TextOpener<'_> {
+    fn open(&self, account: usize) -> Result<AccountFile<Memory>, OpenFault> {
+        let (Some(key), Some(text)) = (self.keys.get(account), self.texts.get(account)) else {
+            return Err(OpenFault::Failed(io::Error::other("no account")));
         };
-        let Some(text) = texts.get(account) else {
-            return Err(StartFault::Accounts);
+        let (Some(name), Ok(bytes)) = (
+            AccountName::read(key.name.as_slice()),
+            Vec::from_slice(self.alloc, text),
+        ) else {
+            return Err(OpenFault::Failed(io::Error::other("no name")));
         };
-        let disk = Memory::new(alloc, Vec::from_slice(alloc, text)?, left);
-        match open_file(alloc, disk, Rules::Four, false) {
-            Ok(opened) => accounts.push(AccountFile { name, opened })?,
-            Err(fault) => return Err(StartFault::Unopened { account, fault }),
-        }
+        let disk = Memory::new(self.alloc, bytes, self.left);
+        let opened = open_file(self.alloc, disk, Rules::Four, false)?;
+        Ok(AccountFile { name, opened })
     }
-    Ok(accounts)
 }
 
 /// The texts of the journals that are surely on the disks of files, if each of their lines has its sum.
@@ -113,7 +110,6 @@ where
     R: Net<Listener = TcpListener, Stream = TcpStream> + Threads + Wait + Clock + Sync,
 {
     let keys = keys(alloc)?;
-    let accounts = accounts_of(alloc, keys.as_slice(), texts, left)?;
     let listener = match TcpListener::bind(rt, "127.0.0.1:0") {
         Ok(listener) => listener,
         Err(_) => return Err(StartFault::Threads),
@@ -136,7 +132,13 @@ where
         clients: &listener,
         browsers: None,
     };
-    let files = run_host(rt, alloc, listeners, &guest, accounts, setup)?;
+    let opener = TextOpener {
+        alloc,
+        keys: keys.as_slice(),
+        texts,
+        left,
+    };
+    let files = run_host(rt, alloc, listeners, &guest, &opener, setup)?;
     let Guest { replies, .. } = guest;
     Ok(Outcome {
         replies: replies.into_inner(),

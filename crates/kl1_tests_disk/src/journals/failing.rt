@@ -4,9 +4,11 @@ ghost use Rattle.std.specs.Prelude.{◌≡◌, Some, slice_get};
 ghost use Rattle.kl1_host_journals.specs.FreshHistories.{books_of};
 
 use crate::journals::growing::{Change, Growing, NewAccount};
-use crate::journals::shelf::{ENOUGH, FRESH, Faults, Shelf, on_disk, only_scribe, write};
+use crate::journals::shelf::{
+    ENOUGH, FRESH, Faults, Shelf, first_keeper, on_disk, only_scribe, write,
+};
 use kl1_host_journals::{
-    Connecting, FreshConnection, Keeper, Naming, Outgoing, Scribe, SyncedWriter,
+    Connecting, FreshConnection, KeeperPlace, Naming, Outgoing, Scribe, SyncedWriter,
 };
 use kl1_log::Memory;
 use std::alloc::{AllocError, Global};
@@ -42,7 +44,7 @@ fn is_told<R: Wait, J: Naming, C: Connecting>(
     rt: &R,
     alloc: Global,
     scribe: &mut Scribe<'_, Memory, J>,
-    keepers: &[Keeper<J>],
+    keepers: &[KeeperPlace<J>],
     journal: &mut Growing<J>,
     changes: &[Change],
     faults: &Faults,
@@ -50,7 +52,7 @@ fn is_told<R: Wait, J: Naming, C: Connecting>(
 ) -> Result<bool, AllocError>
     requires { connection.pen.book ≡ C.connection }
 {
-    let Some(keeper) = keepers.first() else {
+    let Some(keeper) = first_keeper(keepers) else {
         return Ok(false);
     };
     journal.changed(alloc, changes)?;
@@ -74,7 +76,7 @@ fn told_by<R: Wait, J: Naming>(
     requires history { slice_get J.histories 0 ≡ Some start.shown.history }
 {
     let mut shelf = Shelf::<J>::new(alloc);
-    if !shelf.add(alloc, 0, left, start)? {
+    if !shelf.add(rt, alloc, 0, left, start)? {
         return Ok(Some(0));
     }
     let Shelf {
@@ -109,7 +111,9 @@ fn told_by<R: Wait, J: Naming>(
     // What isn't told may be on disk all the same, as a whole change.
     let has_told = bytes.as_slice() == file_after(told)
         || bytes.as_slice() == file_after(told.saturating_add(1));
-    let is_stopped = keepers.iter().all(|keeper| keeper.on_disk().is_stopped());
+    let is_stopped = first_keeper(keepers.as_slice()).is_some_and(|keeper| keeper
+        .on_disk()
+        .is_stopped());
     let is_right = has_told && (told == ROWS.len()) != is_stopped && faults.told() <= 1;
     Ok(if is_right { Some(told) } else { None })
 }
@@ -147,7 +151,7 @@ fn failed_stops_alone<R: Wait, J: Naming, A: Connecting, B: Connecting>(
     requires other_connection { other_connection.pen.book ≡ B.connection }
 {
     let mut shelf = Shelf::<J>::new(alloc);
-    if !shelf.add(alloc, 0, ENOUGH, start)? || !shelf.add(alloc, 1, 7, other_start)? {
+    if !shelf.add(rt, alloc, 0, ENOUGH, start)? || !shelf.add(rt, alloc, 1, 7, other_start)? {
         return Ok(false);
     }
     let Shelf {
@@ -159,7 +163,10 @@ fn failed_stops_alone<R: Wait, J: Naming, A: Connecting, B: Connecting>(
         return Ok(false);
     };
     let faults = Faults::new();
-    let [first, second] = keepers.as_slice() else {
+    let [first_place, second_place] = keepers.as_slice() else {
+        return Ok(false);
+    };
+    let (Some(first), Some(second)) = (first_place.get(), second_place.get()) else {
         return Ok(false);
     };
     let (Some(other), Some(file)) = (files.pop(), files.pop()) else {

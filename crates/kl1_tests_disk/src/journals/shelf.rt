@@ -6,7 +6,7 @@ ghost use Rattle.kl1_host_journals.specs.FreshHistories.{books_of};
 use crate::journals::growing::{Growing, NewAccount};
 use crate::sums::{file_of, text_in};
 use kl1_host_journals::{
-    FaultTeller, Keeper, KeptFile, LinkFault, Linked, Naming, Scribe, link, open_file,
+    FaultTeller, Keeper, KeeperPlace, KeptFile, LinkFault, Linked, Naming, Scribe, link, open_file,
 };
 use kl1_journal_entries::Journal;
 use kl1_log::{LogError, Memory};
@@ -78,15 +78,11 @@ pub(crate) fn linked<J: Naming>(
     let Ok(opened) = open_file(alloc, disk, Rules::Four, false) else {
         return Ok(None);
     };
-    match link(
-        alloc,
-        opened.into_file(),
-        account,
-        growing.journal(),
-        0,
-        fresh,
-        &stamp,
-    ) {
+    let mut opened = opened;
+    let Some(file) = opened.take_file() else {
+        return Ok(None);
+    };
+    match link(alloc, file, account, growing.journal(), 0, fresh, &stamp) {
         Ok(linked) => Ok(Some((linked, growing))),
         Err(LinkFault::Memory) => Err(AllocError),
         Err(_) => Ok(None),
@@ -97,7 +93,7 @@ pub(crate) fn linked<J: Naming>(
 #[derive(Drop)]
 pub(crate) struct Shelf<J: Naming> {
     pub(crate) files: Vec<KeptFile<Memory, J>>,
-    pub(crate) keepers: Vec<Keeper<J>>,
+    pub(crate) keepers: Vec<KeeperPlace<J>>,
     pub(crate) journals: Vec<Growing<J>>,
 }
 
@@ -112,8 +108,9 @@ impl<J: Naming> Shelf<J> {
     }
 
     /// Puts a fresh account after the others, whose file does `left` calls and bytes; whether they were enough for its start.
-    pub(crate) fn add(
+    pub(crate) fn add<R: Wait>(
         &mut self,
+        rt: &R,
         alloc: Global,
         account: u32,
         left: usize,
@@ -133,20 +130,27 @@ impl<J: Naming> Shelf<J> {
             written,
         } = linked;
         self.files.push(file)?;
-        self.keepers.push(Keeper::new(notebook, written))?;
+        let place = KeeperPlace::new();
+        place.put(rt, Keeper::new(notebook, written));
+        self.keepers.push(place)?;
         self.journals.push(journal)?;
         Ok(true)
     }
 }
 
+/// The keeper of the first account.
+pub(crate) fn first_keeper<J: Naming>(keepers: &[KeeperPlace<J>]) -> Option<&Keeper<J>> {
+    keepers.first()?.get()
+}
+
 /// The scribe of a shelf that has one account.
 pub(crate) fn only_scribe<J: Naming>(
-    keepers: &[Keeper<J>],
+    keepers: &[KeeperPlace<J>],
     files: Vec<KeptFile<Memory, J>>,
 ) -> Option<Scribe<'_, Memory, J>> {
     let mut files = files;
     let file = files.pop()?;
-    let keeper = keepers.first()?;
+    let keeper = first_keeper(keepers)?;
     Some(Scribe::new(0, keeper, file))
 }
 

@@ -4,9 +4,9 @@ ghost use Rattle.std.specs.Prelude.{◌≡◌, Some, slice_get};
 ghost use Rattle.kl1_host_journals.specs.FreshHistories.{books_of};
 
 use crate::journals::growing::{Change, Growing, NewAccount};
-use crate::journals::shelf::{ENOUGH, Faults, Shelf, on_disk, only_scribe, write};
+use crate::journals::shelf::{ENOUGH, Faults, Shelf, first_keeper, on_disk, only_scribe, write};
 use kl1_host_journals::{
-    Connecting, FreshConnection, Keeper, Naming, Outgoing, Scribe, SyncedWriter,
+    Connecting, FreshConnection, Keeper, KeeperPlace, Naming, Outgoing, Scribe, SyncedWriter,
 };
 use kl1_log::Memory;
 use std::alloc::{AllocError, Global};
@@ -80,7 +80,7 @@ fn waits_for_its_lines<R: Wait, J: Naming>(
     requires history { slice_get J.histories 0 ≡ Some start.shown.history }
 {
     let mut shelf = Shelf::<J>::new(alloc);
-    if !shelf.add(alloc, 0, ENOUGH, start)? {
+    if !shelf.add(rt, alloc, 0, ENOUGH, start)? {
         return Ok(false);
     }
     let Shelf {
@@ -95,7 +95,7 @@ fn waits_for_its_lines<R: Wait, J: Naming>(
     let Some(mut scribe) = only_scribe(keepers.as_slice(), files) else {
         return Ok(false);
     };
-    let Some(keeper) = keepers.as_slice().first() else {
+    let Some(keeper) = first_keeper(keepers.as_slice()) else {
         return Ok(false);
     };
     let reading_waits = first_waits::<R, J, Brand>(
@@ -138,7 +138,7 @@ fn begins_anew<R: Wait, J: Naming>(
     requires history { slice_get J.histories 0 ≡ Some start.shown.history }
 {
     let mut shelf = Shelf::<J>::new(alloc);
-    if !shelf.add(alloc, 0, ENOUGH, start)? {
+    if !shelf.add(rt, alloc, 0, ENOUGH, start)? {
         return Ok(false);
     }
     let Shelf {
@@ -153,7 +153,7 @@ fn begins_anew<R: Wait, J: Naming>(
     let Some(mut scribe) = only_scribe(keepers.as_slice(), files) else {
         return Ok(false);
     };
-    let Some(keeper) = keepers.as_slice().first() else {
+    let Some(keeper) = first_keeper(keepers.as_slice()) else {
         return Ok(false);
     };
     let waits = waits_for_all::<R, J, Brand>(
@@ -187,7 +187,7 @@ pub(crate) fn reset_begins_the_file_anew<R: Wait>(
 fn write_reply<R: Wait, J: Naming, C: Connecting>(
     rt: &R,
     alloc: Global,
-    keepers: &[Keeper<J>],
+    keepers: &[KeeperPlace<J>],
     journal: Growing<J>,
     connection: FreshConnection,
 ) -> bool
@@ -197,13 +197,16 @@ fn write_reply<R: Wait, J: Naming, C: Connecting>(
     let mut out = Vec::new(alloc);
     let mut is_written = false;
     let mut journal = journal;
-    if let (Some(keeper), Ok(())) = (keepers.first(), journal.changed(alloc, &[Change::Run(3)])) {
+    if let (Some(keeper), Ok(())) = (
+        first_keeper(keepers),
+        journal.changed(alloc, &[Change::Run(3)]),
+    ) {
         let leave = outgoing.replace(Outgoing::Lost);
         outgoing.set(journal.note(rt, keeper, leave));
         let mut writer = SyncedWriter::new(&mut out, rt, keepers, &outgoing);
         is_written = writer.write_all(b"+ ran 3\n").is_ok();
     }
-    if let Some(keeper) = keepers.first() {
+    if let Some(keeper) = first_keeper(keepers) {
         keeper.bell().end(rt);
     }
     is_written && out.as_slice() == b"+ ran 3\n".as_slice()
@@ -213,7 +216,7 @@ fn write_reply<R: Wait, J: Naming, C: Connecting>(
 fn reply_is_written<R: Wait, J: Naming>(
     rt: &R,
     alloc: Global,
-    keepers: &[Keeper<J>],
+    keepers: &[KeeperPlace<J>],
     journal: Growing<J>,
 ) -> bool {
     write_reply::<R, J, Brand>(rt, alloc, keepers, journal, FreshConnection::new())
@@ -229,7 +232,7 @@ fn waits_for_the_scribe<R: Threads + Wait + Clock + Sync, J: Naming + Send + Syn
     requires history { slice_get J.histories 0 ≡ Some start.shown.history }
 {
     let mut shelf = Shelf::<J>::new(alloc);
-    if !shelf.add(alloc, 0, ENOUGH, start)? {
+    if !shelf.add(rt, alloc, 0, ENOUGH, start)? {
         return Ok(false);
     }
     let Shelf {

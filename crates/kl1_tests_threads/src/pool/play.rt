@@ -63,7 +63,7 @@ fn answered_again<'t, R: Wait, K: PoolIds>(
     }
 }
 
-/// Puts what an account answers to a request.
+/// Puts what an account answers to a request, as a session does.
 pub fn put_answer<'t, R: Wait, K: PoolIds>(
     rt: &R,
     pool: &Pool<'t, R, K>,
@@ -79,7 +79,8 @@ pub fn put_answer<'t, R: Wait, K: PoolIds>(
                     let put = put_reply(&mut out.bytes, &reply);
                     out.note(put);
                 }
-                Performed::Short { .. } | Performed::Memory => out.fail(),
+                Performed::Memory => out.put(b"- 10 memory\n"),
+                Performed::Short { .. } => out.fail(),
             }
         }
         _ => out.fail(),
@@ -136,8 +137,8 @@ fn account_of(name: &[u8]) -> usize {
 }
 
 /// Does what a record asks for. Beside commands, `rest` waits until the account is quiet, `turns N` until N turns have ended, and
-/// `replay` puts how the replay of its journal ends, `look` puts its journal as it is looked at, `restore NAME COUNT` does the entries of
-/// another account's journal to it, but for the first COUNT of them, 0 if it isn't given, `memory` puts whether it takes more bytes than it may, and `grow` waits until it does.
+/// `replay` puts how the replay of its journal ends, `look` puts its journal as it is looked at, `restore NAME COUNT` lets it come
+/// with another account's journal, but for the first COUNT of its entries, 0 if it isn't given, `memory` puts whether it takes more bytes than it may, and `grow` waits until it does.
 fn play_record<'t, R: Wait, K: PoolIds>(
     rt: &R,
     pool: &Pool<'t, R, K>,

@@ -6,7 +6,10 @@ use crate::report::Text;
 use crate::rows::cut;
 use kl1_journal_entries::Journal;
 use kl1_journal_stamps::Stamp;
-use kl1_pool::{Command, JournalReader, Performed, Pool, PoolIds, RestoreEnd, Restored, Share};
+use kl1_pool::{
+    AccountName, Command, JournalReader, Meter, Newcomer, Performed, Pool, PoolIds, RestoreEnd,
+    Restored, Share,
+};
 use std::sync::Wait;
 use std::thread;
 
@@ -96,7 +99,40 @@ fn without_first(journal: &Text, count: u64) -> Text {
     left
 }
 
-/// Does the entries of the journal of account `from`, but for its first `left_out`, to another account, and puts how many were done whole,
+/// A journal from which an account is restored.
+#[derive(Drop)]
+struct Comer {
+    journal: Journal,
+}
+
+impl JournalReader for Comer {
+    ghost takes = { λ _ _. Unit {0} };
+
+    ghost reads = { λ _ _ _ _. Unit {0} };
+
+    fn read(&mut self, _journal: &Journal, _ended: u64, _stamp: &Stamp) {}
+}
+
+impl Meter for Comer {
+    fn goes_on(&self, _events: u64) -> bool {
+        true
+    }
+}
+
+impl Newcomer for Comer {
+    ghost brings = { λ c. c.journal };
+
+    fn journal(&self) -> &Journal {
+        &self.journal
+    }
+}
+
+/// The name of an account: `a`, `b` and so on.
+fn name_of(account: usize) -> Option<AccountName> {
+    AccountName::read(&[b'a'.saturating_add(account.min(15) as u8)])
+}
+
+/// Lets another account come with the journal of account `from`, but for its first `left_out` entries, and puts how many were done whole,
 /// how many first steps of the next one, and why no more were.
 pub fn put_restored<'t, R: Wait, K: PoolIds>(
     rt: &R,
@@ -109,10 +145,15 @@ pub fn put_restored<'t, R: Wait, K: PoolIds>(
 ) {
     let copy = seen(rt, pool, from, out);
     let text = without_first(&copy.text, left_out);
+    let Some(name) = name_of(account) else {
+        out.fail();
+        return;
+    };
     match Journal::read(out.alloc, text.bytes.as_slice()) {
         _ if text.has_failed => out.fail(),
         Ok(Some(journal)) if account < pool.accounts() => {
-            let restored = pool.restore(rt, out.alloc, account, &journal, share);
+            let mut comer = Comer { journal };
+            let restored = pool.admit(rt, out.alloc, account, name, &mut comer, share);
             put_end(out, restored);
         }
         _ => out.fail(),

@@ -6,7 +6,7 @@ use crate::gate::{Counter, Held};
 use crate::measures::small;
 use crate::pool::job::Job;
 use crate::pool::play::play;
-use crate::pool::setup::{BY_THREE, Setup, by_four};
+use crate::pool::setup::{BY_THREE, FIRST_BY_FOUR, Setup, by_four};
 use crate::pool::tried::tried;
 use crate::report::Text;
 use crate::rows::{cut, number_of, put_decoded};
@@ -101,6 +101,7 @@ fn how(text: &[u8]) -> (usize, Held, bool, Setup)
                 b"cut" => (workers, Held::After(8), false, BY_THREE),
                 b"some" => (workers, Held::None, false, BY_THREE),
                 b"four" => (workers, Held::None, true, by_four(u64::MAX)),
+                b"comes" => (workers, Held::None, true, FIRST_BY_FOUR),
                 letters if letters.starts_with(b"bytes ") => {
                     let (_, bytes) = cut(letters, b' ');
                     (workers, Held::None, false, by_four(number_of(bytes)))

@@ -72,7 +72,7 @@ fn names_of(alloc: Global, count: usize) -> Result<Vec<AccountName>, AllocError>
     Ok(names)
 }
 
-/// What accounts `a`, `b` and so on and threads come to when a job is done in a new pool.
+/// What accounts `a`, `b` and so on and threads come to when a job is done in a new pool. Accounts beyond `setup.named` are still to come.
 pub fn tried<J: Job + Sync, R: Threads + Wait + Clock + Sync>(
     rt: &R,
     accounts: usize,
@@ -85,7 +85,7 @@ pub fn tried<J: Job + Sync, R: Threads + Wait + Clock + Sync>(
     requires few { accounts ≤ 16 }
 {
     let alloc = out.alloc;
-    let names = names_of(alloc, accounts)?;
+    let names = names_of(alloc, accounts.min(setup.named))?;
     let (table, seats) = AtomTable::new(alloc, accounts)?;
     let codes = CodeTable::new(alloc)?;
     let parts = PoolParts::new(

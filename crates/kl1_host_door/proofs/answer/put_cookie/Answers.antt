@@ -1,4 +1,4 @@
-use Rattle.std.proofs.Common.{◌++◌, codes, ap, ◌∙◌}
+use Rattle.std.proofs.Common.{◌++◌, ap, ◌∙◌}
 use Rattle.kl1_host_door.specs.Answers.{cookie_front, cookie_end}
 use Rattle.kl1_host_door.proofs.Texts.{part}
 use Rattle.kl1_host_door.proofs.answer.put_cookie.Goals as goal

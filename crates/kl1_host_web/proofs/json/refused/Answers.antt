@@ -10,4 +10,4 @@ pub returns : goal.returns
 unfolding serde_json_on_literals
 returns c =
     let built : view c.in_ok-value.value ≡ object (member (codes "error") (string c.words_of.result.now) no_members) = search (rules, the_lemmas) in
-    refusal_is c.args.refusal c.words_of.result.now c.status_of.result c.in_ok-value.value c.told_value.result built c.words_of.ensures c.status_of.ensures c.told_value.ensures.head c.told_value.ensures.text
+    refusal_is c.args.refusal c.words_of.result.now c.status_of.result c.in_ok-value.value c.told_value.result built c.words_of.ensures c.status_of.ensures c.told_value.ensures.head c.told_value.ensures.content c.told_value.ensures.text

@@ -12,4 +12,4 @@ pub returns : goal.returns
 unfolding serde_json_on_literals
 returns c =
     let built : view c.in_ok-value.value ≡ object (member (codes "reply") (lines_data (told c.args.performed.now)) no_members) = search (rules, the_lemmas) in
-    reply_is c.args.performed.now c.args.cookie c.in_ok-value.value c.told_value.result built c.told_value.ensures.head c.told_value.ensures.text
+    reply_is c.args.performed.now c.args.cookie c.in_ok-value.value c.told_value.result built c.told_value.ensures.head c.told_value.ensures.content c.told_value.ensures.text

@@ -14,4 +14,4 @@ returns c =
     let built : view c.in_ok-value.value ≡ object (member (codes "reasons") (view c.in_ok-reasons.reasons) (member (codes "reply") (view c.in_ok-reply.reply) no_members)) = c.in_ok-value.ensures in
     let both : object (member (codes "reasons") (view c.in_ok-reasons.reasons) (member (codes "reply") (view c.in_ok-reply.reply) no_members)) ≡ object (member (codes "reasons") (array reasons) (member (codes "reply") (lines_data (told c.args.performed.now)) no_members)) =
     ap₂ (λ r l. object (member (codes "reasons") r (member (codes "reply") l no_members))) c.in_ok-reasons.ensures.1 c.in_ok-reply.ensures in
-    load_is c.args.performed.now c.in_ok-value.value reasons c.told_value.result (built ∙ both) c.in_ok-reasons.ensures.2 c.told_value.ensures.head c.told_value.ensures.text
+    load_is c.args.performed.now c.in_ok-value.value reasons c.told_value.result (built ∙ both) c.in_ok-reasons.ensures.2 c.told_value.ensures.head c.told_value.ensures.content c.told_value.ensures.text

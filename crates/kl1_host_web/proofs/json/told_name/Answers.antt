@@ -12,4 +12,4 @@ unfolding serde_json_on_literals
 returns g c =
     let name = (g.A.Accounts.house c.args.accounts.now).names c.args.account in
     let built : view c.in_ok-value.value ≡ object (member (codes "name") (string (shown name)) no_members) = search (rules, the_lemmas) in
-    named_is name c.in_ok-value.value c.told_value.result built c.told_value.ensures.head c.told_value.ensures.text
+    named_is name c.in_ok-value.value c.told_value.result built c.told_value.ensures.head c.told_value.ensures.content c.told_value.ensures.text

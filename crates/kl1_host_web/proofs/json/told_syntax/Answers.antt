@@ -10,4 +10,4 @@ pub returns : goal.returns
 unfolding serde_json_on_literals
 returns c =
     let built : view c.in_ok-value.value ≡ object (member (codes "reply") (array (item (string (codes "- 1 syntax")) no_items)) no_members) = search (rules, the_lemmas) in
-    syntax_is c.in_ok-value.value c.told_value.result built c.told_value.ensures.head c.told_value.ensures.text
+    syntax_is c.in_ok-value.value c.told_value.result built c.told_value.ensures.head c.told_value.ensures.content c.told_value.ensures.text

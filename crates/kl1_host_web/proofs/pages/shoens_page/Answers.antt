@@ -17,4 +17,4 @@ returns g c =
     let next : view c.in_ok-next.next ≡ number_data (slice_get views SHOENS_A_PAGE) = c.in_ok-next.ensures ∙ ap (λ l. number_data (slice_get l SHOENS_A_PAGE)) c.as_slice.ensures.value in
     let both : object (member (codes "next") (view c.in_ok-next.next) (member (codes "shoens") (view c.in_ok-shoens.shoens) no_members)) ≡ object (member (codes "next") (number_data (slice_get views SHOENS_A_PAGE)) (member (codes "shoens") (array shoens) no_members)) =
     ap₂ (λ n s. object (member (codes "next") n (member (codes "shoens") s no_members))) next c.in_ok-shoens.ensures.1 in
-    shoens_are (V.lists (V.account c.args.viewer.now)) c.args.from views shoens c.in_ok-value.value c.told_value.result c.in_ok-views.ensures (built ∙ both) c.in_ok-shoens.ensures.2 c.told_value.ensures.head c.told_value.ensures.text
+    shoens_are (V.lists (V.account c.args.viewer.now)) c.args.from views shoens c.in_ok-value.value c.told_value.result c.in_ok-views.ensures (built ∙ both) c.in_ok-shoens.ensures.2 c.told_value.ensures.head c.told_value.ensures.content c.told_value.ensures.text

@@ -56,6 +56,19 @@ returns-then-done-clause-restored g c = λ f fits.
     let r : Restored = record { entries = n; steps = 0; end = ending.Full } in
     restored_at (g.H.Host.kept f c.args.host.now).state es (e ∷ rest) r mid mid left (inv.done f fits) refl (none_of mid e).1
 
+-- before an entry at which the meter ends it
+pub returns-then-not-goes_on-clause-restored : goal.returns-then-not-goes_on-clause-restored
+returns-then-not-goes_on-clause-restored g c = λ f fits.
+    let es = c.args.journal.now.journal.entries in
+    let rest = c.next.new.self in
+    let n = c.loop-entry.done in
+    let e = entry_shown c.in-Some.entry in
+    let mid = (g.H.Host.kept f c.loop-entry.host).state in
+    let inv = c.loop-entry.invariant in
+    let left : AreLeft es (e ∷ rest) n = subst (λ xs. AreLeft es xs n) c.in-Some.ensures.some inv.left in
+    let r : Restored = record { entries = n; steps = 0; end = ending.Memory } in
+    restored_at (g.H.Host.kept f c.args.host.now).state es (e ∷ rest) r mid mid left (inv.done f fits) refl (none_of mid e).1
+
 pub returns-in-Stopped-clause-restored : goal.returns-in-Stopped-clause-restored
 returns-in-Stopped-clause-restored g c = λ f fits.
     let es = c.args.journal.now.journal.entries in

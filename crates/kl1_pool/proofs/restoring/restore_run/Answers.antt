@@ -17,16 +17,16 @@ returns-then-not-has_room-clause-counted g c = λ f fits. g.met.H.Host.none_coun
 
 pub returns-clause-does : goal.returns-clause-does
 returns-clause-does g c = λ f fits.
-    let h = c.run_steps-run.ensures in
-    let run = c.run_steps-run.result in
+    let h = c.metered_steps-run.ensures in
+    let run = c.metered_steps-run.result in
     let old = c.args.host.now in
-    run_done (g.H.Host.kept f old) (g.H.Host.kept f c.run_steps-run.new.host) c.args.reductions run.done run.last c.result_of_run.result (sym (c.has_runs.ensures f (h.before f fits)) ∙ c.if-not-has_runs.false) h.few (h.goes f fits) (h.last f fits) c.result_of_run.ensures
+    run_done (g.H.Host.kept f old) (g.H.Host.kept f c.metered_steps-run.new.host) c.args.reductions run.done run.last c.result_of_run.result (sym (c.has_runs.ensures f (h.before f fits)) ∙ c.if-not-has_runs.false) h.few (h.goes f fits) (h.last f fits) c.result_of_run.ensures
 
 pub returns-clause-counted : goal.returns-clause-counted
 returns-clause-counted g c = λ f fits.
-    let h = c.run_steps-run.ensures in
-    let run = c.run_steps-run.result in
+    let h = c.metered_steps-run.ensures in
+    let run = c.metered_steps-run.result in
     let old = c.args.host.now in
-    subst (λ t. g.H.Host.counted old t c.run_steps-run.new.host)
-    (run_told (g.H.Host.kept f old) (g.H.Host.kept f c.run_steps-run.new.host) c.args.reductions run.done run.last c.result_of_run.result (h.last f fits) c.result_of_run.ensures)
+    subst (λ t. g.H.Host.counted old t c.metered_steps-run.new.host)
+    (run_told (g.H.Host.kept f old) (g.H.Host.kept f c.metered_steps-run.new.host) c.args.reductions run.done run.last c.result_of_run.result (h.last f fits) c.result_of_run.ensures)
     h.counted

@@ -35,16 +35,13 @@ returns-in_err-outcome-clause-answers g c =
     (performs (g.M.Machine.tells c.args.self.now.machine.now) (g.M.Machine.gives c.args.self.now.machine.now) house c.args.allowed.now c.args.head.now.target.items c.args.body.now c.in_ok-wish.wish (asked c.args.accounts.now) (asked c.grant.new.accounts) (asked c.grant.new.accounts) (Err c.in_err-outcome.field-0.0) c.from_residual-in_err-outcome.result c.in_ok-wish.ensures (rw c.as_slice.ensures.value at c.in_err-outcome.ensures.grants) (refl, c.from_residual-in_err-outcome.ensures.0))
 
 pub settle-requires : goal.settle-requires
-settle-requires g c = record {
-  keys = ap (λ (h : House). h.opens) c.grant.ensures.house ∙ c.requires;
-  opened = subst (λ (h : House). IsOpenedIn h c.in_ok-outcome.outcome) (sym c.grant.ensures.house) c.in_ok-outcome.ensures.within;
-}
+settle-requires g c = subst (λ (h : House). IsOpenedIn h.accounts c.in_ok-outcome.outcome) (sym c.grant.ensures.house) c.in_ok-outcome.ensures.within
 
 pub returns-clause-answers : goal.returns-clause-answers
 returns-clause-answers g c =
     let house : House = g.A.Accounts.house c.args.accounts.now in
     let asked = g.A.Accounts.asked in
     let is = ap (λ n. is_within n c.args.allowed.now) (sym c.count.ensures) ∙ sym c.is_within.ensures ∙ c.if-not-is_within.false in
-    let E : House → Type 0 = λ h. Ends (g.M.Machine.tells c.args.self.now.machine.now) (g.M.Machine.gives c.args.self.now.machine.now) h.names c.args.allowed.now (Ok c.in_ok-outcome.outcome) (asked c.grant.new.accounts) (asked c.settle.new.accounts) c.settle.result in
+    let E : House → Type 0 = λ h. Ends (g.M.Machine.tells c.args.self.now.machine.now) (g.M.Machine.gives c.args.self.now.machine.now) h c.args.allowed.now (Ok c.in_ok-outcome.outcome) (asked c.grant.new.accounts) (asked c.settle.new.accounts) c.settle.result in
     within (g.M.Machine.tells c.args.self.now.machine.now) (g.M.Machine.gives c.args.self.now.machine.now) house c.args.allowed.now c.args.head.now.target.items c.args.body.now (asked c.args.accounts.now) (asked c.settle.new.accounts) c.settle.result (is_within house.accounts c.args.allowed.now) is
     (performs (g.M.Machine.tells c.args.self.now.machine.now) (g.M.Machine.gives c.args.self.now.machine.now) house c.args.allowed.now c.args.head.now.target.items c.args.body.now c.in_ok-wish.wish (asked c.args.accounts.now) (asked c.grant.new.accounts) (asked c.settle.new.accounts) (Ok c.in_ok-outcome.outcome) c.settle.result c.in_ok-wish.ensures (rw c.as_slice.ensures.value at c.in_ok-outcome.ensures.grants) (subst E c.grant.ensures.house c.settle.ensures.ends))

@@ -9,5 +9,4 @@ invariant_of-result c = (
   search rules,
   search rules,
   search rules,
-  search rules,
 )

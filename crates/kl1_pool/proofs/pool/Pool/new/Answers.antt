@@ -5,16 +5,10 @@ use Rattle.kl1_pool.specs.Parts.{PoolPartsValue}
 use Rattle.kl1_pool.proofs.Naming.{all_at}
 use Rattle.kl1_pool.proofs.pool.Pool.new.Goals as goal
 
-pub places_of-requires-clause-names : goal.places_of-requires-clause-names
-places_of-requires-clause-names g c =
-    all_at g.K.TicketIds.tally g.K.PoolIds.names c.parts.inside.accounts.items g.K.TicketIds.accounts c.in_ok-common.field-0.books.items c.in_ok-common.ensures.books
-    (sym c.parts.inside.accounts.ok.0 ∙ c.parts.invariant.1 ∙ ap (λ (p : PoolPartsValue). p.accounts) c.parts.view_is ∙ c.requires.tickets.2)
-    (ap (λ (p : PoolPartsValue). p.names) c.parts.view_is ∙ c.requires.names.1)
-
 pub places_of-requires-clause-shown : goal.places_of-requires-clause-shown
 places_of-requires-clause-shown g c = (
   all_at g.K.TicketIds.tally g.K.ShownIds.histories (histories_of c.parts.inside.shown.items) g.K.TicketIds.accounts c.in_ok-common.field-0.books.items c.in_ok-common.ensures.books
-      (length-map c.parts.inside.shown.items (λ (h : ShownValue). h.history) ∙ sym c.parts.inside.shown.ok.0 ∙ c.parts.invariant.4 ∙ ap (λ (p : PoolPartsValue). p.accounts) c.parts.view_is ∙ c.requires.tickets.2)
+      (length-map c.parts.inside.shown.items (λ (h : ShownValue). h.history) ∙ sym c.parts.inside.shown.ok.0 ∙ c.parts.invariant.3 ∙ ap (λ (p : PoolPartsValue). p.accounts) c.parts.view_is ∙ c.requires.tickets.2)
       (ap (λ (p : PoolPartsValue). p.histories) c.parts.view_is ∙ c.requires.shown),
-  c.parts.invariant.5,
+  c.parts.invariant.4,
 )

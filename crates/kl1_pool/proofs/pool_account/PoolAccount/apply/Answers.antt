@@ -35,7 +35,7 @@ invariant_of-self-2 g c =
       within MOST_ACCOUNTS b c.count.new.book (events_by r) (steps_by r) c.count.ensures.book c.self.invariant.3,
       kept_counts p c.past_after-self-inside.result b c.count.new.book old.1 new.1 r c.self.invariant.4 counts.0 c.past_after-self-inside.ensures c.count.ensures.book,
       stays.0 ∙ c.self.invariant.5,
-      named_still g.K.PoolIds.names b c.count.new.book (events_by r) (steps_by r) old.0.own_name new.0.own_name c.count.ensures.book stays.1 c.self.invariant.6,
+      named_still g.K.Names.names b c.count.new.book (events_by r) (steps_by r) c.self.inside.name old.0.own_name new.0.own_name c.count.ensures.book stays.1 c.self.invariant.6,
       ap (λ (x : Book). slice_get g.K.ShownIds.histories x.account) c.count.ensures.book ∙ c.self.invariant.7,
       held_follows c.self.inside.shown.last p c.past_after-self-inside.result old new (event_of c.args.event.now) r c.shows_replay.ensures.kept c.shows_replay-2.ensures.names c.apply.ensures.before c.in_ok-reply.ensures.step
           (c.past_after-self-inside.ensures ∙ ended_is p old.1 b r c.self.invariant.4) c.self.invariant.8,

@@ -1,5 +1,5 @@
-use Rattle.std.proofs.Common.{◌≡◌, ℕ, sym, subst, ◌∙◌}
-use Rattle.std.specs.Prelude.{Some, slice_get}
+use Rattle.std.proofs.Common.{ℕ, sym, subst, ◌∙◌}
+use Rattle.kl1_pool.specs.Names.{called_at}
 use Rattle.std.proofs.lemmas.Bool.{eqb-true}
 use Rattle.kl1_pool.proofs.pool_account.PoolAccount.is_at.Goals as goal
 
@@ -12,5 +12,5 @@ returns g c = λ yes.
       kept = found.kept;
       names = found.names;
       keeps_to = found.rules;
-      called = subst (λ (k : ℕ). slice_get g.K.PoolIds.names k ≡ Some held.0.own_name) here found.name;
+      called = subst (λ (k : ℕ). called_at g.K.Names.names k held.0.own_name) here found.name;
     }

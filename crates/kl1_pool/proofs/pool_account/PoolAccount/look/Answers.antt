@@ -1,4 +1,4 @@
-use Rattle.std.proofs.Common.{◌≡◌, Some, sym, ap, ◌∙◌, subst}
+use Rattle.std.proofs.Common.{◌≡◌, Some, sym, ap, subst}
 use Rattle.std.specs.Prelude.{slice_get}
 use Rattle.kl1_model_server.specs.Journal.{Journal}
 use Rattle.kl1_journal_stamps.specs.Stamps.{HistoryId, ShownValue, ComesAfter, MayFollow}

@@ -27,7 +27,7 @@ invariant_of-self-2 g c =
       within MOST_ACCOUNTS b c.count_step.new.book (events_by r) (steps_by r) c.count_step.ensures.book c.self.invariant.3,
       kept_counts p p b c.count_step.new.book old.1 new.1 r c.self.invariant.4 counts.0 (sym (step_ended p b c.in_ok-refused.refused)) c.count_step.ensures.book,
       stays.0 ∙ c.self.invariant.5,
-      named_still g.K.PoolIds.names b c.count_step.new.book (events_by r) (steps_by r) old.0.own_name new.0.own_name c.count_step.ensures.book stays.1 c.self.invariant.6,
+      named_still g.K.Names.names b c.count_step.new.book (events_by r) (steps_by r) c.self.inside.name old.0.own_name new.0.own_name c.count_step.ensures.book stays.1 c.self.invariant.6,
       ap (λ (x : Book). slice_get g.K.ShownIds.histories x.account) c.count_step.ensures.book ∙ c.self.invariant.7,
       held_follows c.self.inside.shown.last p p old new (reduce_event c.args.goal.0 c.args.clause.0) r c.shows_replay.ensures.kept c.shows_replay-2.ensures.names c.reduce.ensures.before c.in_ok-refused.ensures.step
           (sym (step_past p old.1 c.in_ok-refused.refused)) c.self.invariant.8,

@@ -10,4 +10,4 @@ use Rattle.kl1_pool_history.proofs.history.History.refuse.Goals as goal
 pub invariant_of-self : goal.invariant_of-self
 invariant_of-self g c =
     let d : Done = record { account = c.of.result.value; command = command_view c.of-2.result.value; answer = Memory } in
-    answered_more g.K.PoolIds.rules g.K.PoolIds.names (map done_of c.self.inside.seen.log) (map done_of c.with_entry.result.log) d c.self.inside.begun.value c.self.inside.share c.self.inside.share c.self.invariant tt (counted_none c.of.result.value c.self.inside.share) c.with_entry.ensures
+    answered_more g.K.PoolIds.rules g.N.Names.names (map done_of c.self.inside.seen.log) (map done_of c.with_entry.result.log) d c.self.inside.begun.value c.self.inside.share c.self.inside.share c.self.invariant tt (counted_none c.of.result.value c.self.inside.share) c.with_entry.ensures
