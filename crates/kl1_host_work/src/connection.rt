@@ -18,7 +18,7 @@ use crate::view::View;
 use crate::visit::{Visit, VisitReader, WatchedDoor};
 use kl1_host_journals::{Connecting, FreshConnection, Naming, Outgoing, SyncedWriter};
 use kl1_lines::{FailureCounter, Sink, Source};
-use kl1_pool::{Names, Pool, PoolIds, Share};
+use kl1_pool::{Names, Pool, PoolIds, Rules, Share};
 use kl1_session::{Disconnect, Door};
 use std::alloc::Global;
 use std::cell::Cell;
@@ -61,7 +61,15 @@ where
         exchange: Exchange::new(share, host.syncing.replies_wait),
     };
     let mut buffer = [0u8; PIECE];
-    let served = kl1_session::serve(alloc, source, sink, &mut handler, door, &mut buffer);
+    let served = kl1_session::serve(
+        alloc,
+        Rules::Five,
+        source,
+        sink,
+        &mut handler,
+        door,
+        &mut buffer,
+    );
     let HostHandler { exchange, .. } = handler;
     let (share, notice) = exchange.into_parts();
     (served, share, notice)

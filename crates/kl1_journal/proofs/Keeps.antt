@@ -11,6 +11,7 @@ use Rattle.kl1_model_server.specs.laws.ReplayLaws.{IsReplayable}
 use Rattle.kl1_model_server.specs.laws.TextLaws as texts
 use Rattle.kl1_model_server.proofs.ReplayReplies.{fresh_is_replayable, replayable_stays}
 use Rattle.kl1_model_server.proofs.NewNames.{no_names}
+use Rattle.kl1_model_server.proofs.Replays.{rules_stay}
 use Rattle.kl1_model_server.proofs.WrittenStays.{step_named}
 use Rattle.kl1_atoms.specs.declared.known.Known.{Known}
 use Rattle.std.proofs.lemmas.Option.{none-some}
@@ -45,6 +46,12 @@ pub done_change : (f : Reading) (old new : Account) (j k : Journal) (e : model.E
 done_change f old new j k e reply c was is h k_is =
     done_by f old new j k e reply is
     (noted_is (state_of f old) (texts_of old.names) j e c new.run h refl was.is.rules was.is.sessions (sym (ap (λ (x : Transition). x.state.run) is)) ∙ ap (λ (x : Transition). if is_refused x.reply then j else changed j c new.run x.reply) is ∙ sym k_is)
+
+-- an account keeps to its rules
+pub rules_same : (old new : Account) (e : model.Event) (reply : model.Reply) → AreNames new.names → Does old e new reply → new.rules ≡ old.rules
+rules_same old new e reply names does =
+    let f = reading_of new.names in
+    sym (ap (λ (x : Transition). x.state.rules) (does f (reading_fits new.names names))) ∙ rules_stay (state_of f old) e
 
 -- an account is the replay of its journal after an event
 kept_by : (old new : Account) (j k : Journal) (e : model.Event) (reply : model.Reply) → IsReplayed (old, j) → AreNames new.names → Does old e new reply → ((f : Reading) → Fits new.names f → Fits old.names f) →

@@ -35,12 +35,16 @@ pub enum Entry<'a> {
     },
     /// First reductions, one after another: how many.
     Run(u64),
-    /// A goal, which is given as its print, as the answer to a report of a shoen, the first being 1.
+    /// A goal, which is given as its print, as the answer to a report of a shoen, the first being 1. `told` is whether it tells variables
+    /// of the account by their numbers.
     Answer {
         shoen: ShoenNo,
         report: u64,
         goal: &'a [u8],
+        told: bool,
     },
+    /// The first reports of a shoen let go, or the shoen itself if `count` is 0.
+    Forget { shoen: ShoenNo, count: u64 },
 }
 
 /// An entry that is kept whole.
@@ -74,10 +78,16 @@ pub(crate) fn shown_whole(whole: &LongEntry) -> Entry<'_>
             shoen,
             report,
             goal,
+            told,
         } => Entry::Answer {
             shoen: ShoenNo(*shoen),
             report: *report,
             goal: goal.as_slice(),
+            told: *told,
+        },
+        LongEntry::Forget { shoen, count } => Entry::Forget {
+            shoen: ShoenNo(*shoen),
+            count: *count,
         },
     }
 }

@@ -39,7 +39,7 @@ impl Drop for Journal {
 }
 
 impl Model for Journal {
-    ghost use Rattle.std.specs.Prelude.{map, min, ◌-◌, ◌^◌, vec_len, vec_capacity};
+    ghost use Rattle.std.specs.Prelude.{map, min, [], ◌-◌, ◌^◌, vec_len, vec_capacity};
     ghost use Rattle.kl1_journal_entries.specs.Lined.{Rows};
     ghost use Rattle.kl1_journal_entries.specs.Codes.{rows_code};
     ghost use Rattle.kl1_journal_entries.specs.Slots.{entry_at, IsHeld};
@@ -49,11 +49,11 @@ impl Model for Journal {
     ghost coded = { rows_code };
 
     ghost view = { λ j. record {
-      journal = record { rules = j.rules; sessions = j.sessions; names = j.names.items; entries = map (entry_at j.wholes.items) j.slots.items };
+      journal = record { rules = j.rules; sessions = j.sessions; names = j.names.items; image = []; entries = map (entry_at j.wholes.items) j.slots.items };
       room = min (min (vec_capacity j.slots - vec_len j.slots) (vec_capacity j.wholes - vec_len j.wholes)) (2 ^ 32 - vec_len j.wholes);
     } };
 
-    ghost invariant = { λ j. IsHeld j.sessions j.names.items j.slots.items j.wholes.items };
+    ghost invariant = { λ j. IsHeld j.rules j.sessions j.names.items j.slots.items j.wholes.items };
 }
 
 impl Journal {
@@ -77,7 +77,7 @@ impl Journal {
         names: &[AtomText],
         sessions: u64,
     ) -> Result<Self, AllocError>
-        requires names { AreNames names.now }
+        requires names { AreNames rules names.now }
         requires sessions { sessions ≤ MOST_SESSIONS }
         ensures { IfOk result (λ j. j.journal ≡ new_journal rules names.now sessions) }
     {
@@ -135,10 +135,11 @@ impl Journal {
 
     /// Puts what is prepared after the entries. It takes no memory.
     pub fn put(&mut self, prepared: PendingEntry)
-        requires { IfSome prepared (λ _. 0 < self.old.room) }
-        ensures { self.new.journal ≡ with_prepared self.old.journal prepared }
+        requires room { IfSome prepared.entry (λ _. 0 < self.old.room) }
+        requires rules { prepared.rules ≡ self.old.journal.rules }
+        ensures { self.new.journal ≡ with_prepared self.old.journal prepared.entry }
     {
-        let PendingEntry { form } = prepared;
+        let PendingEntry { rules: _, form } = prepared;
         match form {
             EntryForm::Nothing => {}
             EntryForm::Short(slot) => self.slots.push_reserved(slot),
@@ -158,7 +159,7 @@ impl Journal {
     {
         match (u32::try_from(goal), u32::try_from(clause)) {
             (Ok(goal), Ok(clause)) => self.slots.push_reserved(PackedEntry::Step { goal, clause }),
-            _ => self.put(step_for(goal, clause)),
+            _ => self.put(step_for(self.rules, goal, clause)),
         }
     }
 
@@ -203,8 +204,8 @@ impl Journal {
         self.sessions
     }
 
-    /// Tells a caller's proof that each journal has a text that reads back: at most 4 sessions are open, its names are at most 1,024
-    /// names, none built in and no two the same, and each entry has a line. It does nothing.
+    /// Tells a caller's proof that each journal has a text that reads back: at most 4 sessions are open, its names are no more than its
+    /// rules allow, none built in and no two the same, and each entry has a line. It does nothing.
     pub fn shows_written(&self)
         ensures { IsWritten self.now.journal }
     {

@@ -1,10 +1,10 @@
 -- How journals grow.
 use Rattle.std.proofs.Common.{◌≡◌, ℕ, zero, suc, ◌≤◌, Bool, true, false, if◌then◌else◌, List, [], ◌∷◌, ◌++◌, refl, sym, ap, ◌∙◌, subst, arith, inl, inr}
 use Rattle.kl1_model.specs.State.{State}
-use Rattle.kl1_model.specs.Event.{Event, load, start, control, reduce, read, login, logout, reset, answer, is_refused}
+use Rattle.kl1_model.specs.Event.{Event, load, start, control, reduce, read, login, logout, reset, answer, forget, is_refused}
 use Rattle.kl1_model.specs.Choice.{is_in_run}
 use Rattle.kl1_model.specs.Step.{step}
-use Rattle.kl1_model_server.specs.Journal.{Entry, loads, starts, sends, steps, answers, runs, Journal, without_last, entered, stepped, with_event}
+use Rattle.kl1_model_server.specs.Journal.{Entry, loads, starts, sends, steps, answers, forgets, runs, Journal, without_last, entered, stepped, with_event}
 use Rattle.kl1_model_server.specs.laws.HistoryLaws.{EndsInRun}
 use Rattle.kl1_model_server.proofs.RunsKept.{run_with, reduction_run, run_goes_on}
 use Rattle.kl1_journal_stamps.specs.Later.{Grows, GrowsBefore, AreLater, IsLater}
@@ -33,6 +33,7 @@ run_length (starts allowance low high t) = 0
 run_length (sends n m) = 0
 run_length (steps goal clause) = 0
 run_length (answers n report t) = 0
+run_length (forgets n count) = 0
 run_length (runs n) = n
 
 same_run : (m n : ℕ) → runs m ≡ runs n → m ≡ n
@@ -93,6 +94,7 @@ accepted_later j s login none a ends = record { rules = refl; names = refl; entr
 accepted_later j s logout none a ends = record { rules = refl; names = refl; entries = same_later j.entries }
 accepted_later j s reset none a ends = absurd (none refl)
 accepted_later j s (answer n report t) none a ends = entered_later j _
+accepted_later j s (forget n count) none a ends = entered_later j _
 
 later_by : (j : Journal) (s : State) (e : Event) (c : Bool) → (e ≡ reset → ⊥) → is_refused (step s e).reply ≡ c → EndsInRun j.entries s.run → IsLater j (if c then j else with_event j e (step s e).state)
 later_by j s e true none a ends = growth_begins j

@@ -1,7 +1,7 @@
 -- How a journal grows between two resets, and up to where it was put into its file.
 use Rattle.std.specs.Prelude.{◌≡◌, ℕ, ◌-◌, nat_lt, if◌then◌else◌, List, [], ◌∷◌, length, Option, Some, None}
 use Rattle.kl1_model_server.specs.Command.{written_line}
-use Rattle.kl1_model_server.specs.Journal.{Entry, loads, starts, sends, steps, answers, runs, Journal}
+use Rattle.kl1_model_server.specs.Journal.{Entry, loads, starts, sends, steps, answers, forgets, runs, Journal}
 use Rattle.kl1_model_server.specs.JournalText.{entry_line, journal_lines, entry_in}
 pub use Rattle.kl1_journal_stamps.specs.Later.{Grows, GrowsBefore, AreLater, IsLater}
 use Rattle.kl1_log.specs.declared.mark.Mark.{Mark}
@@ -13,6 +13,7 @@ run_length (starts allowance low high t) = 0
 run_length (sends n m) = 0
 run_length (steps goal clause) = 0
 run_length (answers n report t) = 0
+run_length (forgets n count) = 0
 run_length (runs n) = n
 
 -- how many reductions the last of entries has if it is a run, or else 0

@@ -42,7 +42,8 @@ fn put_run(out: &mut Vec<u8>, reductions: u64) -> Result<(), AllocError>
 fn run_of(alloc: Global, line: &[u8]) -> Result<u64, AllocError>
     ensures { IfOk result (λ n. n ≡ run_of_line line.now) }
 {
-    match entry_of(alloc, line)? {
+    // A run has the same line by all rules that have runs.
+    match entry_of(alloc, Rules::Four, line)? {
         Some(Deed::Run(reductions)) => Ok(reductions),
         _ => Ok(0),
     }
@@ -123,6 +124,7 @@ fn version(rules: Rules) -> &'static [u8]
         Rules::Two => b"2",
         Rules::Three => b"3",
         Rules::Four => b"4",
+        Rules::Five => b"5",
     }
 }
 

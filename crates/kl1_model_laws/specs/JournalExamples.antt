@@ -412,7 +412,7 @@ heading_without_a_feed_output = codes "fault 1" ++ 10 ∷ []
 
 -- the bytes of later_version.journal
 abbrev pub later_version_journal : List ℕ
-later_version_journal = codes "journal 5 0 0" ++ 10 ∷ []
+later_version_journal = codes "journal 6 0 0" ++ 10 ∷ []
 
 -- the bytes of later_version.expected
 abbrev pub later_version_output : List ℕ

@@ -7,7 +7,7 @@ ghost use Rattle.kl1_user_events.specs.Views.{event_of, reply_of};
 ghost use Rattle.kl1_journal_entries.specs.Found.{deed_in};
 ghost use Rattle.kl1_journal_entries.specs.Lined.{entry_of};
 ghost use Rattle.kl1_journal_entries.specs.Shown.{entry_shown};
-ghost use Rattle.kl1_journal_entries.specs.Slots.{goal_in};
+ghost use Rattle.kl1_journal_entries.specs.Slots.{goal_in, answer_in};
 ghost use Rattle.kl1_command.specs.Told.{Told, told_steps};
 ghost use Rattle.kl1_command.specs.Stepping.{IsEnd};
 ghost use Rattle.kl1_command.specs.Room.{HasRoomFor};
@@ -15,7 +15,7 @@ ghost use Rattle.kl1_pool.specs.Restoring.{Leads, IsEntryDone, IsRestored, resul
 
 use kl1_command::{FirstStep, Host, Steps, run_steps};
 use kl1_journal_entries::{Deed, Entry, Journal};
-use kl1_read::read_goal;
+use kl1_read::{read_goal, read_told_goal};
 use kl1_term::Term;
 use kl1_user_events::{Event, Reply};
 use std::alloc::{AllocError, Global};
@@ -81,6 +81,19 @@ fn goal_of(alloc: Global, print: &[u8]) -> Result<Term, AllocError>
     }
 }
 
+/// The goal of an answer whose print this is, which tells variables or doesn't.
+fn answer_of(alloc: Global, print: &[u8], told: bool) -> Result<Term, AllocError>
+    ensures { IfOk result (λ goal. goal ≡ answer_in told print.now) }
+{
+    if !told {
+        return goal_of(alloc, print);
+    }
+    match read_told_goal(alloc, print) {
+        Ok(goal) => Ok(goal),
+        Err(_) => Err(AllocError),
+    }
+}
+
 /// What an entry asks for.
 fn deed_for(alloc: Global, entry: Entry<'_>) -> Result<Deed, AllocError>
     ensures { IfOk result (λ deed. deed_in deed ≡ Some (entry_shown entry.entry)) }
@@ -111,14 +124,16 @@ fn deed_for(alloc: Global, entry: Entry<'_>) -> Result<Deed, AllocError>
             shoen,
             report,
             goal,
+            told,
         } => {
-            let goal = goal_of(alloc, goal)?;
+            let goal = answer_of(alloc, goal, told)?;
             Ok(Deed::Event(Event::Answer {
                 shoen,
                 report,
                 goal,
             }))
         }
+        Entry::Forget { shoen, count } => Ok(Deed::Event(Event::Forget { shoen, count })),
     }
 }
 

@@ -10,6 +10,7 @@ mod opening;
 mod page;
 mod print;
 mod printer;
+mod telling;
 mod term;
 mod variables;
 mod writable;

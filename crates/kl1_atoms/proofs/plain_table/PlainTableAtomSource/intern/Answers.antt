@@ -9,7 +9,7 @@ use Rattle.kl1_atoms.proofs.Rows.{seat_after, other_seat_after, held_publishes}
 use Rattle.kl1_atoms.proofs.plain_table.PlainTableAtomSource.intern.Goals as goal
 
 -- there is room for a text that isn't known
-some_room : (ks : List Known) (t : List ℕ) → built_in_of t ≡ None → number_in ks t ≡ None → HasRoom ks t → length ks < MOST_NAMES
+some_room : (ks : List Known) (t : List ℕ) → built_in_of t ≡ None → number_in ks t ≡ None → HasRoom MOST_NAMES ks t → length ks < MOST_NAMES
 some_room ks t own new room = elim room [ inl known ↦ absurd (false≢true (rw (own, new) at known)) | inr few ↦ few ]
 
 -- the text isn't built in

@@ -8,7 +8,7 @@ use Rattle.kl1_user_events.specs.Views.{event_of, reply_of}
 use Rattle.kl1_journal.specs.Changes.{IsChange, SessionsFit, changed}
 use Rattle.kl1_journal.specs.Keeping.{kept_of}
 use Rattle.kl1_user.specs.Readings.{reading_of, fits_before, grows_as}
-use Rattle.kl1_journal.proofs.Keeps.{done_change, kept_change, fits_change}
+use Rattle.kl1_journal.proofs.Keeps.{done_change, kept_change, fits_change, rules_same}
 use Rattle.kl1_journal.proofs.journaled_account.JournaledAccount.apply.Goals as goal
 
 pub note-requires-clause-sessions : goal.note-requires-clause-sessions
@@ -57,3 +57,8 @@ returns-clause-step g c = λ f fits.
 pub returns-clause-before : goal.returns-clause-before
 returns-clause-before g c = λ f fits.
     fits_before c.args.self.now.1.0.names c.apply.new.self.names f (grows_as (g.A.AtomSource.knows c.self.inside.seat) (g.A.AtomSource.knows c.apply.new.seat) c.args.self.now.1.0.names c.apply.new.self.names (c.self.invariant.0 ∙ ap (λ x. x.1.0.names) c.self.view_is) c.apply.ensures.knows c.apply.ensures.keeps.grows) fits
+
+pub returns-clause-rules : goal.returns-clause-rules
+returns-clause-rules g c =
+    let names = subst AreNames c.apply.ensures.knows (g.met.A.AtomSource.one_to_one c.apply.new.names c.apply.new.seat c.apply.ensures.keeps.of) in
+    rules_same c.self.inside.user c.apply.new.self (event_of c.args.event.now) (reply_of c.in_ok-reply.reply) names c.in_ok-reply.ensures.step ∙ ap (λ x. x.1.0.rules) c.self.view_is

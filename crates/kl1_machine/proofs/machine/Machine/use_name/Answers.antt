@@ -1,4 +1,4 @@
-use Rattle.kl1_machine.proofs.Words.{List, ℕ, Option, Machine, false, true, refl, sym, ap, ◌∙◌, Some, option_map, CellName, Variable, Atom, Raises, Unifies, Names, Does, Failure, Exhaustion}
+use Rattle.kl1_machine.proofs.Words.{List, ℕ, Option, Machine, most_names, false, true, refl, sym, ap, ◌∙◌, Some, option_map, CellName, Variable, Atom, Raises, Unifies, Names, Does, Failure, Exhaustion}
 use Rattle.kl1_machine.specs.declared.machine.naming.Named.TheVariants.{Becomes}
 use Rattle.kl1_machine.proofs.Sincing.{named_machine}
 use Rattle.kl1_machine.proofs.Naming.{Walks, used_as, unnamed, full_stands, known_stands, new_stands, variable_can}
@@ -8,7 +8,7 @@ pub returns-in_default-clause-ok : goal.returns-in_default-clause-ok
 returns-in_default-clause-ok c p places =
     let m = c.args.self.now in
     record {
-      is = ap (λ (o : Option (List ℕ)). let z : Machine = record m { name = o } in z) (c.requires.none ∙ sym (unnamed c.args.made m.names.names c.args.trial.now.text c.in_default.not-Names));
+      is = ap (λ (o : Option (List ℕ)). let z : Machine = record m { name = o } in z) (c.requires.none ∙ sym (unnamed (most_names m) c.args.made m.names.names c.args.trial.now.text c.in_default.not-Names));
       machine = c.requires.machine;
       nameless = c.in_default.not-Names;
       inside = λ j. j;
@@ -47,7 +47,7 @@ returns-in-Variable-clause-ok c =
     (record {
       target = c.in-Names.target;
       uses = refl;
-      can = variable_can h m.names.names text c.in-Names.target c.in-Variable.variable to (rw (c.of-text.ensures, c.as_slice.ensures) (c.requires.inside c.in-Names.target c.in-Names.is).0)
+      can = variable_can (most_names m) h m.names.names text c.in-Names.target c.in-Variable.variable to (rw (c.of-text.ensures, c.as_slice.ensures) (c.requires.inside c.in-Names.target c.in-Names.is).0)
           (sym c.number_of.ensures ∙ ap (option_map (λ (a : CellName). a.number)) c.in_default-number_of.is) (sym c.has_room.ensures ∙ c.if-not-has_room.false);
       is = refl;
       machine = (named_machine m text c.requires.machine).machine;

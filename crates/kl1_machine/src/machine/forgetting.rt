@@ -1,0 +1,90 @@
+// Reports and shoens that the console lets go.
+
+ghost use Rattle.std.specs.Prelude.{◌≡◌, map, OnOk};
+ghost use Rattle.kl1_store.specs.Held.{IsIn};
+ghost use Rattle.kl1_shoen.specs.Shoens.{emptied_below};
+ghost use Rattle.kl1_machine.specs.declared.machine.Machine.{Machine};
+ghost use Rattle.kl1_machine.specs.Machines.{IsMachine, IsBegun, Keeps};
+ghost use Rattle.kl1_machine.specs.Effects.{Becomes, having_shoens};
+ghost use Rattle.kl1_machine.specs.Since.{Since, StillSince};
+ghost use Rattle.kl1_machine.specs.Rested.{IsRested};
+ghost use Rattle.kl1_machine.specs.Forgetting.{none_left, Forgets, ForgetsReports, AreToldOf};
+
+use crate::machine::Machine;
+use kl1_codes::{CodeSource, CodedModules};
+use kl1_goals_moves::Trial;
+use kl1_model::BuiltIn;
+use kl1_store::Cell;
+use kl1_text::{CellName, NameValue};
+use std::alloc::AllocError;
+
+impl Machine {
+    /// Lets the first `count` reports go of shoen `number`, which the console started, so that this is left. An event has begun.
+    pub fn forget_reports<C: CodeSource>(
+        &mut self,
+        modules: &CodedModules<'_, C>,
+        trial: &mut Trial<CellName>,
+        number: u64,
+        count: u64,
+        left: Cell<CellName>,
+    ) -> Result<(), AllocError>
+        requires begun { IsBegun self.old }
+        requires rested { IsRested modules.now self.old }
+        requires left { IsIn self.old.store.held left }
+        ensures ok { OnOk result (ForgetsReports number count left self.old self.new) }
+        ensures rested { OnOk result (IsRested modules.now self.new) }
+        ensures keeps { Keeps self.old self.new }
+    {
+        // Only for the proof: the shoens are numbered in order.
+        let _numbered = self.shoens.len();
+        self.shoens.forget_reports(number, count, left)?;
+        self.reschedule_anew(modules, trial)
+    }
+
+    /// Tells the monitors of these shoens.
+    fn tell_monitors(&mut self, shoens: &[u64]) -> Result<(), AllocError>
+        requires machine { IsMachine self.old }
+        ensures rest { self.new ≡ record self.old { told = self.new.told } }
+        ensures told { OnOk result (AreToldOf shoens.now self.old self.new) }
+        ensures since { (b : Machine) → Since b self.old → StillSince result b self.new }
+    {
+        for shoen in shoens {
+            if let Some(monitor) = self.goals.monitor(*shoen) {
+                self.told.push(monitor)?;
+            }
+        }
+        Ok(())
+    }
+
+    /// Leaves the places alone of shoen `number` and of all below it that have ended.
+    fn empty_below(&mut self, number: u64) -> Result<(), AllocError>
+        requires machine { IsMachine self.old }
+        ensures ok { OnOk result (Becomes (record (having_shoens (map (emptied_below none_left self.old.shoens.shoens number) self.old.shoens.shoens) self.old) { told = self.new.told }) self.new) }
+        ensures since { (b : Machine) → Since b self.old → StillSince result b self.new }
+    {
+        // Only for the proof: the shoens are numbered in order.
+        let _numbered = self.shoens.len();
+        let mut below = Vec::new(*self.told.allocator());
+        self.shoens.below(number, &mut below)?;
+        self.tell_monitors(below.as_slice())?;
+        self.shoens
+            .forget(number, Cell::Atom(CellName::of(BuiltIn::EmptyList)))
+    }
+
+    /// Lets shoen `number` go, and all below it, that have ended. An event has begun.
+    pub fn forget<C: CodeSource>(
+        &mut self,
+        modules: &CodedModules<'_, C>,
+        trial: &mut Trial<CellName>,
+        number: u64,
+    ) -> Result<(), AllocError>
+        requires begun { IsBegun self.old }
+        requires rested { IsRested modules.now self.old }
+        ensures ok { OnOk result (Forgets number self.old self.new) }
+        ensures rested { OnOk result (IsRested modules.now self.new) }
+        ensures keeps { Keeps self.old self.new }
+    {
+        self.empty_below(number)?;
+        self.reschedule_anew(modules, trial)
+    }
+}

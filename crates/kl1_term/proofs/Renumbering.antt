@@ -1,0 +1,152 @@
+-- The variables of answers, by their places among those that were seen.
+use Rattle.std.proofs.Common.{◌≡◌, ℕ, suc, ◌==◌, ◌||◌, cond, Bool, true, false, List, [], ◌∷◌, ◌++◌, map, length, Option, Some, None, if◌then◌else◌, refl, sym, ap, ap₂, subst, ◌∙◌, ◌⊎◌, inl, inr, append_assoc, append-nil}
+use Rattle.std.specs.HashMap.{get, HashMap, Updates}
+use Rattle.std.specs.Map.{lookup}
+use Rattle.std.proofs.lemmas.Bool.{cases_eq, eq-eqb, ne_eqb, true≢false}
+use Rattle.std.proofs.lemmas.List.{map-append}
+use Rattle.kl1_model.specs.Term.{Term, variable, integer, atom, structure, Terms, none, more, count_of, each_substituted}
+use Rattle.kl1_model.specs.Module.{is_among}
+use Rattle.kl1_model.specs.Meaning.{variables_of}
+use Rattle.kl1_model.specs.Telling.{new_among, place_among, told_after, is_told_term}
+use Rattle.kl1_model.specs.code.TermCode.{NodeCode, nodes_of, nodes_of_all}
+use Rattle.kl1_term.specs.Nodes.{code_of}
+use Rattle.kl1_term.specs.Telling.{IsPlaceAmong, Finds, IsPlaced, anew, code_anew, anew_in}
+use Rattle.kl1_term.specs.Variables.{variables_in}
+use Rattle.kl1_term.proofs.VariableFacts.{variables_one}
+
+-- ---- places
+
+pub place_same : (m n : ℕ) (ms : List ℕ) → m ≡ n → place_among (m ∷ ms) n ≡ 1
+place_same m n ms e = ap (λ b. if◌then◌else◌ {A = ℕ} b 1 (suc (place_among ms n))) (eq-eqb m n e)
+
+pub place_other : (m n : ℕ) (ms : List ℕ) → (m ≡ n → ⊥) → place_among (m ∷ ms) n ≡ suc (place_among ms n)
+place_other m n ms d = ap (λ b. if◌then◌else◌ {A = ℕ} b 1 (suc (place_among ms n))) (ne_eqb m n d)
+
+pub among_same : (m n : ℕ) (ms : List ℕ) → m ≡ n → is_among n (m ∷ ms) ≡ true
+among_same m n ms e = ap (λ b. b || is_among n ms) (eq-eqb n m (sym e))
+
+pub among_other : (m n : ℕ) (ms : List ℕ) → (m ≡ n → ⊥) → is_among n (m ∷ ms) ≡ is_among n ms
+among_other m n ms d = ap (λ b. b || is_among n ms) (ne_eqb n m (λ e. d (sym e)))
+
+or_true : (b : Bool) → (b || true) ≡ true
+or_true true = refl
+or_true false = refl
+
+pub among_kept : (seen rest : List ℕ) (n : ℕ) → is_among n seen ≡ true → is_among n (seen ++ rest) ≡ true
+among_kept [] rest n e = absurd (true≢false (sym e))
+among_kept (m ∷ ms) rest n e = by (cases_eq m n)
+  where
+    by : (m ≡ n) ⊎ (m ≡ n → ⊥) → is_among n (m ∷ ms ++ rest) ≡ true
+    by (inl s) = among_same m n (ms ++ rest) s
+    by (inr d) = among_other m n (ms ++ rest) d ∙ among_kept ms rest n (sym (among_other m n ms d) ∙ e)
+
+pub among_new : (seen : List ℕ) (n : ℕ) → is_among n (seen ++ n ∷ []) ≡ true
+among_new [] n = among_same n n [] refl
+among_new (m ∷ ms) n = ap (λ b. (n == m) || b) (among_new ms n) ∙ or_true (n == m)
+
+among_apart : (seen : List ℕ) (n k : ℕ) → (n ≡ k → ⊥) → is_among k (seen ++ n ∷ []) ≡ is_among k seen
+among_apart [] n k d = among_other n k [] d
+among_apart (m ∷ ms) n k d = ap (λ b. (k == m) || b) (among_apart ms n k d)
+
+-- a number that was seen keeps its place, and a new one has the next
+pub place_kept : (seen rest : List ℕ) (n : ℕ) → is_among n seen ≡ true → place_among (seen ++ rest) n ≡ place_among seen n
+place_kept [] rest n e = absurd (true≢false (sym e))
+place_kept (m ∷ ms) rest n e = by (cases_eq m n)
+  where
+    by : (m ≡ n) ⊎ (m ≡ n → ⊥) → place_among (m ∷ ms ++ rest) n ≡ place_among (m ∷ ms) n
+    by (inl s) = place_same m n (ms ++ rest) s ∙ sym (place_same m n ms s)
+    by (inr d) = place_other m n (ms ++ rest) d ∙ (ap suc (place_kept ms rest n (sym (among_other m n ms d) ∙ e)) ∙ sym (place_other m n ms d))
+
+pub place_new : (seen : List ℕ) (n : ℕ) → is_among n seen ≡ false → place_among (seen ++ n ∷ []) n ≡ suc (length seen)
+place_new [] n e = place_same n n [] refl
+place_new (m ∷ ms) n e = by (cases_eq m n)
+  where
+    by : (m ≡ n) ⊎ (m ≡ n → ⊥) → place_among (m ∷ ms ++ n ∷ []) n ≡ suc (suc (length ms))
+    by (inl s) = absurd (true≢false (sym (among_same m n ms s) ∙ e))
+    by (inr d) = place_other m n (ms ++ n ∷ []) d ∙ ap suc (place_new ms n (sym (among_other m n ms d) ∙ e))
+
+-- ---- where places are found
+
+-- nothing is found if nothing was seen
+pub finds_none : {S : Type 0} (places : HashMap ℕ ℕ S) (seen : List ℕ) → places.entries ≡ [] → seen ≡ [] → Finds places seen
+finds_none places seen e s = λ n.
+    let none : get ◌==◌ places n ≡ None = ap (lookup (◌==◌ n)) e in
+    let new : is_among n seen ≡ false = ap (λ xs. is_among n xs) s in
+    subst (IsPlaceAmong seen n) (sym none) new
+
+place_stays : (seen : List ℕ) (n k : ℕ) (o : Option ℕ) → (n ≡ k → ⊥) → IsPlaceAmong seen k o → IsPlaceAmong (seen ++ n ∷ []) k o
+place_stays seen n k None d h = among_apart seen n k d ∙ h
+place_stays seen n k (Some p) d h = (among_kept seen (n ∷ []) k h.0, h.1 ∙ sym (place_kept seen (n ∷ []) k h.0))
+
+finds_more : {S : Type 0} (old new : HashMap ℕ ℕ S) (seen : List ℕ) (n next : ℕ) → Finds old seen → is_among n seen ≡ false → next ≡ suc (length seen) → Updates ◌==◌ old new n (Some next) → Finds new (seen ++ n ∷ [])
+finds_more old new seen n next h fresh is updates = λ k. subst (IsPlaceAmong (seen ++ n ∷ []) k) (sym (updates.0 k)) (by k (cases_eq n k))
+  where
+    by : (k : ℕ) → (n ≡ k) ⊎ (n ≡ k → ⊥) → IsPlaceAmong (seen ++ n ∷ []) k (cond (n == k) (Some next) (get ◌==◌ old k))
+    by k (inl s) =
+        subst (λ b. IsPlaceAmong (seen ++ n ∷ []) k (cond b (Some next) (get ◌==◌ old k))) (sym (eq-eqb n k s))
+        (subst (λ j. IsPlaceAmong (seen ++ n ∷ []) j (Some next)) s (among_new seen n, is ∙ sym (place_new seen n fresh)))
+    by k (inr d) = subst (λ b. IsPlaceAmong (seen ++ n ∷ []) k (cond b (Some next) (get ◌==◌ old k))) (sym (ne_eqb n k d)) (place_stays seen n k (get ◌==◌ old k) d (h k))
+
+-- a number that was seen, and a new one
+pub placed_again : {S : Type 0} (places : HashMap ℕ ℕ S) (seen : List ℕ) (n k : ℕ) → Finds places seen → Some k ≡ get ◌==◌ places n → IsPlaced places seen seen n k
+placed_again places seen n k h found =
+    let at : IsPlaceAmong seen n (Some k) = subst (IsPlaceAmong seen n) (sym found) (h n) in
+    record { finds = h; seen = sym (ap (λ b. if◌then◌else◌ {A = List ℕ} b seen (seen ++ n ∷ [])) at.0); among = at.0; place = at.1 }
+
+pub placed_first : {S : Type 0} (old new : HashMap ℕ ℕ S) (seen now : List ℕ) (n k : ℕ) → Finds old seen → None ≡ get ◌==◌ old n → k ≡ suc (length seen) → now ≡ seen ++ n ∷ [] → Updates ◌==◌ old new n (Some k) → IsPlaced new seen now n k
+placed_first old new seen now n k h none next put updates =
+    let fresh : IsPlaceAmong seen n None = subst (IsPlaceAmong seen n) (sym none) (h n) in
+    record {
+      finds = subst (Finds new) (sym put) (finds_more old new seen n k h fresh next updates);
+      seen = put ∙ sym (ap (λ b. if◌then◌else◌ {A = List ℕ} b seen (seen ++ n ∷ [])) fresh);
+      among = ap (is_among n) put ∙ among_new seen n;
+      place = next ∙ (sym (place_new seen n fresh) ∙ ap (λ xs. place_among xs n) (sym put));
+    }
+
+-- ---- nodes
+
+-- those seen after numbers begin with those seen before
+pub record GoesOn (seen all : List ℕ) : Type 0 where
+  pub rest : List ℕ
+  pub all_are : all ≡ seen ++ rest
+
+pub goes_on : (seen ns : List ℕ) → GoesOn seen (new_among None seen ns)
+goes_on seen [] = record { rest = []; all_are = sym (append-nil seen) }
+goes_on seen (n ∷ ns) = by (is_among n seen) (goes_on seen ns) (goes_on (seen ++ n ∷ []) ns)
+  where
+    by : (b : Bool) → GoesOn seen (new_among None seen ns) → GoesOn (seen ++ n ∷ []) (new_among None (seen ++ n ∷ []) ns) → GoesOn seen (if b then new_among None seen ns else new_among None (seen ++ n ∷ []) ns)
+    by true old new = old
+    by false old new = record { rest = n ∷ new.rest; all_are = new.all_are ∙ append_assoc seen (n ∷ []) new.rest }
+
+-- a variable's place among those that are seen at the end is that when it was seen
+pub place_at_end : (before now ns all : List ℕ) (n k : ℕ) → is_among n now ≡ true → k ≡ place_among now n → all ≡ new_among None now ns → k ≡ place_among all n
+place_at_end before now ns all n k among place is =
+    let on = goes_on now ns in
+    place ∙ (sym (place_kept now on.rest n among) ∙ ap (λ xs. place_among xs n) (sym (is ∙ on.all_are)))
+
+-- the nodes of the term that is numbered anew
+mutual
+  anew_one : (seen : List ℕ) (t : Term) → anew_in seen (nodes_of t) ≡ nodes_of (anew seen t)
+  anew_one seen (variable n) = refl
+  anew_one seen (integer i) = refl
+  anew_one seen (atom a) = refl
+  anew_one seen (structure f ts) =
+      ap₂ (λ (n : ℕ) (cs : List NodeCode). let c : NodeCode = inr (inr (f, n)) in c ∷ cs) (sym (as_many seen ts)) (anew_all seen ts)
+
+  anew_all : (seen : List ℕ) (ts : Terms) → anew_in seen (nodes_of_all ts) ≡ nodes_of_all (each_substituted (λ n. variable (place_among seen n)) ts)
+  anew_all seen none = refl
+  anew_all seen (more t ts) = map-append (code_anew seen) (nodes_of t) (nodes_of_all ts) ∙ ap₂ (λ (x y : List NodeCode). x ++ y) (anew_one seen t) (anew_all seen ts)
+
+  as_many : (seen : List ℕ) (ts : Terms) → count_of (each_substituted (λ n. variable (place_among seen n)) ts) ≡ count_of ts
+  as_many seen none = refl
+  as_many seen (more t ts) = ap suc (as_many seen ts)
+
+pub anew_is : (seen : List ℕ) (cs ds : List NodeCode) (t : Term) → cs ≡ nodes_of t → ds ≡ anew_in seen cs → ds ≡ nodes_of (anew seen t)
+anew_is seen cs ds t e is = is ∙ (ap (anew_in seen) e ∙ anew_one seen t)
+
+-- the variables of a term's nodes are the term's
+pub variables_are : (cs : List NodeCode) (t : Term) → cs ≡ nodes_of t → variables_in cs ≡ variables_of t
+variables_are cs t e = ap (λ (x : List NodeCode). variables_in x) (e ∙ sym (append-nil (nodes_of t))) ∙ (variables_one t [] ∙ append-nil (variables_of t))
+
+pub told_is : (cs : List NodeCode) (t : Term) → cs ≡ nodes_of t → told_after 0 (variables_in cs) ≡ is_told_term t
+told_is cs t e = ap (told_after 0) (variables_are cs t e)
