@@ -5,7 +5,7 @@ mod viewing;
 
 ghost use Rattle.std.specs.Prelude.{◌≡◌, ◌↔◌, ◌<◌, ◌≤◌, ◌^◌, [], Some, None, slice_get, IfOk, IsOk, IsTrue, OnErr, false, option_map};
 ghost use Rattle.kl1_model.specs.Event.{reduce as reduce_event, refused, journal_full};
-ghost use Rattle.kl1_model.specs.State.{has_runs};
+ghost use Rattle.kl1_model.specs.State.{has_runs, has_told};
 ghost use Rattle.kl1_model.specs.Choice.{first, quiet};
 ghost use Rattle.kl1_model_server.specs.Journal.{done, is_entry};
 ghost use Rattle.kl1_model_server.specs.JournalText.{page_of};
@@ -134,8 +134,8 @@ impl<'t, R: Wait, K: PoolIds> PoolAccount<'t, R, K> {
         if is_full(&self.book, event) {
             return Ok(Reply::Refused(Refusal::Journal));
         }
-        // This and the next one are called for the facts that they prove: the journal ends in the run that the account counts, and some
-        // reading fits the names.
+        // This and the next one are called for the facts that they prove: the account is the replay of its journal, and some reading fits
+        // the names.
         self.kept.shows_replay();
         let reply = self.kept.apply(names, codes, event)?;
         self.kept.shows_replay();
@@ -207,6 +207,15 @@ impl<'t, R: Wait, K: PoolIds> PoolAccount<'t, R, K> {
         // This is called for the fact that it proves: the journal has the account's rules.
         self.shows_counts();
         self.lent_journal().rules().has_runs()
+    }
+
+    /// Whether the account keeps to rules by which answers tell variables.
+    pub(crate) fn has_told(&self) -> bool
+        ensures { (f : Reading) → Fits self.now.held.0.names f → result ≡ has_told (kept_of f self.now.held).state.rules }
+    {
+        // This is called for the fact that it proves: the journal has the account's rules.
+        self.shows_counts();
+        self.lent_journal().rules().has_told()
     }
 
     /// What was counted before the last reset.

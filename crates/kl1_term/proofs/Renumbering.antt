@@ -10,7 +10,7 @@ use Rattle.kl1_model.specs.Meaning.{variables_of}
 use Rattle.kl1_model.specs.Telling.{new_among, place_among, told_after, is_told_term}
 use Rattle.kl1_model.specs.code.TermCode.{NodeCode, nodes_of, nodes_of_all}
 use Rattle.kl1_term.specs.Nodes.{code_of}
-use Rattle.kl1_term.specs.Telling.{IsPlaceAmong, Finds, IsPlaced, anew, code_anew, anew_in}
+use Rattle.kl1_term.specs.Telling.{IsPlaceAmong, Finds, IsPlaced, renumbered, code_renumbered, renumbered_in}
 use Rattle.kl1_term.specs.Variables.{variables_in}
 use Rattle.kl1_term.proofs.VariableFacts.{variables_one}
 
@@ -124,25 +124,25 @@ place_at_end before now ns all n k among place is =
     let on = goes_on now ns in
     place ∙ (sym (place_kept now on.rest n among) ∙ ap (λ xs. place_among xs n) (sym (is ∙ on.all_are)))
 
--- the nodes of the term that is numbered anew
+-- the nodes of a term with other numbers for its variables
 mutual
-  anew_one : (seen : List ℕ) (t : Term) → anew_in seen (nodes_of t) ≡ nodes_of (anew seen t)
-  anew_one seen (variable n) = refl
-  anew_one seen (integer i) = refl
-  anew_one seen (atom a) = refl
-  anew_one seen (structure f ts) =
-      ap₂ (λ (n : ℕ) (cs : List NodeCode). let c : NodeCode = inr (inr (f, n)) in c ∷ cs) (sym (as_many seen ts)) (anew_all seen ts)
+  renumbered_one : (f : ℕ → ℕ) (t : Term) → renumbered_in f (nodes_of t) ≡ nodes_of (renumbered f t)
+  renumbered_one f (variable n) = refl
+  renumbered_one f (integer i) = refl
+  renumbered_one f (atom a) = refl
+  renumbered_one f (structure a ts) =
+      ap₂ (λ (n : ℕ) (cs : List NodeCode). let c : NodeCode = inr (inr (a, n)) in c ∷ cs) (sym (as_many f ts)) (renumbered_all f ts)
 
-  anew_all : (seen : List ℕ) (ts : Terms) → anew_in seen (nodes_of_all ts) ≡ nodes_of_all (each_substituted (λ n. variable (place_among seen n)) ts)
-  anew_all seen none = refl
-  anew_all seen (more t ts) = map-append (code_anew seen) (nodes_of t) (nodes_of_all ts) ∙ ap₂ (λ (x y : List NodeCode). x ++ y) (anew_one seen t) (anew_all seen ts)
+  renumbered_all : (f : ℕ → ℕ) (ts : Terms) → renumbered_in f (nodes_of_all ts) ≡ nodes_of_all (each_substituted (λ n. variable (f n)) ts)
+  renumbered_all f none = refl
+  renumbered_all f (more t ts) = map-append (code_renumbered f) (nodes_of t) (nodes_of_all ts) ∙ ap₂ (λ (x y : List NodeCode). x ++ y) (renumbered_one f t) (renumbered_all f ts)
 
-  as_many : (seen : List ℕ) (ts : Terms) → count_of (each_substituted (λ n. variable (place_among seen n)) ts) ≡ count_of ts
-  as_many seen none = refl
-  as_many seen (more t ts) = ap suc (as_many seen ts)
+  as_many : (f : ℕ → ℕ) (ts : Terms) → count_of (each_substituted (λ n. variable (f n)) ts) ≡ count_of ts
+  as_many f none = refl
+  as_many f (more t ts) = ap suc (as_many f ts)
 
-pub anew_is : (seen : List ℕ) (cs ds : List NodeCode) (t : Term) → cs ≡ nodes_of t → ds ≡ anew_in seen cs → ds ≡ nodes_of (anew seen t)
-anew_is seen cs ds t e is = is ∙ (ap (anew_in seen) e ∙ anew_one seen t)
+pub renumbered_is : (f : ℕ → ℕ) (cs ds : List NodeCode) (t : Term) → cs ≡ nodes_of t → ds ≡ renumbered_in f cs → ds ≡ nodes_of (renumbered f t)
+renumbered_is f cs ds t e is = is ∙ (ap (renumbered_in f) e ∙ renumbered_one f t)
 
 -- the variables of a term's nodes are the term's
 pub variables_are : (cs : List NodeCode) (t : Term) → cs ≡ nodes_of t → variables_in cs ≡ variables_of t

@@ -1,7 +1,8 @@
 -- The variables of answers, which tell those of an account by their numbers.
-use Rattle.std.specs.Prelude.{◌≡◌, ℕ, ◌==◌, true, false, List, [], ◌∷◌, map, Option, Some, None}
+use Rattle.std.specs.Prelude.{◌≡◌, ℕ, ◌+◌, ◌-◌, ◌==◌, true, false, List, [], ◌∷◌, map, Option, Some, None}
 use Rattle.std.specs.HashMap.{get, HashMap}
 use Rattle.std.proofs.Common.{inl, inr}
+use Rattle.kl1_model.specs.declared.limits.TheConstants.{FIRST_UNTOLD}
 use Rattle.kl1_model.specs.Term.{Term, variable, substituted}
 use Rattle.kl1_model.specs.Module.{is_among}
 use Rattle.kl1_model.specs.Telling.{new_among, place_among}
@@ -23,15 +24,31 @@ pub record IsPlaced {S : Type 0} (places : HashMap ℕ ℕ S) (before now : List
   pub among : is_among n now ≡ true
   pub place : k ≡ place_among now n
 
+-- a term with other numbers for its variables
+abbrev pub renumbered : (ℕ → ℕ) → Term → Term
+renumbered f t = substituted (λ n. variable (f n)) t
+
+-- nodes with other numbers for their variables
+abbrev pub code_renumbered : (ℕ → ℕ) → NodeCode → NodeCode
+code_renumbered f (inl (inl n)) = inl (inl (f n))
+code_renumbered f (inl (inr i)) = inl (inr i)
+code_renumbered f (inr x) = inr x
+
+abbrev pub renumbered_in : (ℕ → ℕ) → List NodeCode → List NodeCode
+renumbered_in f cs = map (code_renumbered f) cs
+
 -- a term with its variables numbered by their places among these
 abbrev pub anew : List ℕ → Term → Term
-anew seen t = substituted (λ n. variable (place_among seen n)) t
+anew seen t = renumbered (place_among seen) t
 
 -- nodes with their variables numbered so
-abbrev pub code_anew : List ℕ → NodeCode → NodeCode
-code_anew seen (inl (inl n)) = inl (inl (place_among seen n))
-code_anew seen (inl (inr i)) = inl (inr i)
-code_anew seen (inr x) = inr x
-
 abbrev pub anew_in : List ℕ → List NodeCode → List NodeCode
-anew_in seen cs = map (code_anew seen) cs
+anew_in seen cs = renumbered_in (place_among seen) cs
+
+-- the number of a variable that was numbered from 1, as one that an answer doesn't tell
+abbrev pub untold_number : ℕ → ℕ
+untold_number n = FIRST_UNTOLD + (n - 1)
+
+-- a term whose variables were numbered from 1, with them as those that an answer doesn't tell
+abbrev pub untold : Term → Term
+untold t = renumbered untold_number t

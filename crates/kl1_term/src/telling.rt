@@ -4,7 +4,7 @@ ghost use Rattle.std.specs.Prelude.{◌≡◌, ℕ, List, [], ◌∷◌, map, le
 ghost use Rattle.kl1_model.specs.Telling.{is_told_term, told_after, new_among};
 ghost use Rattle.kl1_model.specs.Meaning.{variables_of, is_numbered, highest};
 ghost use Rattle.kl1_term.specs.Nodes.{code_of};
-ghost use Rattle.kl1_term.specs.Telling.{Finds, IsPlaced, anew, anew_in};
+ghost use Rattle.kl1_term.specs.Telling.{Finds, IsPlaced, anew, anew_in, renumbered_in, untold, untold_number};
 ghost use Rattle.kl1_term.specs.Variables.{variables_in};
 
 use crate::node::Node;
@@ -87,6 +87,15 @@ impl Term {
         let nodes = anew_nodes(alloc, self.nodes(), seen)?;
         Ok(Term::of_nodes(nodes))
     }
+
+    /// The term, whose variables are numbered from 1, with them as those that an answer doesn't tell: numbered from 2^62. One beyond 2^63
+    /// is as if memory was refused: no term of a text has it.
+    pub fn untold(&self, alloc: Global) -> Result<Term, AllocError>
+        ensures { IfOk result (λ t. t ≡ untold self.now) }
+    {
+        let nodes = untold_nodes(alloc, self.nodes())?;
+        Ok(Term::of_nodes(nodes))
+    }
 }
 
 /// The nodes of a term with its variables numbered from 1 by first occurrence; `seen`, which holds nothing, gets the numbers that they had.
@@ -101,6 +110,33 @@ fn anew_nodes(alloc: Global, nodes: &[Node], seen: &mut Vec<u64>) -> Result<Vec<
     while let [first, rest @ ..] = left {
         let node = match first {
             Node::Variable(number) => Node::Variable(place_of(&mut places, seen, *number)?),
+            other => *other,
+        };
+        out.push_reserved(node);
+        left = rest;
+    }
+    Ok(out)
+}
+
+/// The number of a variable, which is numbered from 1, as one that an answer doesn't tell.
+fn untold_number(number: u64) -> Result<u64, AllocError>
+    ensures { IfOk result (λ n. n ≡ untold_number number) }
+{
+    if number > NUMBER_LIMIT {
+        return Err(AllocError);
+    }
+    Ok(FIRST_UNTOLD + number.saturating_sub(1))
+}
+
+/// The nodes of a term, whose variables are numbered from 1, with them as those that an answer doesn't tell.
+fn untold_nodes(alloc: Global, nodes: &[Node]) -> Result<Vec<Node>, AllocError>
+    ensures { IfOk result (λ ns. map code_of ns.items ≡ renumbered_in untold_number (map code_of nodes.now)) }
+{
+    let mut out = Vec::with_capacity(alloc, nodes.len())?;
+    let mut left = nodes;
+    while let [first, rest @ ..] = left {
+        let node = match first {
+            Node::Variable(number) => Node::Variable(untold_number(*number)?),
             other => *other,
         };
         out.push_reserved(node);

@@ -14,11 +14,11 @@ use Rattle.kl1_pool.proofs.pool_account.PoolAccount.apply.Goals as goal
 
 pub count-requires-clause-one : goal.count-requires-clause-one
 count-requires-clause-one g c =
-    (held_counts c.self.inside.past c.self.inside.book c.self.inside.kept.1 c.apply.new.self.1 (event_of c.args.event.now) (reply_of c.in_ok-reply.reply) c.shows_replay.ensures.names c.shows_replay.ensures.kept c.shows_replay-2.ensures.names c.in_ok-reply.ensures.step c.self.invariant.4 (c.is_full.ensures.room c.if-is_full.false)).1
+    (held_counts c.self.inside.past c.self.inside.book c.self.inside.kept.1 c.apply.new.self.1 (event_of c.args.event.now) (reply_of c.in_ok-reply.reply) c.shows_replay-2.ensures.names c.in_ok-reply.ensures.step c.self.invariant.4 (c.is_full.ensures.room c.if-is_full.false)).1
 
 pub count-requires-clause-room : goal.count-requires-clause-room
 count-requires-clause-room g c =
-    (held_counts c.self.inside.past c.self.inside.book c.self.inside.kept.1 c.apply.new.self.1 (event_of c.args.event.now) (reply_of c.in_ok-reply.reply) c.shows_replay.ensures.names c.shows_replay.ensures.kept c.shows_replay-2.ensures.names c.in_ok-reply.ensures.step c.self.invariant.4 (c.is_full.ensures.room c.if-is_full.false)).0.few
+    (held_counts c.self.inside.past c.self.inside.book c.self.inside.kept.1 c.apply.new.self.1 (event_of c.args.event.now) (reply_of c.in_ok-reply.reply) c.shows_replay-2.ensures.names c.in_ok-reply.ensures.step c.self.invariant.4 (c.is_full.ensures.room c.if-is_full.false)).0.few
 
 pub invariant_of-self-2 : goal.invariant_of-self-2
 invariant_of-self-2 g c =
@@ -27,7 +27,7 @@ invariant_of-self-2 g c =
     let old = c.self.inside.kept.1 in
     let new = c.apply.new.self.1 in
     let r = reply_of c.in_ok-reply.reply in
-    let counts = held_counts p b old new (event_of c.args.event.now) r c.shows_replay.ensures.names c.shows_replay.ensures.kept c.shows_replay-2.ensures.names c.in_ok-reply.ensures.step c.self.invariant.4 (c.is_full.ensures.room c.if-is_full.false) in
+    let counts = held_counts p b old new (event_of c.args.event.now) r c.shows_replay-2.ensures.names c.in_ok-reply.ensures.step c.self.invariant.4 (c.is_full.ensures.room c.if-is_full.false) in
     let stays = held_stays old new (event_of c.args.event.now) r c.shows_replay-2.ensures.names c.in_ok-reply.ensures.step in (
       c.apply.ensures.of,
       placed_in c.args.codes.now.table.now g.K.PoolIds.codes (StandsIn c.apply.new.codes.table.now) new.0.modules c.requires.codes c.apply.ensures.same c.apply.ensures.placed,

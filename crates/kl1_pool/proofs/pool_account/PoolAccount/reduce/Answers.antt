@@ -19,7 +19,7 @@ invariant_of-self-2 g c =
     let new = c.reduce.new.self.1 in
     let r = reduced_or c.in_ok-refused.refused in
     let room = subst (λ (x : Book). x.events < 2 ^ 63) (sym (ap (λ (x : PoolAccountValue). x.book) c.self.view_is)) c.requires.room in
-    let counts = held_counts p b old new (reduce_event c.args.goal.0 c.args.clause.0) r c.shows_replay.ensures.names c.shows_replay.ensures.kept c.shows_replay-2.ensures.names c.in_ok-refused.ensures.step c.self.invariant.4 (λ entry. room) in
+    let counts = held_counts p b old new (reduce_event c.args.goal.0 c.args.clause.0) r c.shows_replay-2.ensures.names c.in_ok-refused.ensures.step c.self.invariant.4 (λ entry. room) in
     let stays = held_stays old new (reduce_event c.args.goal.0 c.args.clause.0) r c.shows_replay-2.ensures.names c.in_ok-refused.ensures.step in (
       c.reduce.ensures.of,
       subst (λ (ms : List Numbered). ArePlaced (StandsIn g.K.PoolIds.codes) ms) (sym c.reduce.ensures.modules) c.self.invariant.1,
