@@ -18,7 +18,7 @@ use crate::view::View;
 use crate::visit::{Visit, VisitReader, WatchedDoor};
 use kl1_host_journals::{Connecting, FreshConnection, Naming, Outgoing, SyncedWriter};
 use kl1_lines::{FailureCounter, Sink, Source};
-use kl1_pool::{Names, Pool, PoolIds, Rules, Share};
+use kl1_pool::{Names, Pool, PoolIds, Share};
 use kl1_session::{Disconnect, Door};
 use std::alloc::Global;
 use std::cell::Cell;
@@ -51,7 +51,7 @@ where
     requires accounts { D.accounts door.old ≤ length host.keys.now }
     requires few { length host.keys.now ≤ K.accounts }
     requires named { names_in (entries_view host.keys.now) ≡ C.names }
-    ensures { (done : List Done) × Serves (D.opens door.old) PIECE result.0 (S.remaining source.old) (S.remaining source.new) (T.contents sink.old) (T.contents sink.new) [] done × AreAnswered K.rules C.names done share result.1 × IsTold K.rules C.names host.entry.syncing.replies_wait done result.2 }
+    ensures { (done : List Done) × Serves K.rules (D.opens door.old) PIECE result.0 (S.remaining source.old) (S.remaining source.new) (T.contents sink.old) (T.contents sink.new) [] done × AreAnswered K.rules C.names done share result.1 × IsTold K.rules C.names host.entry.syncing.replies_wait done result.2 }
 {
     let mut handler = HostHandler {
         rt,
@@ -63,7 +63,7 @@ where
     let mut buffer = [0u8; PIECE];
     let served = kl1_session::serve(
         alloc,
-        Rules::Five,
+        pool.rules(),
         source,
         sink,
         &mut handler,

@@ -1,4 +1,9 @@
+pub mod ShoenExampleRows
+pub mod LineExampleRows
+pub mod ProgramExampleRows
 pub mod ExampleRows
+pub mod HeadingJournalRows
+pub mod EntryJournalRows
 pub mod JournalRows
 pub mod AccountRowProofs
 pub mod HistoryRowProofs
