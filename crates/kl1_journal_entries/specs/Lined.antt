@@ -1,15 +1,15 @@
 -- Entries that have lines, and journals with room for more of them.
-use Rattle.std.specs.Prelude.{ℕ, zero, suc, ◌+◌, ◌*◌, nat_le, ◌&&◌, Bool, if◌then◌else◌, length, Option, Some, None, option_and_then}
+use Rattle.std.specs.Prelude.{ℕ, zero, suc, ◌+◌, ◌*◌, nat_le, nat_lt, ◌&&◌, Bool, if◌then◌else◌, List, [], ◌∷◌, ◌++◌, length, Option, Some, None, option_and_then}
 use Rattle.kl1_model.specs.declared.rules.Rules.{Rules}
 use Rattle.kl1_model.specs.State.{has_forgetting}
 use Rattle.kl1_model.specs.Goal.{is_goal}
 use Rattle.kl1_model.specs.Meaning.{is_writable, is_numbered}
 use Rattle.kl1_model.specs.Event.{Event, load, start, control, reduce, read, login, logout, reset, answer, forget, is_number}
-use Rattle.kl1_model.specs.declared.limits.TheConstants.{MOST_LINE_BYTES}
+use Rattle.kl1_model.specs.declared.limits.TheConstants.{MOST_LINE_BYTES, MOST_RUN}
 use Rattle.kl1_model.specs.Opening.{start_line}
 use Rattle.kl1_model.specs.Sending.{may_send}
 use Rattle.kl1_model.specs.Answering.{answer_line, is_numbered_by}
-use Rattle.kl1_model_server.specs.Journal.{Entry, loads, starts, sends, steps, answers, forgets, runs, Journal, entered, stepped}
+use Rattle.kl1_model_server.specs.Journal.{Entry, loads, starts, sends, steps, answers, forgets, runs, Journal, without_last, entered, stepped}
 
 -- whether an entry of a journal of these rules has numbers below 2 ^ 63, a goal that can be written and read back, and a line that isn't too long
 abbrev pub is_lined : Rules → Entry → Bool
@@ -54,6 +54,15 @@ pending rules e = record { rules = rules; entry = e }
 abbrev pub with_prepared : Journal → Option Entry → Journal
 with_prepared j None = j
 with_prepared j (Some e) = entered j e
+
+-- how many reductions a run has that may have more, or 0
+abbrev pub if_longer : ℕ → ℕ
+if_longer n = if nat_lt n MOST_RUN then n else 0
+
+-- entries with one first reduction more: in the last, which is a run of this length, or in one of its own if that is 0
+abbrev pub lengthened : List Entry → ℕ → List Entry
+lengthened es zero = es ++ runs 1 ∷ []
+lengthened es (suc n) = without_last es ++ runs (suc (suc n)) ∷ []
 
 -- a journal with one reduction more, which made its last run this long; in no run it is an entry, if it is lined
 abbrev pub with_reduction : Journal → ℕ → ℕ → ℕ → Journal

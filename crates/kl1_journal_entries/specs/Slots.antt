@@ -74,9 +74,10 @@ IsPrinted (whole.Run n) = Unit {0}
 IsPrinted (whole.Answer n report goal told) = print (answer_in told goal.items) ≡ goal.items
 IsPrinted (whole.Forget n count) = Unit {0}
 
--- an answer tells variables if these rules have it
+-- an answer tells variables if these rules have it, and a run is longer than one in the row
 abbrev pub IsToldBy : Rules → LongEntry → Type 0
 IsToldBy rules (whole.Answer n report goal told) = told ≡ has_told rules
+IsToldBy rules (whole.Run n) = 2 ^ 32 ≤ n
 IsToldBy rules w = Unit {0}
 
 -- what is kept whole has a line in a journal of these rules, and of a goal it has the print

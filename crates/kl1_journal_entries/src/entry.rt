@@ -3,7 +3,7 @@
 ghost use Rattle.std.specs.Prelude.{◌≡◌, ◌<◌, length};
 ghost use Rattle.std.specs.List.{AllByRecursion};
 ghost use Rattle.kl1_model_server.specs.Journal.{sends};
-ghost use Rattle.kl1_journal_entries.specs.Slots.{entry_of_whole, entry_at, IsPlace, IsPrinted, IsSound};
+ghost use Rattle.kl1_journal_entries.specs.Slots.{entry_of_whole, entry_at, IsPlace, IsPrinted};
 ghost use Rattle.kl1_journal_entries.specs.Shown.{entry_shown, HasPrint};
 
 use crate::long_entry::LongEntry;
@@ -106,7 +106,7 @@ fn sent(shoen: u32, message: Message) -> Entry<'static>
 /// The entry of a place in the row.
 pub(crate) fn shown_at<'a>(wholes: &'a [LongEntry], slot: PackedEntry) -> Entry<'a>
     requires place { IsPlace (length wholes.now) slot }
-    requires sound { AllByRecursion IsSound wholes.now }
+    requires printed { AllByRecursion IsPrinted wholes.now }
     ensures entry { entry_shown result ≡ entry_at wholes.now slot }
     ensures printed { HasPrint result }
 {

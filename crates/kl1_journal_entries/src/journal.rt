@@ -1,10 +1,14 @@
 // The journal of an account.
 
-ghost use Rattle.std.specs.Prelude.{◌≡◌, ◌<◌, ◌≤◌, [], IfOk, OnOk, IfSome, IsTrue};
-ghost use Rattle.kl1_model.specs.declared.limits.TheConstants.{MOST_SESSIONS};
-ghost use Rattle.kl1_model_server.specs.Journal.{new_journal};
+ghost use Rattle.std.specs.Prelude.{◌≡◌, ◌<◌, ◌≤◌, List, [], length, map, IfOk, OnOk, IfSome, IsTrue};
+ghost use Rattle.std.specs.List.{AllByRecursion};
+ghost use Rattle.kl1_model.specs.declared.limits.TheConstants.{MOST_RUN, MOST_SESSIONS};
+ghost use Rattle.kl1_model.specs.declared.rules.Rules.{Rules as RulesSpec};
+ghost use Rattle.kl1_model_server.specs.Journal.{new_journal, run_length, last_run_of};
 ghost use Rattle.kl1_model_server.specs.laws.TextLaws.{AreNames, IsWritten};
-ghost use Rattle.kl1_journal_entries.specs.Lined.{with_prepared, with_reduction};
+ghost use Rattle.kl1_journal_entries.specs.Lined.{if_longer, lengthened, with_prepared, with_reduction};
+ghost use Rattle.kl1_journal_entries.specs.Slots.{entry_at, IsPlace, IsSound};
+ghost use Rattle.kl1_journal_entries.specs.declared.long_entry.LongEntry.{LongEntry as LongSpec};
 
 use crate::long_entry::LongEntry;
 use crate::packed_entry::PackedEntry;
@@ -163,8 +167,8 @@ impl Journal {
         }
     }
 
-    /// Puts a reduction after the entries, or into the last of them, which is a run then: `run` is how many reductions the last run has
-    /// with it, or 0 if it is in no run. It takes no memory.
+    /// Puts a reduction after the entries, or into the last of them, if that is a run that may be longer: `run` is how many reductions the
+    /// last run has with it, or 0 if it is in no run. It takes no memory.
     #[inline]
     pub fn put_reduction(&mut self, goal: u64, clause: u64, run: u32)
         requires { 0 < self.old.room }
@@ -173,12 +177,24 @@ impl Journal {
         if run == 0 {
             self.put_step(goal, clause);
         } else if run == 1 {
-            self.slots.push_reserved(PackedEntry::Run(1));
+            self.put_run(0);
         } else {
-            // The run as it was stands last.
-            self.slots.pop();
-            self.slots.push_reserved(PackedEntry::Run(run));
+            let before = last_run(self.slots.as_slice());
+            self.put_run(before);
         }
+    }
+
+    /// Puts a first reduction into the last entry, which is a run of this many, or after the entries if it is 0. It takes no memory.
+    #[inline]
+    fn put_run(&mut self, before: u32)
+        requires room { 0 < self.old.room }
+        requires few { before < MOST_RUN }
+        ensures { self.new.journal ≡ record self.old.journal { entries = lengthened self.old.journal.entries before } }
+    {
+        if before > 0 {
+            self.slots.pop();
+        }
+        self.slots.push_reserved(PackedEntry::Run(before + 1));
     }
 
     /// Sets how many sessions are open.
@@ -210,5 +226,38 @@ impl Journal {
         ensures { IsWritten self.now.journal }
     {
         let _slots = &self.slots;
+    }
+}
+
+/// How many reductions the run has that stands last, if it may have more; or 0.
+#[inline]
+fn last_run(slots: &[PackedEntry]) -> u32
+    ensures few { result < MOST_RUN }
+    ensures run { (rules : RulesSpec) (wholes : List LongSpec) → AllByRecursion (IsPlace (length wholes)) slots.now → AllByRecursion (IsSound rules) wholes → result ≡ if_longer (last_run_of (map (entry_at wholes) slots.now)) }
+{
+    match slots.last() {
+        None => 0,
+        Some(slot) => run_of(*slot),
+    }
+}
+
+/// How many reductions an entry is as a run that may have more, or 0.
+#[inline]
+fn run_of(slot: PackedEntry) -> u32
+    ensures few { result < MOST_RUN }
+    ensures run { (rules : RulesSpec) (wholes : List LongSpec) → IsPlace (length wholes) slot → AllByRecursion (IsSound rules) wholes → result ≡ if_longer (run_length (entry_at wholes slot)) }
+{
+    match slot {
+        PackedEntry::Run(reductions) => {
+            if reductions == u32::MAX {
+                return 0;
+            }
+            reductions
+        }
+        PackedEntry::Step { .. } => 0,
+        PackedEntry::Stop(_) => 0,
+        PackedEntry::Resume(_) => 0,
+        PackedEntry::Abort(_) => 0,
+        PackedEntry::Kept(_) => 0,
     }
 }

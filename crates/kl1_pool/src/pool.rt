@@ -34,7 +34,7 @@ pub struct Pool<'t, R: Wait, K: PoolIds> {
     /// The most bytes that an account may take if it is to go on.
     pub(crate) most_bytes: u64,
     /// What all accounts keep to.
-    rules: Rules,
+    pub(crate) rules: Rules,
     pub ghost counted: { vec_len places ≡ K.accounts },
     pub ghost bounded: { most_bytes ≡ K.most_bytes },
     pub ghost ruled: { rules ≡ K.rules },
@@ -266,6 +266,7 @@ impl<'t, R: Wait, K: PoolIds> Pool<'t, R, K> {
             places,
             named: _,
             most_bytes: _,
+                rules: _,
         } = self;
         drop_all(places);
     }

@@ -1,7 +1,7 @@
 -- Which variables are in a term.
 use Rattle.std.proofs.Common.{◌≡◌, ℕ, zero, suc, ◌<◌, ◌≤◌, Bool, true, false, List, [], ◌∷◌, refl, sym, ap, ◌∙◌, ◌⊎◌, inl, inr, arith}
 use Rattle.std.specs.Prelude.{nat_lt}
-use Rattle.std.proofs.lemmas.Bool.{cases_eq, ne_eqb, le-ltb, lt-ltb, false≢true}
+use Rattle.std.proofs.lemmas.Bool.{either, cases_eq, ne_eqb, le-ltb, lt-ltb, false≢true}
 use Rattle.kl1_model.specs.Term.{Term, occurs, occurs_in, size, sizes}
 use Rattle.kl1_store.specs.declared.cell.Cell.{Cell}
 use Rattle.kl1_store.specs.declared.cell.Cell.TheVariants.{Variable, Integer, Atom, Structure}
@@ -13,6 +13,7 @@ use Rattle.kl1_store.specs.Levels.{level_at, IsLevel, AreLevels, SeesTerm}
 use Rattle.kl1_store.specs.Tasks.{Lifted}
 use Rattle.kl1_store.proofs.Terms.{term_of-Structure, term_of-unbound, term_of-Integer, term_of-Atom, arguments_in}
 use Rattle.kl1_store.proofs.Meetings.{named}
+use Rattle.kl1_store.proofs.Lists.{found_unbound}
 use Rattle.kl1_store.proofs.Levelling.{stands, size-positive, or-both, free_above, lies_at_0}
 
 -- ---- what is no variable that stands for itself is in no term
@@ -58,6 +59,14 @@ beyond h n le w lt free e = omega (arith, e)
 
 pub bound : {N : Type 0} (h : Held N) (n : ℕ) → is_bound n h.bindings ≡ true → IsNoVariable h n
 bound h n b w lt free e = false≢true (sym free ∙ (ap (λ m. is_bound m h.bindings) (sym e) ∙ b))
+
+-- so is that of a variable whose slot has another cell
+pub bound_by : {N : Type 0} (h : Held N) (n : ℕ) → (found n h.bindings ≡ Variable n → ⊥) → IsNoVariable h n
+bound_by h n other = by (either (is_bound n h.bindings))
+  where
+    by : (is_bound n h.bindings ≡ false) ⊎ (is_bound n h.bindings ≡ true) → IsNoVariable h n
+    by (inl u) = absurd (other (found_unbound n h.bindings u))
+    by (inr b) = bound h n b
 
 -- ---- what lies above 0 is in the term
 

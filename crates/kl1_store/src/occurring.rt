@@ -44,9 +44,9 @@ fn is_seen<N: NameValue>(cells: &Cells<N>, levels: &Levels, cell: Cell<N>, numbe
     requires sees { SeesTerm cells.now.held levels.now cell }
     ensures { (f : N → List ℕ) → result ≡ occurs number (term_of f cells.now.held cell) }
 {
-    // Only for the proof: what the cells hold is formed.
-    let _ = cells.mark();
-    if number >= cells.variables() as u64 {
+    // For the proof too: what the cells hold is formed.
+    let held = cells.mark();
+    if number >= held.variables as u64 {
         return false;
     }
     let variable = number as u32;
