@@ -268,9 +268,10 @@ pub(crate) fn run_for(rules: Rules, reductions: u64) -> PendingEntry
     if reductions == 0 || !is_number(reductions) {
         return nothing(rules);
     }
-    let form = match u32::try_from(reductions) {
-        Ok(short) => EntryForm::Short(PackedEntry::Run(short)),
-        Err(_) => EntryForm::Long(LongEntry::Run(reductions)),
+    let form = if reductions <= u32::MAX as u64 {
+        EntryForm::Short(PackedEntry::Run(reductions as u32))
+    } else {
+        EntryForm::Long(LongEntry::Run(reductions))
     };
     PendingEntry { rules, form }
 }

@@ -1,6 +1,6 @@
 // The reader of a journal's text.
 
-ghost use Rattle.std.specs.Prelude.{◌≡◌, ◌≤◌, [], Some, IfOk, bytes_eq, option_map, option_and_then, is_some};
+ghost use Rattle.std.specs.Prelude.{◌≡◌, ◌≤◌, [], Some, IfOk, IfSome, bytes_eq, option_map, option_and_then, is_some};
 ghost use Rattle.std.specs.List.{list_any};
 ghost use Rattle.kl1_model.specs.declared.limits.TheConstants.{MOST_SESSIONS};
 ghost use Rattle.kl1_model.specs.Rules.{limits_of};
@@ -43,6 +43,7 @@ fn prepared_for(alloc: Global, rules: Rules, deed: &Deed) -> Result<PendingEntry
 fn found_in(alloc: Global, rules: Rules, line: &[u8]) -> Result<Option<Found>, AllocError>
     ensures deed { IfOk result (λ found. option_and_then found_deed found ≡ entry_in rules line.now) }
     ensures entry { IfOk result (λ found. option_map found_entry found ≡ option_map (λ e. Some e) (entry_in rules line.now)) }
+    ensures rules { IfOk result (λ found. IfSome found (λ f. f.prepared.rules ≡ rules)) }
 {
     if line.len() > MOST_LINE_BYTES {
         return Ok(None);
@@ -134,10 +135,9 @@ fn read_entries(
 ) -> Result<Option<Journal>, AllocError>
     ensures { IfOk result (λ read. option_map (λ j. j.journal) read ≡ read_text journal.journal text.now) }
 {
-    let rules = journal.rules();
     let mut rest = text;
     while let Some((line, after)) = next_line(rest) {
-        let Some(Found { prepared, .. }) = found_in(alloc, rules, line)? else {
+        let Some(Found { prepared, .. }) = found_in(alloc, journal.rules(), line)? else {
             return Ok(None);
         };
         journal.reserve()?;

@@ -7,21 +7,25 @@ use Rattle.kl1_model.specs.Term.{Term, variable, integer, atom, structure, Terms
 use Rattle.kl1_model.specs.Module.{is_among}
 use Rattle.kl1_model.specs.Meaning.{variables_of, variables_in, numbered_after, is_numbered, highest, highest_in}
 use Rattle.kl1_model.specs.Telling.{new_among, place_among}
-use Rattle.kl1_term.specs.Telling.{anew}
+use Rattle.kl1_term.specs.Telling.{anew, renumbered}
 use Rattle.kl1_term.proofs.Renumbering.{place_same, place_other, among_same, among_other, place_kept, place_new, among_new, goes_on}
 
--- they are the places of those that it had
+-- those of a term with other numbers are these numbers
 mutual
-  pub variables_anew : (seen : List ℕ) (t : Term) → variables_of (anew seen t) ≡ map (place_among seen) (variables_of t)
-  variables_anew seen (variable n) = refl
-  variables_anew seen (integer i) = refl
-  variables_anew seen (atom a) = refl
-  variables_anew seen (structure f ts) = each_anew seen ts
+  pub variables_renumbered : (f : ℕ → ℕ) (t : Term) → variables_of (renumbered f t) ≡ map f (variables_of t)
+  variables_renumbered f (variable n) = refl
+  variables_renumbered f (integer i) = refl
+  variables_renumbered f (atom a) = refl
+  variables_renumbered f (structure a ts) = each_renumbered f ts
 
-  each_anew : (seen : List ℕ) (ts : Terms) → variables_in (each_substituted (λ n. variable (place_among seen n)) ts) ≡ map (place_among seen) (variables_in ts)
-  each_anew seen none = refl
-  each_anew seen (more t ts) =
-      ap₂ (λ (x y : List ℕ). x ++ y) (variables_anew seen t) (each_anew seen ts) ∙ sym (map-append (place_among seen) (variables_of t) (variables_in ts))
+  each_renumbered : (f : ℕ → ℕ) (ts : Terms) → variables_in (each_substituted (λ n. variable (f n)) ts) ≡ map f (variables_in ts)
+  each_renumbered f none = refl
+  each_renumbered f (more t ts) =
+      ap₂ (λ (x y : List ℕ). x ++ y) (variables_renumbered f t) (each_renumbered f ts) ∙ sym (map-append f (variables_of t) (variables_in ts))
+
+-- they are the places of those that it had
+pub variables_anew : (seen : List ℕ) (t : Term) → variables_of (anew seen t) ≡ map (place_among seen) (variables_of t)
+variables_anew seen t = variables_renumbered (place_among seen) t
 
 -- a number that was seen has a place, which is none beyond
 place_from : (seen : List ℕ) (n : ℕ) → 1 ≤ place_among seen n
@@ -88,7 +92,7 @@ order_on seen (n ∷ ns) = by (is_among n seen) refl
         in_order (length seen) (place_among all n) (map (place_among all) ns) (omega (arith, p)) (omega (arith, p)) (ap (λ k. numbered_after k (map (place_among all) ns)) same ∙ order_on now ns)
 
 -- the greatest of numbers
-abbrev top : List ℕ → ℕ
+abbrev pub top : List ℕ → ℕ
 top [] = 0
 top (v ∷ vs) = max v (top vs)
 
@@ -97,7 +101,7 @@ top_append [] ys = omega arith
 top_append (x ∷ xs) ys = let h = top_append xs ys in omega (arith, h)
 
 mutual
-  highest_top : (t : Term) → highest t ≡ top (variables_of t)
+  pub highest_top : (t : Term) → highest t ≡ top (variables_of t)
   highest_top (variable n) = omega arith
   highest_top (integer i) = refl
   highest_top (atom a) = refl

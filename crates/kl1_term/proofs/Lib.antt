@@ -10,3 +10,4 @@ pub mod Texts
 pub mod VariableFacts
 pub mod Renumbering
 pub mod Anew
+pub mod Untold

@@ -44,7 +44,7 @@ pub among_new : (seen : List ℕ) (n : ℕ) → is_among n (seen ++ n ∷ []) �
 among_new [] n = among_same n n [] refl
 among_new (m ∷ ms) n = ap (λ b. (n == m) || b) (among_new ms n) ∙ or_true (n == m)
 
-among_apart : (seen : List ℕ) (n k : ℕ) → (n ≡ k → ⊥) → is_among k (seen ++ n ∷ []) ≡ is_among k seen
+pub among_apart : (seen : List ℕ) (n k : ℕ) → (n ≡ k → ⊥) → is_among k (seen ++ n ∷ []) ≡ is_among k seen
 among_apart [] n k d = among_other n k [] d
 among_apart (m ∷ ms) n k d = ap (λ b. (k == m) || b) (among_apart ms n k d)
 

@@ -5,4 +5,5 @@ pub mod Openings
 pub mod Page
 pub mod Printing
 pub mod Telling
+pub mod UntoldLaws
 pub mod Variables
