@@ -111,9 +111,8 @@ row_longer ws ss zero n is some = absurd (omega (arith, some))
 row_longer ws ss (suc k) n is some =
     run_last ws ss (suc k + 1) n is ∙ ap (λ m. without_last (map (entry_at ws) ss) ++ runs m ∷ []) (let e : suc k + 1 ≡ suc (suc k) = omega arith in e)
 
-pub row_begun : (ws : List LongEntry) (ss : List PackedEntry) (k : ℕ) → k ≡ 0 → map (entry_at ws) (ss ++ slot.Run (k + 1) ∷ []) ≡ lengthened (map (entry_at ws) ss) k
-row_begun ws ss k none =
-    ap (λ m. map (entry_at ws) (ss ++ slot.Run (m + 1) ∷ [])) none ∙ map-append (entry_at ws) ss (slot.Run 1 ∷ []) ∙ ap (lengthened (map (entry_at ws) ss)) (sym none)
+pub row_begun : (ws : List LongEntry) (ss : List PackedEntry) (k : ℕ) → k ≡ 0 → map (entry_at ws) (ss ++ slot.Run 1 ∷ []) ≡ lengthened (map (entry_at ws) ss) k
+row_begun ws ss k none = map-append (entry_at ws) ss (slot.Run 1 ∷ []) ∙ ap (lengthened (map (entry_at ws) ss)) (sym none)
 
 -- a run that may be longer is, and else a new one begins
 longer_by : (b : Bool) (es : List Entry) (n : ℕ) → nat_lt (suc n) MOST_RUN ≡ b → (if b then without_last es ++ runs (suc (suc n)) ∷ [] else es ++ runs 1 ∷ []) ≡ lengthened es (if b then suc n else 0)

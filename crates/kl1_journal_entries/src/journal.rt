@@ -193,8 +193,10 @@ impl Journal {
     {
         if before > 0 {
             self.slots.pop();
+            self.slots.push_reserved(PackedEntry::Run(before + 1));
+        } else {
+            self.slots.push_reserved(PackedEntry::Run(1));
         }
-        self.slots.push_reserved(PackedEntry::Run(before + 1));
     }
 
     /// Sets how many sessions are open.

@@ -1,8 +1,10 @@
-use Rattle.std.proofs.Common.{◌≡◌, ◌∙◌, ap, subst}
+use Rattle.std.proofs.Common.{◌≡◌, ◌∙◌, ap, sym, subst}
 use Rattle.kl1_model_server.specs.Journal.{done}
 use Rattle.kl1_user_events.specs.Views.{event_of, reply_of}
 use Rattle.kl1_tally.specs.declared.amounts.TheConstants.{MOST_ACCOUNTS}
 use Rattle.kl1_journal.specs.Keeping.{Held, kept_of}
+use Rattle.kl1_model.specs.declared.rules.Rules.{Rules}
+use Rattle.kl1_pool.specs.Parts.{HasRoomFor}
 use Rattle.kl1_pool.specs.PoolAccounts.{StandsIn, PoolAccountValue}
 use Rattle.kl1_command.specs.Told.{events_by, steps_by}
 use Rattle.std.specs.Prelude.{slice_get}
@@ -11,6 +13,10 @@ use Rattle.kl1_pool.proofs.Shown.{held_follows}
 use Rattle.kl1_pool.proofs.Tells.{ended_is}
 use Rattle.kl1_pool.proofs.PoolAccounts.{held_counts, kept_counts, of_tally, within, placed_in, held_stays, named_still}
 use Rattle.kl1_pool.proofs.pool_account.PoolAccount.apply.Goals as goal
+
+-- the seat has room for the names of the account's rules
+pub apply-requires-clause-room : goal.apply-requires-clause-room
+apply-requires-clause-room g c = subst (λ (of : Rules). HasRoomFor of c.self.inside.kept.0) (sym c.self.invariant.5) c.self.invariant.0.1
 
 pub count-requires-clause-one : goal.count-requires-clause-one
 count-requires-clause-one g c =

@@ -5,11 +5,17 @@ use Rattle.kl1_user_events.specs.Views.{reduced_or}
 use Rattle.kl1_tally.specs.declared.amounts.TheConstants.{MOST_ACCOUNTS}
 use Rattle.std.specs.Prelude.{slice_get}
 use Rattle.kl1_tally.specs.Seats.{Book}
+use Rattle.kl1_model.specs.declared.rules.Rules.{Rules}
+use Rattle.kl1_pool.specs.Parts.{HasRoomFor}
 use Rattle.kl1_pool.specs.PoolAccounts.{StandsIn, PoolAccountValue}
 use Rattle.kl1_command.specs.Told.{events_by, steps_by}
 use Rattle.kl1_pool.proofs.Shown.{held_follows}
 use Rattle.kl1_pool.proofs.PoolAccounts.{held_counts, kept_counts, of_tally, within, step_past, step_ended, held_stays, named_still}
 use Rattle.kl1_pool.proofs.pool_account.PoolAccount.reduce.Goals as goal
+
+-- the seat has room for the names of the account's rules
+pub reduce-requires-clause-room : goal.reduce-requires-clause-room
+reduce-requires-clause-room g c = subst (λ (of : Rules). HasRoomFor of c.self.inside.kept.0) (sym c.self.invariant.5) c.self.invariant.0.1
 
 pub invariant_of-self-2 : goal.invariant_of-self-2
 invariant_of-self-2 g c =
