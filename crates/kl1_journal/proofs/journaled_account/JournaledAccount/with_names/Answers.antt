@@ -10,7 +10,7 @@ use Rattle.kl1_journal.proofs.NameLists.{list_of_names}
 use Rattle.kl1_journal.proofs.journaled_account.JournaledAccount.with_names.Goals as goal
 
 pub with_names-requires-2-clause-list : goal.with_names-requires-2-clause-list
-with_names-requires-2-clause-list g c = list_of_names c.args.texts.now c.requires.names
+with_names-requires-2-clause-list g c = list_of_names c.args.rules c.args.texts.now c.requires.names
 
 pub invariant_of-result : goal.invariant_of-result
 invariant_of-result g c =
