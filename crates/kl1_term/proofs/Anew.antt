@@ -28,7 +28,7 @@ pub variables_anew : (seen : List ℕ) (t : Term) → variables_of (anew seen t)
 variables_anew seen t = variables_renumbered (place_among seen) t
 
 -- a number that was seen has a place, which is none beyond
-place_from : (seen : List ℕ) (n : ℕ) → 1 ≤ place_among seen n
+pub place_from : (seen : List ℕ) (n : ℕ) → 1 ≤ place_among seen n
 place_from [] n = omega arith
 place_from (m ∷ ms) n = by (m == n)
   where

@@ -10,10 +10,7 @@ use Rattle.kl1_match.specs.GoalCells.{new_in, told_at}
 use Rattle.kl1_term.specs.Telling.{anew}
 use Rattle.kl1_term.proofs.Renumbering.{place_same, place_other, among_same, among_other, among_kept, among_new, goes_on}
 use Rattle.kl1_term.proofs.Anew.{place_from}
-
--- a number if it is told
-abbrev pub tell : Option Asked → ℕ → Option ℕ
-tell a n = if stands_at a n then Some n else None
+use Rattle.kl1_user_account.specs.Giving.{tell}
 
 -- those of numbers that aren't told
 abbrev pub untold : Option Asked → List ℕ → List ℕ
@@ -93,7 +90,7 @@ stands_for a next (m ∷ ms) n e = by (cases_eq m n)
         ap (told_at next (map (tell a) (m ∷ ms))) at ∙ later (stands_at a m) d
 
 -- each of numbers is among those seen at the end
-abbrev Each : (ℕ → Type 0) → List ℕ → Type 0
+abbrev pub Each : (ℕ → Type 0) → List ℕ → Type 0
 Each P [] = Unit {0}
 Each P (n ∷ ns) = P n × Each P ns
 
@@ -105,11 +102,11 @@ seen_each seen (n ∷ ns) = by (is_among n seen) refl
     by true e = let on = goes_on seen ns in (ap (is_among n) on.all_are ∙ among_kept seen on.rest n e, seen_each seen ns)
     by false e = let on = goes_on (seen ++ n ∷ []) ns in (ap (is_among n) on.all_are ∙ among_kept (seen ++ n ∷ []) on.rest n (among_new seen n), seen_each (seen ++ n ∷ []) ns)
 
-each_front : (P : ℕ → Type 0) (xs ys : List ℕ) → Each P (xs ++ ys) → Each P xs
+pub each_front : (P : ℕ → Type 0) (xs ys : List ℕ) → Each P (xs ++ ys) → Each P xs
 each_front P [] ys h = tt
 each_front P (x ∷ xs) ys h = (h.0, each_front P xs ys h.1)
 
-each_back : (P : ℕ → Type 0) (xs ys : List ℕ) → Each P (xs ++ ys) → Each P ys
+pub each_back : (P : ℕ → Type 0) (xs ys : List ℕ) → Each P (xs ++ ys) → Each P ys
 each_back P [] ys h = h
 each_back P (x ∷ xs) ys h = each_back P xs ys h.1
 

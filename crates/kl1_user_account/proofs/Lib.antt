@@ -27,3 +27,6 @@ mod Loaded
 mod Started
 pub mod Words
 pub mod Givings
+pub mod GivenShapes
+pub mod ToldAmong
+mod GivenGoals

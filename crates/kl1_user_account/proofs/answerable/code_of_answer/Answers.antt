@@ -28,11 +28,8 @@ asked_at-asked-requires c =
     let m = c.args.machine.now in
     (origin_in m.store.held c.args.number m.shoens.shoens c.in-Some.origin c.requires.shoens (sym c.origin_at.ensures ∙ c.in-Some.is)).reports
 
-pub given_for-given-requires-clause-numbered : goal.given_for-given-requires-clause-numbered
-given_for-given-requires-clause-numbered c = (may_answer_is c.args.machine.now.rules c.args.number c.args.report c.args.goal.now (sym c.in_ok-may_answer.ensures ∙ c.if-not-branch.false)).1
-
-pub given_for-given-requires-clause-goal : goal.given_for-given-requires-clause-goal
-given_for-given-requires-clause-goal c = (may_answer_is c.args.machine.now.rules c.args.number c.args.report c.args.goal.now (sym c.in_ok-may_answer.ensures ∙ c.if-not-branch.false)).0
+pub given_for-requires-clause-numbered : goal.given_for-requires-clause-numbered
+given_for-requires-clause-numbered c = (may_answer_is c.args.machine.now.rules c.args.number c.args.report c.args.goal.now (sym c.in_ok-may_answer.ensures ∙ c.if-not-branch.false)).1
 
 judged : (c : goal.After-refusal_of) (o : Option Refusal) → ((s : State) (after : Transition) → unless s (refusals_of c.args.counted c.args.machine.now.names.names c.names.result.now c.has_room_to_answer-has_room.result) after ≡ refused_or s after o) →
     let m = c.args.machine.now in
