@@ -30,3 +30,4 @@ pub mod Givings
 pub mod GivenShapes
 pub mod ToldAmong
 mod GivenGoals
+mod ForgetSteps

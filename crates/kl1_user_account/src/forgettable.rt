@@ -55,7 +55,7 @@ pub(crate) fn forgetting_of(
     number: u64,
     count: u64,
 ) -> Forgetting
-    requires shoens { AreShoensIn machine.now.store.held machine.now.shoens.shoens }
+    requires { AreShoensIn machine.now.store.held machine.now.shoens.shoens }
     ensures { ForgetsAs machine.now.rules machine.now.store.held machine.now.shoens.shoens is_full number count result }
 {
     if !may_forget(machine.rules, number, count) {
