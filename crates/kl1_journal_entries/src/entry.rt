@@ -44,7 +44,10 @@ pub enum Entry<'a> {
         told: bool,
     },
     /// The first reports of a shoen let go, or the shoen itself if `count` is 0.
-    Forget { shoen: ShoenNo, count: u64 },
+    Forget {
+        shoen: ShoenNo,
+        count: u64,
+    },
 }
 
 /// An entry that is kept whole.

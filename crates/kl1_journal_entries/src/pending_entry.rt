@@ -17,8 +17,8 @@ use crate::lines::is_entry_line;
 use crate::long_entry::LongEntry;
 use crate::packed_entry::PackedEntry;
 use itoa::Buffer;
-use kl1_model::{Message, Rules};
 use kl1_model::limits::{MOST_LINE_BYTES, NUMBER_LIMIT};
+use kl1_model::{Message, Rules};
 use kl1_read::is_goal;
 use kl1_term::{Term, print_whole};
 use kl1_user_events::Event;
@@ -88,11 +88,7 @@ pub fn is_entry(event: &Event) -> bool
 
 /// What an event is in a journal of these rules, if it is accepted: an entry, or nothing for a query, for a session that is opened or closed, and for
 /// a reset. The print of a goal, which the entry keeps, is made once. Of an event whose line couldn't be read back it is nothing too; no such event is accepted.
-pub fn entry_for(
-    alloc: Global,
-    rules: Rules,
-    event: &Event,
-) -> Result<PendingEntry, AllocError>
+pub fn entry_for(alloc: Global, rules: Rules, event: &Event) -> Result<PendingEntry, AllocError>
     ensures entry { IfOk result (λ p. p ≡ pending rules (lined_entry rules (event_of event.now))) }
     ensures nothing { is_entry (event_of event.now) ≡ false → IsOk result }
 {

@@ -1,4 +1,5 @@
 -- What changes of shoens leave since an event began.
+use Rattle.kl1_shoen.specs.Changes.{reports_left}
 use Rattle.kl1_machine.proofs.Words.{rules, ◌≡◌, ℕ, ◌+◌, ◌-◌, ◌≤◌, ◌==◌, ◌||◌, Bool, true, false, List, [], ◌∷◌, ◌++◌, length, refl, sym, ap, ◌∙◌, arith, Vec, Option, Some, None, option_map, OnOk, OnErr, AllByRecursion, Result, Ok, Err, eqb-false, eq-eqb, on_ok_weaker, is_among, CellName, Cell, Held, IsIn, Goal, is_monitor_of, Tabled, Shoen, Origin, Tree, changed, AreNumbered, AreLower, with_control, IsOwned, AreOwned, IsOriginIn, IsShoenIn, AreShoensIn, KeepsBy, plain, IsCalm, SameFlags, outline, KeepsOutlines, KeepsOthers, keeps_changed, keeps_more, calm_controlled, others_keep, outlines_controlled, Machine, trail_of, IsMachine, Becomes, Charges, any_reached, having_shoens, shifting_shoens, with_shoen, KeepsControl, Since, StillSince, IsOnlyMonitor, shoens_changed, changed_count, inl, inr, cases_Bool, list_any-append, or_parts, or-true, all_append, all_then, ap₂, eqb-true, false≢true, has_number, is_living, is_on_path_in, aborted_below_in, control_left, control_at, left_by, leaving, AreElsewhere, HasNoMonitor, outlines_leaving, length-map}
 use Rattle.std.specs.Prelude.{map, if◌then◌else◌}
 use Rattle.std.proofs.lemmas.List.{length-append}
@@ -268,6 +269,11 @@ since_opened b m x room tree i s =
 pub origin_kept : (h : Held CellName) (o : Option (Origin CellName)) (x : Cell CellName) → IsIn h x → IsOriginIn h o → IsOriginIn h (option_map (with_control x) o)
 origin_kept h None x inside i = tt
 origin_kept h (Some o) x inside i = record { goal = i.goal; reports = i.reports; control = inside }
+
+-- so is one with this left of its reports
+pub origin_left : (h : Held CellName) (o : Option (Origin CellName)) (count : ℕ) (x : Cell CellName) → IsIn h x → IsOriginIn h o → IsOriginIn h (option_map (reports_left count x) o)
+origin_left h None count x inside i = tt
+origin_left h (Some o) count x inside i = record { goal = i.goal; reports = inside; control = i.control }
 
 -- one shoen that has changed so that goals may step as before, and another count of reports
 pub since_changed : (b m : Machine) (n reports : ℕ) (f : Shoen CellName → Shoen CellName) → IsQuiet f → IsTree m.shoens → IsMachine m → Since b m → Since b (record m { shoens = with_shoens (changed n f m.shoens.shoens) m.shoens; counts = record m.counts { reports = reports } })

@@ -266,7 +266,7 @@ impl<'t, R: Wait, K: PoolIds> Pool<'t, R, K> {
             places,
             named: _,
             most_bytes: _,
-                rules: _,
+            rules: _,
         } = self;
         drop_all(places);
     }

@@ -77,6 +77,7 @@ seen_is {N = N} f h ls x n p levels sees inside free = by (cases_eq (level_at ls
     in_term : ((level_at ls.variables.items n ≡ 0) → ⊥) → (level_at ls.variables.items n ≡ 0) ⊎ ((g : N → List ℕ) → occurs n (term_of g h x) ≡ true) → occurs n (term_of f h x) ≡ true
     in_term ne (inl e) = absurd (ne e)
     in_term ne (inr q) = q f
+
     by : (level_at ls.variables.items n ≡ 0) ⊎ (level_at ls.variables.items n ≡ 0 → ⊥) → nat_lt 0 (level_at ls.variables.items n) ≡ occurs n (term_of f h x)
     by (inl e) =
         le-ltb 0 (level_at ls.variables.items n) (omega (arith, e))

@@ -30,8 +30,10 @@ both_tests gone count all rest = by (cases_lt gone count) (cases_lt all (count -
   where
     Goal : Bool → Bool → Bool → Type 0
     Goal a b c = (a && b && rest) ≡ (a && (c && rest))
+
     put : (a b c : Bool) → nat_lt gone count ≡ a → nat_le count (gone + all) ≡ b → nat_le (count - gone) all ≡ c → Goal a b c → Goal (nat_lt gone count) (nat_le count (gone + all)) (nat_le (count - gone) all)
     put a b c x y z h = subst (λ p. Goal p (nat_le count (gone + all)) (nat_le (count - gone) all)) (sym x) (subst (λ p. Goal a p (nat_le (count - gone) all)) (sym y) (subst (λ p. Goal a b p) (sym z) h))
+
     by : (gone < count) ⊎ (count ≤ gone) → (all < count - gone) ⊎ (count - gone ≤ all) → Goal (nat_lt gone count) (nat_le count (gone + all)) (nat_le (count - gone) all)
     by (inl lt) (inl beyond) = put true false false (lt-ltb gone count lt) (lt-leb count (gone + all) (omega (arith, lt, beyond))) (lt-leb (count - gone) all beyond) refl
     by (inl lt) (inr le) = put true true true (lt-ltb gone count lt) (le-leb count (gone + all) (omega (arith, lt, le))) (le-leb (count - gone) all le) refl
@@ -127,18 +129,25 @@ module _ (rules : Rules) (h : Held CellName) (ss : List (Shoen CellName)) (full 
 
   pub goes_in_part : (o : Origin CellName) (lives : Bool) (x : Cell CellName) → (has_forgetting rules && may_forget n count) ≡ true → kept_at n ss ≡ Some o → full ≡ false → 0 < count → lives_in ss n ≡ lives →
       LeavesReports h o lives count (Some x) → ForgetsAs rules h ss full n count (Reports x)
-  goes_in_part o lives x e kept is some lives_is leaves = (leaves.0, (o, λ f reads s goals same fulls.
-      let S = with_kept f s h goals ss in
-      let O = origin_with (meaning f h) o in
-      let left = leaves.1 f reads in
-      let may : may_go_by lives count O ≡ true = may_go_is f h o lives count some ∙ both_true (nat_lt o.forgotten count) (may_leave lives (count - o.forgotten) (meaning f h o.reports)) left.0 left.1.may in
-      let with : Term → Transition = λ r. record { state = with_entry (change_shoen n (with_origin (record { goal = O.goal; forgotten = count; reports = r; control = O.control })) S); reply = forgot } in
-      by_kept o lives true e kept lives_is f s goals same fulls may
-      ∙ (ap (λ b. if b then refuse S journal_full else (record { state = with_entry (gone n count O S); reply = forgot })) is
-      ∙ (some_gone S O count some ∙ ap with (sym left.1.left)))))
+  goes_in_part o lives x e kept is some lives_is leaves = (
+    leaves.0,
+    (
+      o,
+      λ f reads s goals same fulls.
+          let S = with_kept f s h goals ss in
+          let O = origin_with (meaning f h) o in
+          let left = leaves.1 f reads in
+          let may : may_go_by lives count O ≡ true = may_go_is f h o lives count some ∙ both_true (nat_lt o.forgotten count) (may_leave lives (count - o.forgotten) (meaning f h o.reports)) left.0 left.1.may in
+          let with : Term → Transition = λ r. record { state = with_entry (change_shoen n (with_origin (record { goal = O.goal; forgotten = count; reports = r; control = O.control })) S); reply = forgot } in
+          by_kept o lives true e kept lives_is f s goals same fulls may
+          ∙ (ap (λ b. if b then refuse S journal_full else (record { state = with_entry (gone n count O S); reply = forgot })) is
+          ∙ (some_gone S O count some ∙ ap with (sym left.1.left))),
+    ),
+  )
     where
       both_true : (a b : Bool) → a ≡ true → b ≡ true → (a && b) ≡ true
       both_true a b p q = ap (λ c. c && b) p ∙ q
+
       some_gone : (S : State) (O : Tails) (k : ℕ) → 0 < k →
           (let z : Transition = record { state = with_entry (gone n k O S); reply = forgot } in z) ≡ (let z : Transition = record { state = with_entry (change_shoen n (with_origin (without_reports k O)) S); reply = forgot } in z)
       some_gone S O zero lt = absurd (omega (arith, lt))

@@ -123,10 +123,10 @@ given_by_numbers rules h a goal g has code_is numbered new_is told_is gone_is =
           let last = s.last_variable in
           let stands : List (Option ℕ) → ℕ → Term = λ ts v. variable (told_at (suc last) ts (v - 1)) in
           let one : (v : ℕ) → 1 ≤ v → variable (last + v) ≡ stands (replicate n None) v = λ v low.
-              let at = nones_at (suc last) n (v - 1) in
-              ap variable (let e : last + v ≡ told_at (suc last) (replicate n None) (v - 1) = omega (arith, at, low) in e) in
+          let at = nones_at (suc last) n (v - 1) in
+          ap variable (let e : last + v ≡ told_at (suc last) (replicate n None) (v - 1) = omega (arith, at, low) in e) in
           let goals : with_next_variables last goal ≡ substituted (stands (replicate n None)) goal =
-              agree (λ v. variable (last + v)) (stands (replicate n None)) goal (each_of (λ v. variable (last + v) ≡ stands (replicate n None) v) (variables_of goal) one (numbered_from_one 0 (variables_of goal) numbered)) in
+          agree (λ v. variable (last + v)) (stands (replicate n None)) goal (each_of (λ v. variable (last + v) ≡ stands (replicate n None) v) (variables_of goal) one (numbered_from_one 0 (variables_of goal) numbered)) in
           let G : Term → ℕ → Bool → model.Given = λ t k b. record { goal = t; new = k; tells_gone = b } in
           ap (λ b. given_if b asked last goal) (ap has_told rules_are ∙ has)
           ∙ (ap (λ t. G t n false) goals

@@ -53,6 +53,7 @@ new_are a seen (n ∷ ns) = by (stands_at a n) (is_among n seen) refl refl
     Goal : Bool → Bool → Type 0
     Goal s w = (if s || is_among n (untold a seen) then new_among a (untold a seen) ns else new_among a (untold a seen ++ n ∷ []) ns)
         ≡ untold a (if w then new_among None seen ns else new_among None (seen ++ n ∷ []) ns)
+
     by : (s w : Bool) → stands_at a n ≡ s → is_among n seen ≡ w → Goal s w
     by true true st am = new_are a seen ns
     by true false st am = ap (λ xs. new_among a xs ns) (sym (untold_more a seen n true st)) ∙ new_are a (seen ++ n ∷ []) ns
@@ -70,15 +71,18 @@ stands_for a next (m ∷ ms) n e = by (cases_eq m n)
   where
     Want : ℕ → Bool → List ℕ → Type 0
     Want k s rest = told_at next (tell a m ∷ map (tell a) ms) k ≡ (if s then n else next + place_among rest n - 1)
+
     first : (s : Bool) → stands_at a m ≡ s → m ≡ n → told_at next ((if s then Some m else None) ∷ map (tell a) ms) 0 ≡ (if s then n else next + place_among (if s then untold a ms else m ∷ untold a ms) n - 1)
     first true s is = is
     first false s is = let p = place_same m n (untold a ms) is in omega (arith, p)
+
     later : (s : Bool) → (m ≡ n → ⊥) → told_at next ((if s then Some m else None) ∷ map (tell a) ms) (suc (place_among ms n - 1)) ≡ (if stands_at a n then n else next + place_among (if s then untold a ms else m ∷ untold a ms) n - 1)
     later true d = stands_for a next ms n (sym (among_other m n ms d) ∙ e)
     later false d =
         let p = place_other m n (untold a ms) d in
         let q : suc next + place_among (untold a ms) n - 1 ≡ next + place_among (m ∷ untold a ms) n - 1 = omega (arith, p, place_from (untold a ms) n) in
         stands_for a (suc next) ms n (sym (among_other m n ms d) ∙ e) ∙ ap (λ k. if stands_at a n then n else k) q
+
     by : (m ≡ n) ⊎ (m ≡ n → ⊥) → told_at next (map (tell a) (m ∷ ms)) (place_among (m ∷ ms) n - 1) ≡ (if stands_at a n then n else next + place_among (untold a (m ∷ ms)) n - 1)
     by (inl is) =
         let p = place_same m n ms is in
@@ -134,6 +138,7 @@ any_among p (m ∷ ms) n e q = by (cases_eq m n)
     or_right : (b : Bool) → (b || true) ≡ true
     or_right true = refl
     or_right false = refl
+
     by : (m ≡ n) ⊎ (m ≡ n → ⊥) → (p m || list_any p ms) ≡ true
     by (inl is) = ap (λ b. b || list_any p ms) (ap p is ∙ q)
     by (inr d) = ap (λ b. p m || b) (any_among p ms n (sym (among_other m n ms d) ∙ e) q) ∙ or_right (p m)
@@ -162,6 +167,7 @@ any_once p seen (n ∷ ns) = by (is_among n seen) refl
     known true w r h = refl
     known false true r h = absurd (false≢true (h refl))
     known false false r h = refl
+
     by : (b : Bool) → is_among n seen ≡ b → list_any p (if b then new_among None seen ns else new_among None (seen ++ n ∷ []) ns) ≡ (list_any p seen || (p n || list_any p ns))
     by true e = any_once p seen ns ∙ known (list_any p seen) (p n) (list_any p ns) (λ q. any_among p seen n e q)
     by false e = any_once p (seen ++ n ∷ []) ns ∙ any_more p seen n (list_any p ns)

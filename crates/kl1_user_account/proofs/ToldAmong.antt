@@ -38,6 +38,7 @@ told_from_one seen (v ∷ vs) e = by (cases_lt v FIRST_UNTOLD)
   where
     Rest : Bool → Type 0
     Rest b = (if b then nat_le 1 v && told_after seen vs else nat_le v (FIRST_UNTOLD + seen) && is_number v && told_after (max seen (suc v - FIRST_UNTOLD)) vs) ≡ true
+
     by : (v < FIRST_UNTOLD) ⊎ (FIRST_UNTOLD ≤ v) → AreFromOne (v ∷ vs)
     by (inl lt) =
         let h : Rest true = subst Rest (lt-ltb v FIRST_UNTOLD lt) e in
@@ -97,6 +98,7 @@ stands_is f h (Some x) n stands made formed inside at is = by stands refl ∙ ap
   where
     other : Bool
     other = not (n == x.new)
+
     by : (b : Bool) → stands ≡ b → (made && (stands && other)) ≡ (stands && other)
     by true e =
         let there : IsUnbound h n = occurs_free f h n x.goal formed inside.goal (sym at ∙ e) in
@@ -197,6 +199,7 @@ all_free f h (Some x) (n ∷ ns) formed inside = by (stands_at (Some (asked_of f
   where
     rest : List (Option ℕ)
     rest = map (tell (Some (asked_of f h x))) ns
+
     by : (b : Bool) → stands_at (Some (asked_of f h x)) n ≡ b → AreTold h ((if b then Some n else None) ∷ rest)
     by true s = (occurs_free f h n x.goal formed inside.goal (and_parts (occurs n (term_of f h x.goal)) (not (n == x.new)) s).0, all_free f h (Some x) ns formed inside)
     by false s = all_free f h (Some x) ns formed inside
@@ -208,6 +211,7 @@ others_in f h x (n ∷ ns) = by (stands_at (Some (asked_of f h x)) n) refl
   where
     rest : List (Option ℕ)
     rest = map (tell (Some (asked_of f h x))) ns
+
     by : (b : Bool) → stands_at (Some (asked_of f h x)) n ≡ b → AreOthers x.new ((if b then Some n else None) ∷ rest)
     by true s =
         let other : not (n == x.new) ≡ true = (and_parts (occurs n (term_of f h x.goal)) (not (n == x.new)) s).1 in

@@ -49,12 +49,7 @@ fn may_forget(rules: Rules, number: u64, count: u64) -> bool
 
 /// What comes of letting go the first `count` reports of shoen `number`, or the shoen if that is 0, in an account with this machine, whose
 /// journal is full or not.
-pub(crate) fn forgetting_of(
-    machine: &Machine,
-    is_full: bool,
-    number: u64,
-    count: u64,
-) -> Forgetting
+pub(crate) fn forgetting_of(machine: &Machine, is_full: bool, number: u64, count: u64) -> Forgetting
     requires { AreShoensIn machine.now.store.held machine.now.shoens.shoens }
     ensures { ForgetsAs machine.now.rules machine.now.store.held machine.now.shoens.shoens is_full number count result }
 {

@@ -99,12 +99,7 @@ fn is_other(asked: Option<Asking<CellName>>, number: u64) -> bool
 
 /// The variable that a number tells to an exception that may be there: one that the account has made, that stands in the exception's goal,
 /// and isn't what the substitute waits for.
-fn told_by(
-    asked: Option<Asking<CellName>>,
-    number: u64,
-    stands: bool,
-    made: bool,
-) -> Option<u32>
+fn told_by(asked: Option<Asking<CellName>>, number: u64, stands: bool, made: bool) -> Option<u32>
     requires { made ≡ true → number < 2 ^ 32 }
     ensures { IsToldBy asked number stands made result }
 {

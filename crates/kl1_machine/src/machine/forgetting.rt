@@ -8,7 +8,7 @@ ghost use Rattle.kl1_machine.specs.Machines.{IsMachine, IsBegun, Keeps};
 ghost use Rattle.kl1_machine.specs.Effects.{Becomes, having_shoens};
 ghost use Rattle.kl1_machine.specs.Since.{Since, StillSince};
 ghost use Rattle.kl1_machine.specs.Rested.{IsRested};
-ghost use Rattle.kl1_machine.specs.Forgetting.{none_left, Forgets, ForgetsReports, AreToldOf};
+ghost use Rattle.kl1_machine.specs.Forgetting.{none_left, forgetting_reports, Forgets, ForgetsReports, AreToldOf};
 
 use crate::machine::Machine;
 use kl1_codes::{CodeSource, CodedModules};
@@ -19,6 +19,23 @@ use kl1_text::{CellName, NameValue};
 use std::alloc::AllocError;
 
 impl Machine {
+    /// Leaves this alone of what the console keeps of the reports of shoen `number`, after its first `count`.
+    fn leave_reports(
+        &mut self,
+        number: u64,
+        count: u64,
+        left: Cell<CellName>,
+    ) -> Result<(), AllocError>
+        requires machine { IsMachine self.old }
+        requires inside { IsIn self.old.store.held left }
+        ensures ok { OnOk result (Becomes (forgetting_reports number count left self.old) self.new) }
+        ensures since { (b : Machine) → Since b self.old → StillSince result b self.new }
+    {
+        // Only for the proof: the shoens are numbered in order.
+        let _numbered = self.shoens.len();
+        self.shoens.forget_reports(number, count, left)
+    }
+
     /// Lets the first `count` reports go of shoen `number`, which the console started, so that this is left. An event has begun.
     pub fn forget_reports<C: CodeSource>(
         &mut self,
@@ -35,9 +52,7 @@ impl Machine {
         ensures rested { OnOk result (IsRested modules.now self.new) }
         ensures keeps { Keeps self.old self.new }
     {
-        // Only for the proof: the shoens are numbered in order.
-        let _numbered = self.shoens.len();
-        self.shoens.forget_reports(number, count, left)?;
+        self.leave_reports(number, count, left)?;
         self.reschedule_anew(modules, trial)
     }
 

@@ -3,7 +3,7 @@ use Rattle.kl1_journal_entries.specs.Slots.{goal_or, goal_in, answer_in}
 use Rattle.kl1_pool.proofs.restored_deed.answer_of.Goals as goal
 
 pub returns-then-not-told : goal.returns-then-not-told
-unfolding goal_in, answer_in
+unfolding goal_in answer_in
 returns-then-not-told c = subst (λ (b : Bool). IfOk c.goal_of.result (λ goal. goal ≡ answer_in b c.args.print.now)) (sym c.if-not-told.true) c.goal_of.ensures
 
 pub returns-in-Ok : goal.returns-in-Ok
