@@ -199,11 +199,16 @@ fn given_told(
     let all = told_among(alloc, store, asked, numbers.as_slice(), found.as_slice())?;
     // Only for the proof: what the store holds is formed.
     let _held = store.mark();
+    let Told {
+        told,
+        new,
+        tells_gone,
+    } = all;
     Ok(Given {
         code,
-        told: all.told,
-        new: all.new,
-        tells_gone: all.tells_gone,
+        told,
+        new,
+        tells_gone,
     })
 }
 
