@@ -1,5 +1,7 @@
 // The table of goals, which can be put back to what it was when an event began.
 
+mod cells;
+
 ghost use Rattle.std.specs.Prelude.{◌≡◌, ◌+◌, ◌<◌, not, [], ◌∷◌, ◌++◌, None, map, option_copied, option_map, IfSome, IfOk, OnOk, MatchOption};
 ghost use Rattle.std.specs.List.{filter, find, list_any, count_by};
 ghost use Rattle.kl1_goals.specs.Lists.{has_number, is_other, is_after, is_monitor, is_monitor_of, is_goal_of, is_in, stood_by, looked_at, enabled_in};

@@ -13,6 +13,7 @@ ghost use Rattle.kl1_user_account.specs.Beginning.{IsNameList, begun};
 
 use crate::account::Account;
 use crate::account_name::AccountName;
+use crate::labels::Labels;
 use kl1_atoms::AtomSource;
 use kl1_codes::{CodeSource, Modules};
 use kl1_goals::{GoalTable, Rules};
@@ -134,6 +135,7 @@ impl<C: CodeSource> Account<C> {
         Account {
             name,
             machine,
+            labels: Labels::new(alloc),
             modules: Modules::new(alloc),
             entries: 0,
             run: 0,
