@@ -1,2 +1,4 @@
-pub mod Copying
 pub mod Rising
+pub mod Copying
+pub mod Placing
+pub mod Hanging

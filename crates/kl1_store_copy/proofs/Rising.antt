@@ -1,5 +1,5 @@
 -- Numbers that rise, and how they go on.
-use Rattle.std.proofs.Common.{◌≡◌, ℕ, zero, suc, ◌+◌, ◌<◌, ◌≤◌, List, [], ◌∷◌, ◌++◌, length, get_or, refl, sym, ◌∙◌, ◌⊎◌, inl, inr, arith, length-append}
+use Rattle.std.proofs.Common.{◌≡◌, ℕ, zero, suc, ◌+◌, ◌<◌, ◌≤◌, List, [], ◌∷◌, ◌++◌, length, map, get_or, refl, sym, ap, ◌∙◌, ◌⊎◌, inl, inr, arith, length-append}
 use Rattle.kl1_store_copy.specs.Numbers.{after, AreRising, number_from, numbered}
 use Rattle.kl1_store_copy.specs.Copies.{HasEnds, AreUpTo}
 
@@ -62,6 +62,38 @@ one_place next back v w h e = by (order v w)
 pub beyond : (next : ℕ) (back : List ℕ) (n : ℕ) → number_from next back (length back + n) ≡ after next back + n
 beyond next [] n = refl
 beyond next (x ∷ back) n = beyond (suc x) back n
+
+-- from the last one on each later place has a number more
+pub shifts : (next : ℕ) (back : List ℕ) (last n m : ℕ) → m ≡ last + n → length back ≤ suc last → number_from next back m ≡ number_from next back last + n
+shifts next [] last n m e le = omega (arith, e)
+shifts next (x ∷ back) zero n zero e le = omega (arith, e)
+shifts next (x ∷ []) zero n (suc m) e le = omega (arith, e)
+shifts next (x ∷ y ∷ back) zero n (suc m) e le = absurd (omega (arith, le))
+shifts next (x ∷ back) (suc last) n zero e le = absurd (omega (arith, e))
+shifts next (x ∷ back) (suc last) n (suc m) e le = shifts (suc x) back last n m (omega (arith, e)) (omega (arith, le))
+
+-- numbers by which the numbers of a copy's variables are known are those of its variables, if the first list ends before the copy does
+pub composed : (labels : List ℕ) (next more x : ℕ) (back : List ℕ) (v : ℕ) → length labels ≤ after (suc x) back →
+    number_from more (map (numbered labels) (x ∷ back)) v ≡ numbered labels (number_from next (x ∷ back) v)
+composed labels next more x back zero le = refl
+composed labels next more x [] (suc v) le = sym (shifts 0 labels x (suc v) (suc x + v) (omega arith) le ∙ omega arith)
+composed labels next more x (y ∷ back) (suc v) le = composed labels (suc x) (suc (numbered labels x)) y back v le
+
+-- they rise too
+pub rising_composed : (labels : List ℕ) (next more : ℕ) (back : List ℕ) → AreRising 0 labels → AreRising next back → more ≤ numbered labels next → AreRising more (map (numbered labels) back)
+rising_composed labels next more [] l h le = tt
+rising_composed labels next more (x ∷ back) l h le =
+    (omega (arith, le, not_less labels next x l h.0), rising_composed labels (suc x) (suc (numbered labels x)) back l h.1 (increasing 0 labels x (suc x) l (omega arith)))
+  where
+    not_less : (ls : List ℕ) (a b : ℕ) → AreRising 0 ls → a ≤ b → numbered ls a ≤ numbered ls b
+    not_less ls a b r lt = by (less_or_same a b lt)
+      where
+        less_or_same : (c d : ℕ) → c ≤ d → (c < d) ⊎ (c ≡ d)
+        less_or_same c d w = grind arith
+
+        by : (a < b) ⊎ (a ≡ b) → numbered ls a ≤ numbered ls b
+        by (inl less) = omega (arith, increasing 0 ls a b r less)
+        by (inr same) = omega (arith, ap (numbered ls) same)
 
 -- those that are there are the list's
 pub is_there : (next : ℕ) (back : List ℕ) (w d : ℕ) → w < length back → number_from next back w ≡ get_or back w d

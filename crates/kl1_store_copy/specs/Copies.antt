@@ -74,7 +74,3 @@ pub record AreUpTo (variable count : ℕ) (back : List ℕ) : Type 0 where
 -- a number hangs in the copy on the variable that this one of the store was copied to, if it was
 abbrev pub HangsIn : List ℕ → List Hook → ℕ → ℕ → Type 0
 HangsIn back hooks v number = (w : ℕ) → w < length back → numbered back w ≡ v → Contains hooks (record { variable = w; number = number })
-
--- each hook is among others
-abbrev pub AreAmong : List Hook → List Hook → Type 0
-AreAmong hooks more = (k : Hook) → Contains hooks k → Contains more k

@@ -4,7 +4,7 @@ mod hanging;
 mod structures;
 mod variables;
 
-ghost use Rattle.std.specs.Prelude.{◌≡◌, ◌×◌, [], suc, get_or, IfOk, IfSome, IsTrue, MatchOption};
+ghost use Rattle.std.specs.Prelude.{◌≡◌, [], suc, get_or, IfOk, IfSome, IsTrue, MatchOption};
 ghost use Rattle.kl1_store.specs.Held.{IsIn, AreIn};
 ghost use Rattle.kl1_store_copy.specs.Copies.{StandsFor, StandEach, IsSoFar, IsCopyOf};
 

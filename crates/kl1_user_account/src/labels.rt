@@ -18,7 +18,7 @@ pub struct Labels {
 }
 
 impl Model for Labels {
-    ghost use Rattle.std.specs.Prelude.{◌≡◌, ◌×◌, ◌≤◌, ◌^◌, List, ℕ};
+    ghost use Rattle.std.specs.Prelude.{◌≡◌, ◌≤◌, ◌^◌, List, ℕ};
     ghost use Rattle.kl1_store_copy.specs.Numbers.{after, AreRising};
 
     ghost Value = { List ℕ };

@@ -1,7 +1,8 @@
 // What hangs on the variables of a copy.
 
 ghost use Rattle.std.specs.Prelude.{◌≡◌, OnOk};
-ghost use Rattle.kl1_store_copy.specs.Copies.{IsCopyOf, HangsIn, AreAmong};
+ghost use Rattle.kl1_store_copy.specs.Copies.{IsCopyOf, HangsIn};
+ghost use Rattle.kl1_store_hooks.specs.Hanging.{AreAmong};
 
 use crate::copied::{Copied, place_in};
 use kl1_store::Store;

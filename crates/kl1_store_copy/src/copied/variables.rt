@@ -1,6 +1,6 @@
 // The variables of a copy.
 
-ghost use Rattle.std.specs.Prelude.{◌≡◌, ◌+◌, ◌<◌, ◌≤◌, ◌×◌, [], ◌∷◌, ◌++◌, true, length, IfOk, OnOk};
+ghost use Rattle.std.specs.Prelude.{◌≡◌, ◌+◌, ◌<◌, ◌≤◌, [], ◌∷◌, ◌++◌, true, length, IfOk, OnOk};
 ghost use Rattle.kl1_store.specs.Held.{Held};
 ghost use Rattle.kl1_store_copy.specs.Copies.{IsSoFar, HasNone, HasEnds};
 ghost use Rattle.kl1_store_copy.specs.Numbers.{after};
