@@ -1,11 +1,15 @@
 -- Shoens with other cells: all else of them is what it was.
-use Rattle.std.proofs.Common.{◌≡◌, ℕ, suc, ◌+◌, ◌<◌, ◌≤◌, List, [], ◌∷◌, ◌++◌, length, get_or, set, take, drop, map, refl, sym, ap, ◌∙◌, subst, arith, append_assoc, drop-cons, length-append}
-use Rattle.std.specs.List.{count_by}
+use Rattle.std.proofs.Common.{◌≡◌, ℕ, suc, ◌+◌, ◌<◌, ◌≤◌, not, ◌||◌, Bool, true, false, if◌then◌else◌, List, [], ◌∷◌, ◌++◌, length, get_or, set, take, drop, map, refl, sym, ap, ap₂, ◌∙◌, subst, arith, append_assoc, drop-cons, length-append}
+use Rattle.std.specs.Prelude.{nat_le, find, Option, Some, None, option_map, unwrap_or}
+use Rattle.std.specs.List.{count_by, list_any}
 use Rattle.std.proofs.lemmas.List.{take_more_set, drop-set-lt, take_all, drop_all, append-nil}
+use Rattle.kl1_model.specs.Module.{is_among}
+use Rattle.kl1_model.specs.State.{is_living}
+use Rattle.kl1_model.specs.Tree.{path_within}
 use Rattle.kl1_model.specs.laws.TreeLaws.{ParentsAreLower}
 use Rattle.kl1_store.specs.declared.cell.Cell.{Cell}
 use Rattle.kl1_shoen_paths.specs.declared.shoen.Shoen.{Shoen}
-use Rattle.kl1_shoen.specs.Shoens.{AreNumbered, AreLower, AreCounted, parents_in, is_living_child_of}
+use Rattle.kl1_shoen.specs.Shoens.{AreNumbered, AreLower, AreCounted, has_number, parents_in, path_in, charged_in, is_blocking_in, is_blocking_at, is_enabled_at, is_living_child_of}
 use Rattle.kl1_shoen.specs.Cells.{cells_in, cells_of, shoen_at, with_cells}
 
 -- ---- what is the same
@@ -36,6 +40,50 @@ counted_with {N = N} xs hs ts cs is c =
       count = c.count ∙ sym (length_with xs 0 hs);
       counted = λ n. c.counted n ∙ sym (living_with xs 0 n hs);
     })
+
+-- ---- which are enabled
+
+-- what is found of a shoen by what is the same
+found_with : {N X : Type 0} (p : Shoen N → Bool) (q : Shoen N → X) (d : X) (xs : List (Cell N)) → ((at : ℕ) (h : Shoen N) → p (shoen_at xs at h) ≡ p h) → ((at : ℕ) (h : Shoen N) → q (shoen_at xs at h) ≡ q h) →
+    (at : ℕ) (hs : List (Shoen N)) → unwrap_or (option_map q (find p (with_cells xs at hs))) d ≡ unwrap_or (option_map q (find p hs)) d
+found_with p q d xs ps qs at [] = refl
+found_with {N = N} {X = X} p q d xs ps qs at (h ∷ hs) = by (p h) refl
+  where
+    next : ℕ
+    next = at + length (cells_in h)
+
+    by : (b : Bool) → p h ≡ b → unwrap_or (option_map q (find p (with_cells xs at (h ∷ hs)))) d ≡ unwrap_or (option_map q (find p (h ∷ hs))) d
+    by true e =
+        ap (λ c. unwrap_or (option_map q (if c then Some (shoen_at xs at h) else find p (with_cells xs next hs))) d) (ps at h ∙ e)
+        ∙ qs at h
+        ∙ sym (ap (λ c. unwrap_or (option_map q (if c then Some h else find p hs)) d) e)
+    by false e =
+        ap (λ c. unwrap_or (option_map q (if c then Some (shoen_at xs at h) else find p (with_cells xs next hs))) d) (ps at h ∙ e)
+        ∙ found_with p q d xs ps qs next hs
+        ∙ sym (ap (λ c. unwrap_or (option_map q (if c then Some h else find p hs)) d) e)
+
+pub path_with : {N : Type 0} (xs : List (Cell N)) (hs : List (Shoen N)) (n : ℕ) → path_in (with_cells xs 0 hs) n ≡ path_in hs n
+path_with xs hs n = ap (λ ps. path_within n ps n) (parents_with xs 0 hs)
+
+pub charged_same : {N : Type 0} (xs : List (Cell N)) (hs : List (Shoen N)) (work : List ℕ) (a : ℕ) → charged_in (with_cells xs 0 hs) work a ≡ charged_in hs work a
+charged_same xs hs work a = ap (λ ps. count_by (λ w. is_among a (path_within w ps w)) work) (parents_with xs 0 hs)
+
+pub blocking_with : {N : Type 0} (xs : List (Cell N)) (hs : List (Shoen N)) (work : List ℕ) (n : ℕ) → is_blocking_at (with_cells xs 0 hs) work n ≡ is_blocking_at hs work n
+blocking_with {N = N} xs hs work n =
+    let after : List (Shoen N) = with_cells xs 0 hs in
+    found_with (has_number n) (is_blocking_in after work) false xs (λ at h. refl) (λ at h. refl) 0 hs
+    ∙ same_blocking (find (has_number n) hs)
+  where
+    same_blocking : (o : Option (Shoen N)) → unwrap_or (option_map (is_blocking_in (with_cells xs 0 hs) work) o) false ≡ unwrap_or (option_map (is_blocking_in hs work) o) false
+    same_blocking None = refl
+    same_blocking (Some h) = ap (λ c. h.is_stopped || (not (is_living h.life) || nat_le h.allowance c)) (charged_same xs hs work h.number)
+
+pub enabled_with : {N : Type 0} (xs : List (Cell N)) (hs : List (Shoen N)) (work : List ℕ) (n : ℕ) → is_enabled_at (with_cells xs 0 hs) work n ≡ is_enabled_at hs work n
+enabled_with {N = N} xs hs work n = ap (λ ns. not (list_any (is_blocking_at (with_cells xs 0 hs) work) ns)) (path_with xs hs n) ∙ ap not (each (path_in hs n))
+  where
+    each : (ns : List ℕ) → list_any (is_blocking_at (with_cells xs 0 hs) work) ns ≡ list_any (is_blocking_at hs work) ns
+    each [] = refl
+    each (m ∷ ns) = ap₂ (λ a b. a || b) (blocking_with xs hs work m) (each ns)
 
 -- ---- one shoen after another
 

@@ -26,3 +26,4 @@ mod Bringing
 mod Loaded
 mod Started
 pub mod Words
+mod Collected

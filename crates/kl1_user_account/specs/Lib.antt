@@ -9,3 +9,4 @@ pub mod Answering
 pub mod Viewed
 pub mod NameRows
 pub mod Bringing
+pub mod Collecting

@@ -37,7 +37,8 @@ use std::alloc::Global;
 use std::marker::Model;
 
 /// One account, whose names are numbers of a table of names and whose modules refer to codes in a source of codes: its cells,
-/// goals, shoens, modules and names, and the numbers by which its variables are known.
+/// goals, shoens, modules and names, and the numbers by which its variables are known; and how many bytes its cells take when what nothing
+/// reaches is looked for.
 #[derive(Drop)]
 pub struct Account<C: CodeSource> {
     name: AccountName,
@@ -47,6 +48,7 @@ pub struct Account<C: CodeSource> {
     entries: u64,
     run: u32,
     sessions: u64,
+    due: u64,
     trial: Trial<CellName>,
     scan: PathScan,
     cells: Vec<Qualified<CellName>>,

@@ -19,3 +19,4 @@ pub mod Swapping
 pub mod Spares
 pub mod Messages
 pub mod Words
+pub mod Relabelling

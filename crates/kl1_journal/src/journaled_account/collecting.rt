@@ -20,4 +20,16 @@ impl<A: AtomSource, C: CodeSource> JournaledAccount<A, C> {
     {
         self.user.collect()
     }
+
+    /// Collects if it is due; `None` if it isn't.
+    #[inline]
+    pub fn collect_if_due(&mut self) -> Option<Collection>
+        ensures same { (f : Reading) → kept_of f self.new.1 ≡ kept_of f self.old.1 }
+        ensures seat { self.new.0 ≡ self.old.0 }
+        ensures journal { self.new.1.1 ≡ self.old.1.1 }
+        ensures names { self.new.1.0.names ≡ self.old.1.0.names }
+        ensures modules { self.new.1.0.modules ≡ self.old.1.0.modules }
+    {
+        self.user.collect_if_due()
+    }
 }

@@ -18,4 +18,14 @@ impl<A: AtomSource, C: CodeSource> UserState<A, C> {
     {
         self.account.collect()
     }
+
+    /// Collects if it is due; `None` if it isn't.
+    #[inline]
+    pub fn collect_if_due(&mut self) -> Option<Collection>
+        ensures same { (f : Reading) → state_of f self.new ≡ state_of f self.old }
+        ensures names { self.new.names ≡ self.old.names }
+        ensures modules { self.new.modules ≡ self.old.modules }
+    {
+        self.account.collect_if_due()
+    }
 }

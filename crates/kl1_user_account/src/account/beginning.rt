@@ -140,6 +140,7 @@ impl<C: CodeSource> Account<C> {
             entries: 0,
             run: 0,
             sessions,
+            due: 0,
             trial: Trial::new(alloc),
             scan: PathScan::new(alloc),
             cells: Vec::new(alloc),
