@@ -1,5 +1,6 @@
 -- A machine that has a copy of what it reaches in place of its store: what it is by the numbers that the variables had.
-use Rattle.std.proofs.Common.{◌≡◌, ℕ, zero, suc, ◌+◌, ◌-◌, ◌<◌, ◌≤◌, List, [], ◌∷◌, ◌++◌, length, get_or, drop, codes, refl, sym, ap, ap₂, ◌∙◌, arith, subst}
+use Rattle.std.proofs.Common.{◌≡◌, ℕ, zero, suc, ◌+◌, ◌-◌, ◌<◌, ◌≤◌, ◌||◌, List, [], ◌∷◌, ◌++◌, length, get_or, drop, codes, refl, sym, ap, ap₂, ◌∙◌, arith, subst}
+use Rattle.std.specs.List.{AllByRecursion}
 use Rattle.std.specs.Prelude.{map, Option, Some, None, option_map}
 use Rattle.kl1_model.specs.Term.{Term, atom, structure, none, more}
 use Rattle.kl1_model.specs.State as model
@@ -17,13 +18,15 @@ use Rattle.kl1_goals.specs.declared.task.Task.{Task}
 use Rattle.kl1_goals.specs.declared.task.Task.TheVariants.{Monitor, Reduces, Substitutes}
 use Rattle.kl1_goals.specs.declared.goal.Goal.{Goal}
 use Rattle.kl1_goals.specs.Cells as goals
+use Rattle.kl1_goals.specs.Lists.{is_monitor_task}
 use Rattle.kl1_shoen_paths.specs.declared.shoen.Origin.{Origin}
 use Rattle.kl1_shoen_paths.specs.declared.shoen.Shoen.{Shoen}
 use Rattle.kl1_shoen.specs.Cells as shoens
-use Rattle.kl1_shoen.proofs.Celling.{length_with}
+use Rattle.kl1_shoen.proofs.Celling.{length_with, enabled_with}
 use Rattle.kl1_user_effects.specs.Fitting.{Reading}
 use Rattle.kl1_user_effects.specs.Account.{Means, meaning, told_in, aim_with, task_with, goal_with, origin_with, shoen_with}
 use Rattle.kl1_user_effects.specs.Kept.{IsTaskIn, AreGoalsIn, AreOwned, AreUpTo, IsOriginIn, IsShoenIn, AreShoensIn}
+use Rattle.kl1_user_effects.specs.Settled.{AreEnabled}
 use Rattle.kl1_user_effects.specs.Works.{Made, worked, IsMadeIn}
 use Rattle.kl1_user_effects.specs.Relabelled.{renamed, task_renamed, goal_renamed, origin_renamed, shoen_renamed, relabelled}
 
@@ -250,3 +253,23 @@ made_moved old new back w ys zs gs hs ends count is =
       shoens = shoens_inside old new back w.shoens zs 0 hs is.shoens;
       owned = subst O (sym (length_with zs 0 w.shoens)) (owned_with (length w.shoens) ys 0 w.goals is.owned);
     }
+
+-- ---- goals between events
+
+-- the numbers of goals are what they were
+pub first_with : (ys : List (Cell CellName)) (at : ℕ) (gs : List (Goal CellName)) → AllByRecursion (λ g. 0 < g.number) gs → AllByRecursion (λ g. 0 < g.number) (goals.with_cells ys at gs)
+first_with ys at [] a = tt
+first_with ys at (g ∷ gs) a = (a.0, first_with ys (at + length (goals.cell_of g.task)) gs a.1)
+
+same_monitor : (ys : List (Cell CellName)) (at : ℕ) (t : Task CellName) → is_monitor_task (goals.task_at ys at t) ≡ is_monitor_task t
+same_monitor ys at Monitor = refl
+same_monitor ys at (Reduces q) = refl
+same_monitor ys at (Substitutes x) = refl
+
+-- and they may step as before
+pub may_step_with : (ys zs : List (Cell CellName)) (hs : List (Shoen CellName)) (work : List ℕ) (at : ℕ) (gs : List (Goal CellName)) → AreEnabled hs work gs → AreEnabled (shoens.with_cells zs 0 hs) work (goals.with_cells ys at gs)
+may_step_with ys zs hs work at [] e = tt
+may_step_with ys zs hs work at (g ∷ gs) e = (
+  e.0 ∙ ap₂ (λ a b. a || b) (sym (same_monitor ys at g.task)) (sym (enabled_with zs hs work g.shoen)),
+  may_step_with ys zs hs work (at + length (goals.cell_of g.task)) gs e.1,
+)

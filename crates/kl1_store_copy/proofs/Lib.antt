@@ -2,3 +2,4 @@ pub mod Rising
 pub mod Copying
 pub mod Placing
 pub mod Hanging
+pub mod Own

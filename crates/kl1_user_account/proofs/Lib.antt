@@ -27,3 +27,4 @@ mod Loaded
 mod Started
 pub mod Words
 mod Collected
+mod Lifting
