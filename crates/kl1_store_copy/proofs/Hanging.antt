@@ -19,6 +19,6 @@ pub hangs_there : (back variables : List ℕ) (hooks : List Hook) (v number plac
     Contains hooks (record { variable = place; number = number }) → HangsIn back hooks v number
 hangs_there back variables hooks v number place placed at hung =
     λ w lt is.
-        let P : ℕ → Type 0 = λ k. Contains hooks (record { variable = k; number = number }) in
-        let here : suc place ≡ suc w = sym at ∙ ap (λ k. get_or variables k 0) (sym is) ∙ placed w lt in
-        subst P (omega (arith, here)) hung
+    let P : ℕ → Type 0 = λ k. Contains hooks (record { variable = k; number = number }) in
+    let here : suc place ≡ suc w = sym at ∙ ap (λ k. get_or variables k 0) (sym is) ∙ placed w lt in
+    subst P (omega (arith, here)) hung

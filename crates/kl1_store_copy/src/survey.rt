@@ -60,11 +60,7 @@ impl Survey {
     }
 
     /// Finds all that is reached from a cell.
-    pub fn reach<N: NameValue>(
-        &mut self,
-        store: &Store<N>,
-        cell: Cell<N>,
-    ) -> Result<(), AllocError>
+    pub fn reach<N: NameValue>(&mut self, store: &Store<N>, cell: Cell<N>) -> Result<(), AllocError>
         requires { IsIn store.now.held cell }
     {
         self.find(store, cell)?;

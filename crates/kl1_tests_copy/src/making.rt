@@ -42,10 +42,7 @@ pub(crate) fn bind(
 }
 
 /// A tower of `count` structures, each of which has the one below it twice, over an unbound variable.
-pub(crate) fn tower(
-    store: &mut Store<CellName>,
-    count: u32,
-) -> Result<Cell<CellName>, AllocError> {
+pub(crate) fn tower(store: &mut Store<CellName>, count: u32) -> Result<Cell<CellName>, AllocError> {
     let mut top = Cell::Variable(store.fresh()?);
     for _number in 0..count {
         if store.holds(top) {
@@ -69,7 +66,11 @@ pub(crate) fn copied(
 }
 
 /// An argument of a structure, counted from 0; the integer -1 if it isn't there.
-pub(crate) fn argument(store: &Store<CellName>, cell: Cell<CellName>, index: u32) -> Cell<CellName> {
+pub(crate) fn argument(
+    store: &Store<CellName>,
+    cell: Cell<CellName>,
+    index: u32,
+) -> Cell<CellName> {
     if !store.holds(cell) {
         return Cell::Integer(-1);
     }

@@ -9,11 +9,27 @@ use std::alloc::{AllocError, Global};
 /// Puts a line on each row.
 pub(crate) fn put_rows(alloc: Global, out: &mut Vec<u8>) -> Result<(), AllocError> {
     put(out, b"a_list_has_its_cells_and_no_others", list(alloc)?)?;
-    put(out, b"a_tower_has_a_structure_for_each_level", tower_of_60(alloc)?)?;
-    put(out, b"an_order_of_another_store_is_given_up", other_order(alloc)?)?;
-    put(out, b"what_came_after_the_search_is_given_up", later(alloc)?)?;
+    put(
+        out,
+        b"a_tower_has_a_structure_for_each_level",
+        tower_of_60(alloc)?,
+    )?;
+    put(
+        out,
+        b"an_order_of_another_store_is_given_up",
+        other_order(alloc)?,
+    )?;
+    put(
+        out,
+        b"what_came_after_the_search_is_given_up",
+        later(alloc)?,
+    )?;
     put(out, b"a_variable_bound_to_another_is_that", alias(alloc)?)?;
-    put(out, b"the_first_variable_and_the_last_are_there", ends(alloc)?)?;
+    put(
+        out,
+        b"the_first_variable_and_the_last_are_there",
+        ends(alloc)?,
+    )?;
     put(out, b"nothing_of_nothing", nothing(alloc)?)?;
     put(out, b"what_was_not_found_is_nowhere", nowhere(alloc)?)?;
     put(out, b"a_number_hangs_once", hangs(alloc)?)?;
@@ -60,10 +76,12 @@ fn list(alloc: Global) -> Result<bool, AllocError> {
     };
     let sizes = copy.store.mark().sizes;
     let place = place_of(&store, &copy, first);
-    Ok(sizes.structures == 1_000
-        && sizes.bindings == 0
-        && sizes.variables == 2
-        && counts_up(&copy.store, place, 1_000))
+    Ok(
+        sizes.structures == 1_000
+            && sizes.bindings == 0
+            && sizes.variables == 2
+            && counts_up(&copy.store, place, 1_000),
+    )
 }
 
 fn tower_of_60(alloc: Global) -> Result<bool, AllocError> {
@@ -132,7 +150,11 @@ fn alias(alloc: Global) -> Result<bool, AllocError> {
     let place = place_of(&store, &copy, pair);
     let first = argument(&copy.store, place, 0);
     let second = argument(&copy.store, place, 1);
-    Ok(first.is_variable(1) && second.is_variable(1) && copy.back.as_slice() == [0, 1, 2].as_slice())
+    Ok(
+        first.is_variable(1)
+            && second.is_variable(1)
+            && copy.back.as_slice() == [0, 1, 2].as_slice(),
+    )
 }
 
 fn ends(alloc: Global) -> Result<bool, AllocError> {

@@ -67,7 +67,15 @@ impl<C: CodeSource> Account<C> {
         };
         let store = &self.machine.store;
         let first = nth_cell(store, origin.reports, from - 1);
-        let listed = list_cells(self.alloc, names, seat, store, &self.labels, first, MOST_LISTED)?;
+        let listed = list_cells(
+            self.alloc,
+            names,
+            seat,
+            store,
+            &self.labels,
+            first,
+            MOST_LISTED,
+        )?;
         Ok(Reply::Listed(listed))
     }
 
