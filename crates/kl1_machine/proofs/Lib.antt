@@ -33,3 +33,4 @@ pub mod Published
 pub mod Calm
 pub mod Words
 mod Collecting
+mod Rehanging

@@ -28,3 +28,4 @@ mod Started
 pub mod Words
 mod Collected
 mod Lifting
+mod Labelling
