@@ -1,6 +1,6 @@
 -- Goals with other cells: all else of them and of their places is what it was.
 use Rattle.std.proofs.Common.{◌≡◌, ℕ, suc, ◌+◌, ◌<◌, ◌≤◌, Bool, true, false, cond, List, [], ◌∷◌, ◌++◌, length, get_or, set, take, drop, map, refl, sym, ap, ◌∙◌, arith, append_assoc, drop-cons, take-suc}
-use Rattle.std.proofs.lemmas.List.{take_more_set, drop-set-lt, take_all, drop_all, append-nil}
+use Rattle.std.proofs.lemmas.List.{take_more_set, drop-set-lt, take_all, drop_all, append-nil, map-set, take-map}
 use Rattle.kl1_store.specs.declared.cell.Cell.{Cell}
 use Rattle.kl1_goals.specs.declared.task.Task.{Task}
 use Rattle.kl1_goals.specs.declared.task.Task.TheVariants.{Monitor, Reduces, Substitutes}
@@ -9,10 +9,13 @@ use Rattle.kl1_goals.specs.declared.slot.Slot.{Slot}
 use Rattle.kl1_goals.specs.Lists.{is_monitor_task}
 use Rattle.kl1_goals.specs.Slots.{goals_in, rank_in}
 use Rattle.kl1_goals.specs.Chains.{Shape, shape_in, before_in}
-use Rattle.kl1_goals.specs.Keeping.{Parts, IsTable}
+use Rattle.kl1_goals.specs.declared.begun.Begun.{Begun}
+use Rattle.kl1_goals.specs.Keeping.{Parts, IsTable, AreTables, places_then, parts_then}
+use Rattle.kl1_shoen_paths.specs.declared.tracked.Was.{Was}
+use Rattle.kl1_shoen_paths.specs.Tracked.{put_back}
 use Rattle.kl1_goals.specs.Cells.{cell_of, cells_of, task_at, goal_at, with_cells, slots_with}
 use Rattle.kl1_goals.proofs.Shaping.{linked_shaped}
-use Rattle.kl1_goals.proofs.Walking.{shaped_table}
+use Rattle.kl1_goals.proofs.Walking.{shaped_table, length_shaped}
 
 -- a place whose goal has another cell
 abbrev pub slot_at : {N : Type 0} → List (Cell N) → ℕ → Slot N → Slot N
@@ -79,6 +82,34 @@ pub table_with : {N : Type 0} (xs : List (Cell N)) (p : Parts N) → IsTable p �
 table_with xs p h =
     let ss = slots_with xs 0 p.slots in
     shaped_table p ss p.ranks h (h.slots.ranked ∙ sym (ranks_with xs p.slots)) (linked_shaped p.slots ss h.chained.links (shapes_with xs p.slots) (links_with xs p.slots)) (shapes_with xs p.slots)
+
+-- ---- what the table was when an event began
+
+back_same : {A X : Type 0} (f : A → X) (ws : List (Was A)) (xs ys : List A) → map f xs ≡ map f ys → map f (put_back ws xs) ≡ map f (put_back ws ys)
+back_same f [] xs ys e = e
+back_same f (w ∷ ws) xs ys e =
+    map-set f (put_back ws xs) w.place w.value
+    ∙ ap (λ l. set l w.place (f w.value)) (back_same f ws xs ys e)
+    ∙ sym (map-set f (put_back ws ys) w.place w.value)
+
+take_same : {A X : Type 0} (f : A → X) (n : ℕ) (xs ys : List A) → map f xs ≡ map f ys → map f (take n xs) ≡ map f (take n ys)
+take_same f n xs ys e = sym (take-map f n xs) ∙ ap (take n) e ∙ take-map f n ys
+
+then_same : {N X : Type 0} (f : Slot N → X) (b : Begun N) (xs ys : List (Slot N)) → map f xs ≡ map f ys → map f (places_then b xs) ≡ map f (places_then b ys)
+then_same f b xs ys e = back_same f b.slots.items (take b.places xs) (take b.places ys) (take_same f b.places xs ys e)
+
+-- a table with what it was, while its goals get other cells
+pub tables_with : {N : Type 0} (xs : List (Cell N)) (p : Parts N) (b : Begun N) → AreTables p b → AreTables (record p { slots = slots_with xs 0 p.slots }) b
+tables_with xs p b h =
+    let ss = slots_with xs 0 p.slots in
+    let us = places_then b ss in
+    let shapes = then_same shape_in b ss p.slots (shapes_with xs p.slots) in
+    record {
+      now = table_with xs p h.now;
+      was = shaped_table (parts_then p b) us (map rank_in us) h.was refl (linked_shaped (places_then b p.slots) us h.was.chained.links shapes (then_same before_in b ss p.slots (links_with xs p.slots))) shapes;
+      places = omega (arith, h.places, length_shaped p.slots ss (shapes_with xs p.slots));
+      shoens = h.shoens;
+    }
 
 -- ---- one place after another
 

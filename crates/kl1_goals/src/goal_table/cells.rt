@@ -28,8 +28,8 @@ impl<N: NameValue> GoalTable<N> {
         ensures goals { self.new.goals ≡ with_cells cells.now 0 self.old.goals }
         ensures rest { self.new ≡ record self.old { goals = self.new.goals; begun = self.new.goals; begun_shoens = self.old.shoens; begun_last = self.old.last } }
     {
-        self.begin();
         put_each(&mut self.slots, cells);
+        self.begin();
     }
 }
 
