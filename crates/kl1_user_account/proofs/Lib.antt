@@ -29,3 +29,4 @@ pub mod Words
 mod Collected
 mod Lifting
 mod Labelling
+mod Shown
