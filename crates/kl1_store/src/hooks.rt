@@ -102,7 +102,7 @@ impl Hooks {
         requires { place < length self.now.hooks }
         ensures { slice_get self.now.hooks place ≡ Some (record { variable = result.0; number = result.1 }) }
     {
-        let link = self.links[place];
+        let link = link_at(&self.links, place);
         (link.variable, link.number)
     }
 

@@ -230,10 +230,10 @@ copied_variable {N = N} old new next back variables structures longer noted v n 
 -- of nothing nothing was copied
 pub copied_none : {N : Type 0} (old new : Held N) (back variables structures : List ℕ) → new ≡ nothing_held → back ≡ [] → HasNone variables → HasNone structures →
     AreCopied old new back variables structures
-copied_none {N = N} old new back variables structures empty none no_variable no_structure =
+copied_none {N = N} old new back variables structures empty nothing no_variable no_structure =
     let P : Held N → Type 0 = λ k. AreCopied old k back variables structures in
     let Q : List ℕ → Type 0 = λ l. AreCopied old nothing_held l variables structures in
-    subst P (sym empty) (subst Q (sym none) (record {
+    subst P (sym empty) (subst Q (sym nothing) (record {
       formed = record { built = tt; bound = tt };
       bare = refl;
       count = refl;

@@ -11,8 +11,8 @@ ArePlaced back variables = (w : ℕ) → w < length back → get_or variables (n
 
 -- on a variable that wasn't copied nothing is to hang
 pub hangs_nowhere : (back variables : List ℕ) (hooks : List Hook) (v number : ℕ) → ArePlaced back variables → get_or variables v 0 ≡ 0 → HangsIn back hooks v number
-hangs_nowhere back variables hooks v number placed none =
-    λ w lt is. absurd (omega (arith, sym (placed w lt) ∙ ap (λ k. get_or variables k 0) is ∙ none))
+hangs_nowhere back variables hooks v number placed nothing =
+    λ w lt is. absurd (omega (arith, sym (placed w lt) ∙ ap (λ k. get_or variables k 0) is ∙ nothing))
 
 -- what hangs on the one place of a variable hangs wherever the variable is
 pub hangs_there : (back variables : List ℕ) (hooks : List Hook) (v number place : ℕ) → ArePlaced back variables → get_or variables v 0 ≡ suc place →

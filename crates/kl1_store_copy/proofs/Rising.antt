@@ -60,7 +60,7 @@ one_place next back v w h e = by (order v w)
 
 -- beyond the end they go on from the last
 pub beyond : (next : ℕ) (back : List ℕ) (n : ℕ) → number_from next back (length back + n) ≡ after next back + n
-beyond next [] n = refl
+beyond next [] n = omega arith
 beyond next (x ∷ back) n = beyond (suc x) back n
 
 -- from the last one on each later place has a number more
@@ -131,8 +131,8 @@ upto_skip variable count back other not_last u = record {
 }
   where
     some : (v : ℕ) → (v ≡ 0 → ⊥) → 0 < v
-    some zero no = absurd (no refl)
-    some (suc v) no = omega arith
+    some zero not = absurd (not refl)
+    some (suc v) not = omega arith
 
 -- all were gone over
 pub upto_all : (count : ℕ) (back : List ℕ) → AreRising 0 back → AreUpTo count count back → HasEnds count back
