@@ -125,7 +125,7 @@ kept_moved : (f : Reading) (old new : Held CellName) (back : List ℕ) (o : Opti
 kept_moved f old new back None xs ys at s = refl
 kept_moved f old new back (Some o) xs ys at s =
     let t = three_stand old new back o.goal o.reports o.control xs ys at s in
-    let origin : Term → Term → Term → model.Origin = λ a b c. record { goal = a; reports = b; control = c } in
+    let origin : Term → Term → Term → model.Origin = λ a b c. record (origin_with (meaning f old) o) { goal = a; reports = b; control = c } in
     ap Some (ap₂ (λ a b. origin a b (renamed (numbered back) (meaning f new (get_or ys (at + 2) o.control)))) (t.first.means f) (t.second.means f)
     ∙ ap (origin (meaning f old o.goal) (meaning f old o.reports)) (t.third.means f))
 

@@ -20,7 +20,7 @@ cells_of (h ∷ hs) = cells_in h ++ cells_of hs
 
 -- what the console keeps of a shoen with the cells from a place on in place of its own
 abbrev pub origin_at : {N : Type 0} → List (Cell N) → ℕ → Origin N → Origin N
-origin_at xs at o = record { goal = get_or xs at o.goal; reports = get_or xs (at + 1) o.reports; control = get_or xs (at + 2) o.control }
+origin_at xs at o = record o { goal = get_or xs at o.goal; reports = get_or xs (at + 1) o.reports; control = get_or xs (at + 2) o.control }
 
 -- a shoen with the cells from a place on in place of its own
 abbrev pub shoen_at : {N : Type 0} → List (Cell N) → ℕ → Shoen N → Shoen N
