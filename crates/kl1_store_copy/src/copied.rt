@@ -13,11 +13,11 @@ use kl1_store::{Cell, Store};
 use kl1_text::NameValue;
 use std::alloc::{AllocError, Global};
 
-/// For so many variables and structures more there is room in a copy as there are in it, and for this many, if the store held as many.
+/// How many variables, structures and bindings a copy has room for beyond twice the structures in it, if the store holds as many.
 const LEAST: usize = 65_536;
 
-/// The copy of what was found of a store, in which no variable is bound; for each of its variables the number in the store; and for each
-/// variable and each structure of the store the number in the copy, counted from 1, or 0 if it isn't there.
+/// The copy of what was found of a store, in which no variable is bound; for each of its variables the number in the store (`back`); and
+/// for each variable and each structure of the store its number in the copy, counted from 1, or 0 if it isn't there.
 ///
 /// The store's first variable and its last are always there, whether something reaches them or not: so the next variable of the copy is
 /// the next one of the store.
