@@ -61,7 +61,9 @@ one_place next back v w h e = by (order v w)
 -- beyond the end they go on from the last
 pub beyond : (next : ℕ) (back : List ℕ) (n : ℕ) → number_from next back (length back + n) ≡ after next back + n
 beyond next [] n = omega arith
-beyond next (x ∷ back) n = beyond (suc x) back n
+beyond next (x ∷ back) n =
+    let e : suc (length back) + n ≡ suc (length back + n) = omega arith in
+    ap (number_from next (x ∷ back)) e ∙ beyond (suc x) back n
 
 -- from the last one on each later place has a number more
 pub shifts : (next : ℕ) (back : List ℕ) (last n m : ℕ) → m ≡ last + n → length back ≤ suc last → number_from next back m ≡ number_from next back last + n

@@ -18,4 +18,4 @@ returns-clause-copy g c =
     let k = c.args.self.now in
     let P : List (Cell g.row.N.Denot) → Type 0 = λ l. StandEach old k.store.held k.back.items (arguments_of old c.args.structure) l in
     copied_next old k.store.held c.build.new.self.held k.back.items k.variables.items k.structures.items _ c.args.structure c.in_ok-number.number c.look-head.result.name c.as_slice.result.now
-    c.requires.copy c.mark.ensures.formed c.look-head.ensures.name (subst P (sym c.as_slice.ensures.value) (c.in_ok-fill_row.ensures c.if-not-branch.false)) c.requires.fits c.in_ok-number.ensures.1 c.in_ok-number.ensures.0 refl
+    c.requires.copy c.mark.ensures.formed c.look-head.ensures.name (subst P (sym c.as_slice.ensures.value) (c.in_ok-fill_row.ensures c.if-not-branch.false)) c.requires.fits c.in_ok-number.ensures.ok.1 c.in_ok-number.ensures.ok.0 refl
