@@ -24,5 +24,6 @@ pub use lines::put_reason;
 pub use modules::{MOST_REASONS, reasons_of};
 pub use predicates::{Predicates, predicates_of};
 pub use reason::Reason;
+pub use seen::{HeadSeen, head_of, is_otherwise};
 pub use told::{NamedText, put_reasons, put_warnings};
 pub use warnings::{MOST_WARNINGS, warnings_of};

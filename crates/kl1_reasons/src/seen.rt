@@ -8,10 +8,10 @@ use std::alloc::{AllocError, Global};
 
 /// The head of a clause.
 #[derive(Clone, Copy)]
-pub(crate) struct HeadSeen {
-    pub(crate) token: Token,
+pub struct HeadSeen {
+    pub token: Token,
     /// How many arguments it has.
-    pub(crate) count: u64,
+    pub count: u64,
 }
 
 /// The items before one.
@@ -24,7 +24,7 @@ pub(crate) struct Seen {
 }
 
 /// The head of an item with these tokens, if it begins with one.
-pub(crate) fn head_of(tokens: &[Token]) -> Option<HeadSeen> {
+pub fn head_of(tokens: &[Token]) -> Option<HeadSeen> {
     match tokens {
         [] => None,
         [name, others @ ..] => {
@@ -64,7 +64,7 @@ fn count_of(name: &Token, tokens: &[Token]) -> u64 {
 }
 
 /// Whether the tokens of an item are `otherwise`.
-pub(crate) fn is_otherwise(text: &[u8], tokens: &[Token]) -> bool {
+pub fn is_otherwise(text: &[u8], tokens: &[Token]) -> bool {
     match tokens {
         [word, end] => word.name(text) == b"otherwise".as_slice() && matches!(end.kind, Kind::End),
         _ => false,

@@ -1,0 +1,1 @@
+-- That a position leads back to its byte.
