@@ -10,6 +10,7 @@ _kl1_run() {
         test) options="--help --version" ;;
         fmt) options="--check --help --version" ;;
         trace) options="--trace --profile --timeline --lanes --help --version" ;;
+        lsp) options="--stdio --help --version" ;;
         esac
     fi
     case $before in
@@ -40,6 +41,8 @@ _kl1_run() {
         mapfile -t COMPREPLY < <(compgen -W "$options" -- "$word")
         return
     fi
+    # An editor's server takes no files.
+    ((COMP_CWORD > 1)) && [[ ${COMP_WORDS[1]} == lsp ]] && return
     compopt -o filenames 2>/dev/null
     if ((COMP_CWORD > 1)) && [[ ${COMP_WORDS[1]} == trace ]]; then
         # Journals have names of any kind.
@@ -48,7 +51,7 @@ _kl1_run() {
     fi
     # Files of modules, and folders on the way to them.
     mapfile -t COMPREPLY < <(
-        ((COMP_CWORD > 1)) || compgen -W "test fmt trace" -- "$word"
+        ((COMP_CWORD > 1)) || compgen -W "test fmt trace lsp" -- "$word"
         compgen -f -X '!*.kl1' -- "$word"
         compgen -d -- "$word"
     )

@@ -1,5 +1,5 @@
 -- Positions of a text in lines and UTF-16 units, after the Language Server Protocol, version 3.17.
-use Rattle.std.specs.Prelude.{ℕ, zero, suc, ◌+◌, ◌==◌, ◌&&◌, ◌||◌, nat_le, nat_lt, not, Bool, true, false, if◌then◌else◌, List, [], ◌∷◌}
+use Rattle.std.specs.Prelude.{ℕ, zero, suc, ◌+◌, ◌-◌, ◌==◌, ◌&&◌, ◌||◌, nat_le, nat_lt, not, Bool, true, false, if◌then◌else◌, List, [], ◌∷◌}
 use Rattle.kl1_lsp_positions.specs.declared.position.Position.{Position}
 
 -- whether a byte of UTF-8 goes on with a character that another one began
@@ -31,11 +31,10 @@ after_end p b bs = if b == 13 && begins_feed bs then p else record { line = p.li
 abbrev pub next_position : Position → ℕ → List ℕ → Position
 next_position p b bs = if not (is_end b) then record { line = p.line; character = p.character + units b } else after_end p b bs
 
--- the position after so many bytes of which the first stands at a position
+-- the position after n bytes, or after all if there are fewer, of which the first stands at a position
 abbrev pub position_after : ℕ → Position → List ℕ → Position
-position_after zero p bs = p
-position_after (suc n) p [] = p
-position_after (suc n) p (b ∷ bs) = position_after n (next_position p b bs) bs
+position_after n p [] = p
+position_after n p (b ∷ bs) = if n == 0 then p else position_after (n - 1) (next_position p b bs) bs
 
 -- the position of the byte before which `at` others stand
 abbrev pub position_of : List ℕ → ℕ → Position

@@ -69,7 +69,7 @@ impl Names<'_> {
     fn put_predicates(&mut self, source: &Source) -> Result<(), AllocError> {
         let text = source.text.as_slice();
         let mentions = mentions_of(self.alloc, text)?;
-        let mut last = None;
+        let mut last: Option<(&[u8], u64)> = None;
         for mention in mentions.all.as_slice() {
             if !mention.is_head() {
                 continue;

@@ -1,18 +1,14 @@
 // Names of files, as editors write them.
 
-use percent_encoding::{AsciiSet, NON_ALPHANUMERIC, percent_decode, percent_encode};
+use percent_encoding::{AsciiSet, NON_ALPHANUMERIC, ascii_set, percent_decode, percent_encode};
 use std::alloc::{AllocError, Global};
 
 /// How the URI of a file begins.
 const FILE: &[u8] = b"file://";
 
 /// The bytes of a path that are escaped in its URI: all but letters, digits, slashes, and the four marks that RFC 3986 leaves as they are.
-const ESCAPED: AsciiSet = NON_ALPHANUMERIC
-    .remove(b'/')
-    .remove(b'-')
-    .remove(b'.')
-    .remove(b'_')
-    .remove(b'~');
+const ESCAPED: AsciiSet =
+    ascii_set!(NON_ALPHANUMERIC.remove(b'/').remove(b'-').remove(b'.').remove(b'_').remove(b'~'));
 
 /// The key by which a text is known: its path, which begins with a slash, if its URI is that of a file, and else the URI itself. So it is known
 /// that two URIs are of one file, though they escape other bytes.

@@ -1,6 +1,7 @@
 // Which program is wanted.
 
 use crate::fmt::FMT;
+use crate::lsp::LSP;
 use crate::run::RUN;
 use crate::test::TEST;
 use crate::trace::TRACE;
@@ -18,6 +19,8 @@ pub enum Tool {
     Fmt,
     /// It tells the steps of a journal.
     Trace,
+    /// It tells editors what is in modules.
+    Lsp,
 }
 
 impl Tool {
@@ -28,6 +31,7 @@ impl Tool {
             Tool::Test => &TEST,
             Tool::Fmt => &FMT,
             Tool::Trace => &TRACE,
+            Tool::Lsp => &LSP,
         }
     }
 }
@@ -40,10 +44,11 @@ const NAMES: [(&[u8], Tool); 3] = [
 ];
 
 /// The first words for which this one is another.
-const WORDS: [(&[u8], Tool); 3] = [
+const WORDS: [(&[u8], Tool); 4] = [
     (b"test", Tool::Test),
     (b"fmt", Tool::Fmt),
     (b"trace", Tool::Trace),
+    (b"lsp", Tool::Lsp),
 ];
 
 /// The most bytes of a word that is looked at: a path has no more.

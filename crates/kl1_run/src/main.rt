@@ -1,10 +1,11 @@
-//! The programs that try modules from files, run their tests, lay them out, and tell the steps of journals: one program, which is each of
-//! them by the name that it is called by, or by its first word.
+//! The programs that try modules from files, run their tests, lay them out, tell the steps of journals, and serve editors: one program, which
+//! is each of them by the name that it is called by, or by its first word.
 #![tactic(auto)]
 
 mod called;
 mod fmt;
 mod kept_files;
+mod lsp;
 mod run;
 mod steps;
 mod test;
@@ -13,6 +14,7 @@ mod world;
 
 use crate::called::{Tool, called};
 use crate::fmt::format_files;
+use crate::lsp::serve_editor;
 use crate::run::run_modules;
 use crate::test::test_files;
 use crate::trace::trace_journal;
@@ -36,5 +38,6 @@ fn status_of(rt: &HostRuntime, tool: Tool, before: usize) -> Result<u8, Fault> {
         Tool::Test => test_files(rt, words),
         Tool::Fmt => format_files(rt, words),
         Tool::Trace => trace_journal(rt, words),
+        Tool::Lsp => serve_editor(rt, words),
     }
 }

@@ -7,7 +7,8 @@ mod trial;
 
 use files::read_each;
 use kl1_words::{Fault, OptionSpec, Program, SystemFaults, Takes, asked_in};
-use results::{Results, results_of};
+pub use results::{Results, results_in_first};
+use results::results_of;
 use std::io::Write;
 
 /// What the program knows.

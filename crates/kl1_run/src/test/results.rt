@@ -237,3 +237,16 @@ pub fn results_of(alloc: Global, files: &[SourceFile]) -> Result<Results, Fault>
     let tests = tests_of(alloc, files)?;
     put_results(alloc, files, tests.as_slice())
 }
+
+/// Runs tests that the first of files states, all of which are modules, each once, in order: the one on a line, from 1, or all.
+pub fn results_in_first(
+    alloc: Global,
+    files: &[SourceFile],
+    line: Option<u64>,
+) -> Result<Results, Fault> {
+    let mut tests = tests_of(alloc, files.get(..1).unwrap_or(&[]))?;
+    if let Some(line) = line {
+        tests.retain(|test: &Test| test.line == line);
+    }
+    put_results(alloc, files, tests.as_slice())
+}
