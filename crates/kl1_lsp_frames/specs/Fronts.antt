@@ -1,9 +1,20 @@
 -- What a stream begins with.
-use Rattle.std.specs.Prelude.{ℕ, ◌<◌, ◌≤◌, ¬◌, List, length, drop, slice_range}
-use Rattle.kl1_lsp_frames.specs.Frames.{IsFrame, HasNoFrame}
-use Rattle.kl1_lsp_frames.specs.declared.front.TheConstants.{MOST_MESSAGE_BYTES}
+use Rattle.std.specs.Prelude.{◌≡◌, ℕ, ◌<◌, ◌≤◌, ¬◌, List, length, map, drop, slice_range, Some}
+use Rattle.httparse.specs.Grammar.{Field, LineEnd, ReadsSection}
+use Rattle.httparse.specs.Spans.{name_and_value}
+use Rattle.kl1_lsp_frames.specs.Frames.{length_told, IsFrame, HasNoFrame}
+use Rattle.kl1_lsp_frames.specs.declared.front.TheConstants.{MOST_FIELDS, MOST_MESSAGE_BYTES}
 use Rattle.kl1_lsp_frames.specs.declared.front.Front.{Front}
 use Rattle.kl1_lsp_frames.specs.declared.front.Front.TheVariants as front
+
+-- bytes begin with a head of `start` bytes, which says that a message has so many
+pub record HasHead (bytes : List ℕ) (start told : ℕ) : Type 0 where
+  pub fields : List Field
+  pub last : LineEnd
+  pub reads : ReadsSection bytes fields last (drop start bytes)
+  pub few : length fields ≤ MOST_FIELDS
+  pub tells : length_told (map name_and_value fields) ≡ Some told
+  pub within : start ≤ length bytes
 
 -- a message stands where it is said to; or there is none yet; or there is none, and some bytes are passed over; or there is none that is short
 -- enough

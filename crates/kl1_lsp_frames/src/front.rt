@@ -2,7 +2,7 @@
 
 ghost use Rattle.std.specs.Prelude.{◌≡◌, ◌<◌, ◌≤◌, length, IfSome};
 ghost use Rattle.kl1_lsp_frames.specs.Frames.{HasNoFrame};
-ghost use Rattle.kl1_lsp_frames.specs.Fronts.{IsFront};
+ghost use Rattle.kl1_lsp_frames.specs.Fronts.{HasHead, IsFront};
 
 use crate::length::length_told;
 use httparse::Status;
@@ -31,7 +31,7 @@ pub enum Front {
 }
 
 /// What bytes begin with. A head that can't be read is passed over up to its empty line, and one that tells no length as a whole.
-#[tactic(auto, using(crate::proofs::Fronts::no_section, crate::proofs::Fronts::overflows, crate::proofs::Fronts::no_length))]
+#[tactic(auto, using(crate::proofs::Fronts::no_section, crate::proofs::Fronts::overflows, crate::proofs::Fronts::no_length, crate::proofs::Fronts::has_head, crate::proofs::Fronts::within_all))]
 pub fn front_of(bytes: &[u8]) -> Front
     ensures { IsFront bytes.now result }
 {
@@ -47,7 +47,11 @@ pub fn front_of(bytes: &[u8]) -> Front
 }
 
 /// The message of so many bytes that begins at `start`, if it is all there.
-fn message_at(bytes: &[u8], start: usize, told: u64) -> Front {
+#[tactic(auto, using(crate::proofs::Fronts::too_large, crate::proofs::Fronts::too_short, crate::proofs::Fronts::whole))]
+fn message_at(bytes: &[u8], start: usize, told: u64) -> Front
+    requires { HasHead bytes.now start told }
+    ensures { IsFront bytes.now result }
+{
     if told > MOST_MESSAGE_BYTES {
         return Front::Large;
     }
@@ -62,7 +66,12 @@ fn message_at(bytes: &[u8], start: usize, told: u64) -> Front {
 }
 
 /// What bytes are that begin with no head that can be read: one that is bad ends here, or nowhere yet.
-fn unread(bytes: &[u8], end: Option<usize>) -> Front {
+fn unread(bytes: &[u8], end: Option<usize>) -> Front
+    requires none { HasNoFrame bytes.now }
+    requires some { IfSome end (λ e. 0 < e) }
+    requires within { IfSome end (λ e. e ≤ length bytes.now) }
+    ensures { IsFront bytes.now result }
+{
     match end {
         Some(end) => Front::Bad { end },
         None => {

@@ -65,6 +65,7 @@ impl Inbox {
     }
 
     /// The next message, or what stands in its place.
+    #[tactic(auto, using(crate::proofs::Coming::keeps_same, crate::proofs::Coming::keeps_both, crate::proofs::Coming::message_comes, crate::proofs::Coming::bad_passes))]
     pub fn next<S: Source>(
         &mut self,
         alloc: Global,

@@ -1,0 +1,4 @@
+pub mod Names
+pub mod Fronts
+pub mod Coming
+pub mod Frames
