@@ -1,15 +1,15 @@
 -- What bytes begin with, by the head that was read.
-use Rattle.std.proofs.Common.{◌≡◌, ℕ, ◌+◌, ◌-◌, ◌<◌, ◌≤◌, List, [], ◌++◌, length, map, take, drop, slice_range, All, Option, Some, None, refl, sym, ap, subst, ◌∙◌, append-nil, length-append, length-drop, drop-drop, arith}
+use Rattle.std.proofs.Common.{◌≡◌, ℕ, ◌+◌, ◌-◌, ◌<◌, ◌≤◌, ◌⊎◌, inl, inr, List, [], ◌++◌, length, map, take, drop, slice_range, All, Option, Some, None, refl, sym, ap, subst, ◌∙◌, append-nil, length-append, length-drop, drop-drop, zero-lt-suc, flat_map, arith}
 use Rattle.std.proofs.lemmas.List.{length-take-le, take-append-drop, length-map}
-use Rattle.httparse.specs.Grammar.{Field, LineEnd, ReadsSection, print_section, HasNoSection}
+use Rattle.httparse.specs.Grammar.{Field, LineEnd, crlf, lf, print_end, print_field, ReadsSection, print_section, HasNoSection}
 use Rattle.httparse.specs.Spans.{IsHeaderWithin, header_bytes, name_and_value, IsSectionWithin, IsSectionOf, SectionOverflows}
 use Rattle.httparse.specs.declared.spans.HeaderSpan.{HeaderSpan}
-use Rattle.httparse.proofs.GrammarLemmas.{section_unique}
-use Rattle.kl1_lsp_frames.specs.declared.front.TheConstants.{MOST_FIELDS, MOST_MESSAGE_BYTES}
+use Rattle.httparse.proofs.GrammarLemmas.{section_unique, ReadsSection-append}
+use Rattle.kl1_lsp_frames.specs.declared.front.TheConstants.{MOST_FIELDS, MOST_HEAD_BYTES, MOST_MESSAGE_BYTES}
 use Rattle.kl1_lsp_frames.specs.declared.front.Front.{Front}
 use Rattle.kl1_lsp_frames.specs.declared.front.Front.TheVariants as front
-use Rattle.kl1_lsp_frames.specs.Frames.{length_told, IsFrame, HasNoFrame}
-use Rattle.kl1_lsp_frames.specs.Fronts.{HasHead, IsFront}
+use Rattle.kl1_lsp_frames.specs.Frames.{length_told, IsFrame, HasNoFrame, NeverFrame}
+use Rattle.kl1_lsp_frames.specs.Fronts.{HasHead, IsHopeless, IsFront}
 
 -- without a head there is no message
 pub no_section : (bytes : List ℕ) → HasNoSection bytes → HasNoFrame bytes
@@ -22,15 +22,46 @@ overflows bytes over body rest f =
     let many : MOST_FIELDS < length f.fields = over [] f.fields f.last (body ++ rest) (subst (λ b. ReadsSection b f.fields f.last (body ++ rest)) (sym same) f.reads) in
     omega (arith, many, f.few)
 
-none_some : (A : Type 0) (x y : Option ℕ) (n : ℕ) → x ≡ None → x ≡ Some n → A
-none_some A x y n e h = absurd (let f : None ≡ Some n = sym e ∙ h in cc)
+-- whatever follows
+pub overflows_ever : (bytes : List ℕ) → SectionOverflows MOST_FIELDS bytes → NeverFrame bytes
+overflows_ever bytes over more body rest f =
+    let many : MOST_FIELDS < length f.fields = over more f.fields f.last (body ++ rest) f.reads in
+    omega (arith, many, f.few)
 
--- nor with one that tells no length
-pub no_length : (bytes : List ℕ) (spans : List HeaderSpan) (len count : ℕ) → IsSectionOf bytes 0 spans (len, count) → length_told (map (header_bytes bytes) (take count spans)) ≡ None → HasNoFrame bytes
-no_length bytes spans len count (fields, last, at) none body rest f =
-    let same = section_unique bytes f.fields fields f.last last (body ++ rest) (drop len bytes) f.reads at.reads in
+none_some : (A : Type 0) (x : Option ℕ) (n : ℕ) → x ≡ None → x ≡ Some n → A
+none_some A x n e h = absurd (let f : None ≡ Some n = sym e ∙ h in cc)
+
+-- nor does one come with one that tells no length
+pub no_length : (bytes : List ℕ) (spans : List HeaderSpan) (len count : ℕ) → IsSectionOf bytes 0 spans (len, count) → length_told (map (header_bytes bytes) (take count spans)) ≡ None → NeverFrame bytes
+no_length bytes spans len count (fields, last, at) none more body rest f =
+    let reads : ReadsSection (bytes ++ more) fields last (drop len bytes ++ more) = ReadsSection-append bytes fields last (drop len bytes) more at.reads in
+    let same = section_unique (bytes ++ more) f.fields fields f.last last (body ++ rest) (drop len bytes ++ more) f.reads reads in
     let told : length_told (map name_and_value fields) ≡ Some (length body) = subst (λ fs. length_told (map name_and_value fs) ≡ Some (length body)) same.0 f.told in
-    none_some ⊥ (length_told (map name_and_value fields)) None (length body) (ap length_told (sym at.fields_are) ∙ none) told
+    none_some ⊥ (length_told (map name_and_value fields)) (length body) (ap length_told (sym at.fields_are) ∙ none) told
+
+-- what never comes isn't there
+pub now_none : (bytes : List ℕ) → NeverFrame bytes → HasNoFrame bytes
+now_none bytes h = subst HasNoFrame (append-nil bytes) (h [])
+
+pub many : (bytes : List ℕ) → HasNoFrame bytes → MOST_HEAD_BYTES < length bytes → IsFront bytes (front.Bad (length bytes))
+many bytes none long = (omega (arith, long), omega arith, inr (none, long))
+
+pub never : (bytes : List ℕ) (end : ℕ) → NeverFrame bytes → 0 < end → end ≤ length bytes → IsFront bytes (front.Bad end)
+never bytes end h some within = (some, within, inl h)
+
+end_some : (e : LineEnd) → 0 < length (print_end e)
+end_some crlf = zero-lt-suc 1
+end_some lf = zero-lt-suc 0
+
+-- a head has a byte at least
+some_head : (bytes : List ℕ) (spans : List HeaderSpan) (len count : ℕ) → IsSectionOf bytes 0 spans (len, count) → 0 < len
+some_head bytes spans len count (fields, last, at) =
+    let parts : length (print_section fields last) ≡ length (flat_map print_field fields) + length (print_end last) = length-append (flat_map print_field fields) (print_end last) in
+    omega (arith, at.len_is, parts, end_some last)
+
+-- a head that tells no length is passed over
+pub bad_head : (bytes : List ℕ) (spans : List HeaderSpan) (len count : ℕ) → IsSectionOf bytes 0 spans (len, count) → IsSectionWithin bytes spans len count → length_told (map (header_bytes bytes) (take count spans)) ≡ None → IsFront bytes (front.Bad len)
+bad_head bytes spans len count is within none = never bytes len (no_length bytes spans len count is none) (some_head bytes spans len count is) within.len_fits
 
 -- a head that tells one
 pub has_head : (bytes : List ℕ) (spans : List HeaderSpan) (len count told : ℕ) → IsSectionOf bytes 0 spans (len, count) → IsSectionWithin bytes spans len count → length spans ≤ MOST_FIELDS → length_told (map (header_bytes bytes) (take count spans)) ≡ Some told → HasHead bytes len told

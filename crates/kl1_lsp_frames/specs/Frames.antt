@@ -36,6 +36,10 @@ pub record IsFrame (bytes body rest : List ℕ) : Type 0 where
 abbrev pub HasNoFrame : List ℕ → Type 0
 HasNoFrame bytes = (body rest : List ℕ) → ¬ (IsFrame bytes body rest)
 
+-- whatever bytes follow, a stream doesn't begin with a message
+abbrev pub NeverFrame : List ℕ → Type 0
+NeverFrame bytes = (more : List ℕ) → HasNoFrame (bytes ++ more)
+
 -- the message that is written for a body
 abbrev pub frame_of : List ℕ → List ℕ
 frame_of body = codes "Content-Length: " ++ decimal (length body) ++ 13 ∷ 10 ∷ 13 ∷ 10 ∷ body

@@ -1,7 +1,7 @@
 // What a stream begins with.
 
 ghost use Rattle.std.specs.Prelude.{◌≡◌, ◌<◌, ◌≤◌, length, IfSome};
-ghost use Rattle.kl1_lsp_frames.specs.Frames.{HasNoFrame};
+ghost use Rattle.kl1_lsp_frames.specs.Frames.{HasNoFrame, NeverFrame};
 ghost use Rattle.kl1_lsp_frames.specs.Fronts.{HasHead, IsFront};
 
 use crate::length::length_told;
@@ -31,7 +31,7 @@ pub enum Front {
 }
 
 /// What bytes begin with. A head that can't be read is passed over up to its empty line, and one that tells no length as a whole.
-#[tactic(auto, using(crate::proofs::Fronts::no_section, crate::proofs::Fronts::overflows, crate::proofs::Fronts::no_length, crate::proofs::Fronts::has_head, crate::proofs::Fronts::within_all))]
+#[tactic(auto, using(crate::proofs::Fronts::no_section, crate::proofs::Fronts::overflows, crate::proofs::Fronts::overflows_ever, crate::proofs::Fronts::bad_head, crate::proofs::Fronts::has_head, crate::proofs::Fronts::within_all))]
 pub fn front_of(bytes: &[u8]) -> Front
     ensures { IsFront bytes.now result }
 {
@@ -66,8 +66,10 @@ fn message_at(bytes: &[u8], start: usize, told: u64) -> Front
 }
 
 /// What bytes are that begin with no head that can be read: one that is bad ends here, or nowhere yet.
+#[tactic(auto, using(crate::proofs::Fronts::many, crate::proofs::Fronts::never))]
 fn unread(bytes: &[u8], end: Option<usize>) -> Front
     requires none { HasNoFrame bytes.now }
+    requires never { IfSome end (λ e. NeverFrame bytes.now) }
     requires some { IfSome end (λ e. 0 < e) }
     requires within { IfSome end (λ e. e ≤ length bytes.now) }
     ensures { IsFront bytes.now result }

@@ -89,6 +89,9 @@ impl Workspace {
         let Some(before) = folder.sources.first() else {
             return Ok(());
         };
+        if !before.is_open {
+            return Ok(());
+        }
         let bytes = change.text.as_bytes();
         let text = match change.range {
             None => Vec::from_slice(alloc, bytes)?,
