@@ -1,5 +1,9 @@
 // What an editor has done for a lens.
 
+ghost use Rattle.std.specs.Prelude.{◌≡◌};
+ghost use Rattle.kl1_lsp_messages.specs.Answers.{answered};
+ghost use Rattle.kl1_lsp_work.specs.Failures.{UnlessMemory};
+
 use crate::closure::places_needed;
 use crate::failure::{Failure, refused};
 use crate::folder::Folder;
@@ -33,7 +37,9 @@ pub(crate) fn run_tests<T: Tools>(
     folder: &Folder,
     params: &Value,
     out: &mut Vec<Value>,
-) -> Result<Value, Failure> {
+) -> Result<Value, Failure>
+    ensures { UnlessMemory result (answered out.new.items ≡ answered out.old.items) }
+{
     let line = params.pointer("/arguments/1").and_then(Value::as_u64);
     let mut files = Vec::new(alloc);
     for place in places_needed(alloc, folder)?.as_slice() {

@@ -1,5 +1,7 @@
 // Why a request has no result.
 
+ghost use Rattle.std.specs.Prelude.{◌≡◌};
+
 use kl1_lsp_messages::{Fault, Outcome, Refused};
 use serde_json::Value;
 use std::alloc::{AllocError, AllocFailed, Global};
@@ -14,13 +16,25 @@ pub(crate) enum Failure {
 }
 
 impl From<AllocError> for Failure {
-    fn from(_refused: AllocError) -> Self {
+    ghost use Rattle.kl1_lsp_work.specs.declared.failure.Failure.TheVariants.{Memory};
+
+    ghost from_gives = { λ _ e. e ≡ Memory };
+
+    fn from(_refused: AllocError) -> Self
+        ensures { result ≡ Failure.Memory }
+    {
         Failure::Memory
     }
 }
 
 impl<T: Drop> From<AllocFailed<T>> for Failure {
-    fn from(_refused: AllocFailed<T>) -> Self {
+    ghost use Rattle.kl1_lsp_work.specs.declared.failure.Failure.TheVariants.{Memory};
+
+    ghost from_gives = { λ _ e. e ≡ Memory };
+
+    fn from(_refused: AllocFailed<T>) -> Self
+        ensures { result ≡ Failure.Memory }
+    {
         Failure::Memory
     }
 }

@@ -15,6 +15,7 @@ const FAULT: u64 = 1;
 const INFO: u64 = 3;
 
 /// Puts a note after what is told.
+#[tactic(auto, using(kl1_lsp_messages::proofs::Answered::note_put))]
 pub(crate) fn put_note(
     alloc: Global,
     out: &mut Vec<Value>,

@@ -1,7 +1,8 @@
 // Requests about texts.
 
-ghost use Rattle.std.specs.Prelude.{◌≡◌, OnOk};
+ghost use Rattle.std.specs.Prelude.{◌≡◌};
 ghost use Rattle.kl1_lsp_messages.specs.Answers.{answered};
+ghost use Rattle.kl1_lsp_work.specs.Failures.{UnlessMemory};
 
 use crate::commands::{run_tests, uri_in};
 use crate::completion::completion_at;
@@ -49,7 +50,7 @@ pub(crate) fn answer_about<T: Tools>(
     question: Question<'_>,
     out: &mut Vec<Value>,
 ) -> Result<Value, Failure>
-    ensures { OnOk result (answered out.new.items ≡ answered out.old.items) }
+    ensures { UnlessMemory result (answered out.new.items ≡ answered out.old.items) }
 {
     let uri = question.uri(alloc)?;
     let Some(folder) = workspace.folder_with(alloc, uri)? else {

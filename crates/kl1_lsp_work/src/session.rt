@@ -55,6 +55,7 @@ impl Session {
 
     /// Takes a message, and puts what is told after what is told already: to a request just one answer, under its id; to what is no message
     /// one under `null`; and no answer to anything else.
+    #[tactic(auto, using(kl1_lsp_messages::proofs::Answered::answer_put))]
     pub fn take<T: Tools>(
         &mut self,
         alloc: Global,
@@ -129,13 +130,13 @@ impl Session {
             params,
             has_markdown: self.has_markdown,
         };
-        // After a refusal nothing but that is told.
-        let before = out.len();
-        let done = answer_about(alloc, tools, &mut self.workspace, question, out);
-        if done.is_err() {
-            out.truncate(before);
-        }
-        outcome_of(done)
+        outcome_of(answer_about(
+            alloc,
+            tools,
+            &mut self.workspace,
+            question,
+            out,
+        ))
     }
 
     /// Takes a note. What it says of a text that isn't known, or says otherwise than the protocol has it, is nothing.
