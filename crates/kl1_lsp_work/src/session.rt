@@ -1,10 +1,11 @@
 // A session with an editor.
 
-ghost use Rattle.std.specs.Prelude.{◌≡◌, ◌++◌, OnOk};
+ghost use Rattle.std.specs.Prelude.{◌≡◌, ◌++◌, Some, OnOk, IfOk};
 ghost use Rattle.kl1_lsp_messages.specs.Answers.{answered, owed};
+ghost use Rattle.kl1_lsp_work.specs.Lives.{IsRefusedFor, refusal_of, phase_after, is_over};
 
 use crate::capabilities::{capabilities, shows_markdown};
-use crate::failure::{outcome_of, refused};
+use crate::failure::outcome_of;
 use crate::json::range_in;
 use crate::methods::{Asked, Noted, asked_by, noted_by};
 use crate::notes::{put_all_diagnostics, put_diagnostics, put_none};
@@ -12,7 +13,7 @@ use crate::requests::{Question, answer_about};
 use crate::source::Source;
 use crate::tools::Tools;
 use crate::workspace::{Change, Workspace};
-use kl1_lsp_messages::{Fault, Kind, Message, Outcome, answer_to};
+use kl1_lsp_messages::{Fault, Kind, Message, Outcome, Refused, answer_to};
 use serde_json::Value;
 use std::alloc::{AllocError, Global};
 
@@ -46,7 +47,9 @@ impl Session {
     }
 
     /// Whether the session was asked to end.
-    pub fn is_over(&self) -> bool {
+    pub(crate) fn is_over(&self) -> bool
+        ensures { result ≡ is_over self.now.phase }
+    {
         match self.phase {
             Phase::Over => true,
             Phase::Before | Phase::Open => false,
@@ -68,7 +71,10 @@ impl Session {
         let outcome = match message.kind {
             Kind::Note => return self.note(alloc, tools, message, out),
             Kind::Answer => return Ok(()),
-            Kind::Request => self.do_request(alloc, tools, message, out)?,
+            Kind::Request => {
+                let asked = asked_by(message.method());
+                self.do_request(alloc, tools, asked, message, out)?
+            }
             Kind::Invalid => refusal(alloc, Fault::Invalid, "no request and no note")?,
             Kind::Broken => refusal(alloc, Fault::Parse, "no JSON")?,
         };
@@ -77,17 +83,19 @@ impl Session {
         Ok(())
     }
 
-    /// Does a request.
+    /// Does a request, if it may come now: the first is `initialize`, and nothing is done after `shutdown`.
     fn do_request<T: Tools>(
         &mut self,
         alloc: Global,
         tools: &T,
+        asked: Option<Asked>,
         message: &Message,
         out: &mut Vec<Value>,
     ) -> Result<Outcome, AllocError>
-        ensures { OnOk result (answered out.new.items ≡ answered out.old.items) }
+        ensures told { OnOk result (answered out.new.items ≡ answered out.old.items) }
+        ensures refused { IfOk result (IsRefusedFor (refusal_of self.old.phase asked)) }
+        ensures phase { OnOk result (self.new.phase ≡ phase_after self.old.phase asked) }
     {
-        let asked = asked_by(message.method());
         match (self.phase, asked) {
             (Phase::Before, Some(Asked::Initialize)) => {
                 self.phase = Phase::Open;
@@ -120,7 +128,8 @@ impl Session {
         message: &Message,
         out: &mut Vec<Value>,
     ) -> Result<Outcome, AllocError>
-        ensures { OnOk result (answered out.new.items ≡ answered out.old.items) }
+        ensures told { OnOk result (answered out.new.items ≡ answered out.old.items) }
+        ensures phase { self.new.phase ≡ self.old.phase }
     {
         let Some(params) = message.params() else {
             return refusal(alloc, Fault::Params, "params are missing");
@@ -252,6 +261,9 @@ fn version_in(params: &Value) -> Option<i64> {
 }
 
 /// What comes of a request that is refused.
-fn refusal(alloc: Global, fault: Fault, words: &str) -> Result<Outcome, AllocError> {
-    outcome_of(Err(refused(alloc, fault, words)))
+fn refusal(alloc: Global, fault: Fault, words: &str) -> Result<Outcome, AllocError>
+    ensures { IfOk result (IsRefusedFor (Some fault)) }
+{
+    let words = String::from_str(alloc, words)?;
+    Ok(Outcome::Refused(Refused { fault, words }))
 }
