@@ -1,7 +1,8 @@
 -- What a message is, by JSON-RPC 2.0 and the Language Server Protocol.
-use Rattle.std.specs.Prelude.{◌≡◌, ℕ, Bool, true, false, not, ◌||◌, if◌then◌else◌, List, codes, Option, Some, None, is_some, option_and_then, IsUtf8}
-use Rattle.serde_json.specs.Data.{Data, null, boolean, number, string, array, object}
-use Rattle.serde_json.specs.Find.{get, as_str, is_float}
+use Rattle.std.specs.Prelude.{◌≡◌, ℕ, Bool, true, false, not, ◌&&◌, ◌||◌, if◌then◌else◌, List, codes, Option, Some, None, is_some, option_map, option_and_then, IsUtf8}
+use Rattle.core.specs.Option.{unwrap_or}
+use Rattle.serde_json.specs.Data.{Data, null}
+use Rattle.serde_json.specs.Find.{get, as_str, as_number, is_float}
 use Rattle.serde_json.specs.Read.{read}
 use Rattle.serde_json.specs.View.{view}
 use Rattle.serde_json.specs.declared.value.Value.{Value}
@@ -11,12 +12,7 @@ use Rattle.kl1_lsp_messages.specs.declared.message.Message.{Message}
 
 -- whether this may be the id of a request: an integer or a text
 abbrev pub is_id_data : Data → Bool
-is_id_data null = false
-is_id_data (boolean b) = false
-is_id_data (number n) = not (is_float n)
-is_id_data (string s) = true
-is_id_data (array ds) = false
-is_id_data (object ms) = false
+is_id_data d = is_some (as_str d) || (is_some (as_number d) && not (unwrap_or (option_map is_float (as_number d)) false))
 
 abbrev pub is_id : Value → Bool
 is_id v = is_id_data (view v)

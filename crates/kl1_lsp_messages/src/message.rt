@@ -34,11 +34,7 @@ pub struct Message {
 fn is_id(value: &Value) -> bool
     ensures { result ≡ is_id value.now }
 {
-    match value {
-        Value::String(_) => true,
-        Value::Number(number) => !number.is_f64(),
-        _ => false,
-    }
+    value.is_string() || (value.is_number() && !value.is_f64())
 }
 
 /// The method that a message names.
