@@ -4,7 +4,7 @@ use crate::folder::Folder;
 use crate::json::text_value;
 use crate::source::Source;
 use crate::target::module_place;
-use kl1_mentions::{Mentions, mentions_of};
+use kl1_mentions::{Mentions, mentions_of, module_in};
 use kl1_reasons_items::{Item, Kind, Token, dropped, taken, tokens_of};
 use serde_json::{Value, json};
 use std::alloc::{AllocError, Global};
@@ -92,7 +92,7 @@ impl Names<'_> {
     fn put_modules(&mut self, folder: &Folder) -> Result<(), AllocError> {
         for source in folder.sources.as_slice() {
             let text = source.text.as_slice();
-            if let Some(module) = &mentions_of(self.alloc, text)?.module {
+            if let Some(module) = module_in(self.alloc, text)? {
                 self.put(module.bytes(text), Named::Module, b"module")?;
             }
         }

@@ -2,7 +2,7 @@
 
 use crate::folder::Folder;
 use crate::source::Source;
-use kl1_mentions::{Mention, Mentions, mentions_of};
+use kl1_mentions::{Mention, Mentions, mentions_of, module_in};
 use std::alloc::{AllocError, Global};
 
 /// A predicate, or a module, that is meant at a place.
@@ -50,8 +50,10 @@ pub(crate) fn module_place(
     for source in folder.sources.as_slice() {
         let text = source.text.as_slice();
         // The library's modules would be looked for after those of the folder.
-        if mentions_of(alloc, text)?.module_name(text) == module {
-            return Ok(Some(place));
+        if let Some(own) = module_in(alloc, text)? {
+            if own.name(text) == module {
+                return Ok(Some(place));
+            }
         }
         place += 1;
     }

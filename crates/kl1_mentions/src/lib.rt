@@ -7,4 +7,4 @@ mod mentions;
 mod tests;
 
 pub use mention::{Mention, Predicate, Role};
-pub use mentions::{Mentions, mentions_of};
+pub use mentions::{Mentions, mentions_of, module_in};

@@ -17,6 +17,14 @@ pub struct Mentions {
     pub all: Vec<Mention>,
 }
 
+/// The name in the line of a text's module, which is the third token of its first item.
+pub fn module_in(alloc: Global, text: &[u8]) -> Result<Option<Token>, AllocError> {
+    let start = blanks_end(text, 0);
+    let end = item_end(text, start);
+    let tokens = tokens_of(alloc, text, Item { start, end })?;
+    Ok(tokens.get(2).copied())
+}
+
 /// The places at which a text names predicates, as its tokens show them. A clause that can't be read shows its head, and goals that name
 /// their module.
 pub fn mentions_of(alloc: Global, text: &[u8]) -> Result<Mentions, AllocError>
