@@ -92,10 +92,19 @@ as_told bytes body rest start told h f =
     let both : Some told ≡ Some (length body) = sym h.tells ∙ tells in
     (cc, same.2)
 
+-- a head has bytes
+some_bytes : (bytes : List ℕ) (start told : ℕ) → HasHead bytes start told → 0 < length bytes
+some_bytes bytes start told h =
+    let parts : length bytes ≡ length (print_section h.fields h.last) + length (drop start bytes) = ap length h.reads.1 ∙ length-append (print_section h.fields h.last) (drop start bytes) in
+    let section : length (print_section h.fields h.last) ≡ length (flat_map print_field h.fields) + length (print_end h.last) = length-append (flat_map print_field h.fields) (print_end h.last) in
+    omega (arith, parts, section, end_some h.last)
+
 pub too_large : (bytes : List ℕ) (start told : ℕ) → HasHead bytes start told → MOST_MESSAGE_BYTES < told → IsFront bytes front.Large
-too_large bytes start told h large body rest few f =
-    let as = (as_told bytes body rest start told h f).0 in
-    omega (arith, as, large, few)
+too_large bytes start told h large =
+    (some_bytes bytes start told h,
+     λ body rest few f.
+       let as = (as_told bytes body rest start told h f).0 in
+       omega (arith, as, large, few))
 
 pub too_short : (bytes : List ℕ) (start told : ℕ) → HasHead bytes start told → length bytes - start < told → IsFront bytes front.Partial
 too_short bytes start told h short body rest f =

@@ -21,5 +21,5 @@ pub record PassesOver (before after : Option (List ℕ)) : Type 0 where
 abbrev pub ComesIn : Option (List ℕ) → Option (List ℕ) → Incoming → Type 0
 ComesIn before after (incoming.Message body) = HasMessage body.items before after
 ComesIn before after incoming.Bad = PassesOver before after
-ComesIn before after incoming.Large = ⊤
+ComesIn before after incoming.Large = PassesOver before after
 ComesIn before after incoming.Ended = ⊤

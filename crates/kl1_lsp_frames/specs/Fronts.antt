@@ -26,4 +26,4 @@ abbrev pub IsFront : List ℕ → Front → Type 0
 IsFront bytes (front.Message start end) = (start ≤ end) × (end ≤ length bytes) × IsFrame bytes (slice_range bytes start end) (drop end bytes)
 IsFront bytes front.Partial = HasNoFrame bytes
 IsFront bytes (front.Bad end) = (0 < end) × (end ≤ length bytes) × IsHopeless bytes
-IsFront bytes front.Large = (body rest : List ℕ) → length body ≤ MOST_MESSAGE_BYTES → ¬ (IsFrame bytes body rest)
+IsFront bytes front.Large = (0 < length bytes) × ((body rest : List ℕ) → length body ≤ MOST_MESSAGE_BYTES → ¬ (IsFrame bytes body rest))

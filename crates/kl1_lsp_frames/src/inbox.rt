@@ -18,7 +18,7 @@ pub enum Incoming {
     Message(Vec<u8>),
     /// What is no head of a message. It is passed over.
     Bad,
-    /// A message of more bytes than one may have. Nothing is known of what comes after it.
+    /// A message of more bytes than one may have. What came of it is passed over, and nothing is known of what comes after that.
     Large,
     /// Nothing any more: the stream has ended, or a read failed.
     Ended,
@@ -84,7 +84,11 @@ impl Inbox {
                     self.pass(alloc, end)?;
                     return Ok(Incoming::Bad);
                 }
-                Front::Large => return Ok(Incoming::Large),
+                Front::Large => {
+                    let all = self.kept.len();
+                    self.pass(alloc, all)?;
+                    return Ok(Incoming::Large);
+                }
                 Front::Partial => {
                     if !self.read_more(source)? {
                         return Ok(Incoming::Ended);

@@ -1,2 +1,3 @@
 pub mod Failures
 pub mod Lives
+pub mod Serving

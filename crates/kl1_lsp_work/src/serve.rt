@@ -1,5 +1,11 @@
 // A session over streams.
 
+ghost use Rattle.std.specs.Prelude.{◌≡◌, ◌++◌, ◌∷◌, [], ℕ, List, OnOk};
+ghost use Rattle.std.specs.declared.option.Option.{Option};
+ghost use Rattle.serde_json.specs.Data.{null};
+ghost use Rattle.kl1_lsp_messages.specs.Answers.{answered};
+ghost use Rattle.kl1_lsp_work.specs.Serving.{Serves, WritesEach};
+
 use crate::methods::EXIT;
 use crate::session::Session;
 use crate::tools::Tools;
@@ -43,7 +49,9 @@ pub fn serve<S: Source, K: Sink, T: Tools>(
     tools: &T,
     source: &mut S,
     sink: &mut K,
-) -> Result<bool, ServeFault> {
+) -> Result<bool, ServeFault>
+    ensures { OnOk result ((after : Option (List ℕ)) × Serves (S.remaining source.old) after (K.contents sink.old) (K.contents sink.new)) }
+{
     let mut session = Session::new(alloc);
     let mut inbox = Inbox::new(alloc);
     for _ in 0..u64::MAX {
@@ -85,7 +93,9 @@ fn put_refusal(
     fault: Fault,
     words: &str,
     out: &mut Vec<Value>,
-) -> Result<(), AllocError> {
+) -> Result<(), AllocError>
+    ensures { OnOk result (answered out.new.items ≡ answered out.old.items ++ null ∷ []) }
+{
     let words = String::from_str(alloc, words)?;
     let refused = Outcome::Refused(Refused { fault, words });
     out.push(answer_to(alloc, Value::Null, refused)?)?;
@@ -93,7 +103,9 @@ fn put_refusal(
 }
 
 /// Writes messages, and sees that they go on their way.
-fn write_each<K: Sink>(alloc: Global, sink: &mut K, messages: &[Value]) -> Result<(), ServeFault> {
+fn write_each<K: Sink>(alloc: Global, sink: &mut K, messages: &[Value]) -> Result<(), ServeFault>
+    ensures { OnOk result (WritesEach messages.now (K.contents sink.old) (K.contents sink.new)) }
+{
     let mut bytes = Vec::new(alloc);
     for message in messages {
         put_frame(&mut bytes, message.to_vec(alloc)?.as_slice())?;
