@@ -64,7 +64,7 @@ all_back : (xs : List ℕ) → list_all is_digit xs ≡ true → list_all is_dig
 all_back [] e = refl
 all_back (x ∷ xs) e =
     subst (λ l. list_all is_digit l ≡ true) (sym (reverse-append (x ∷ []) xs))
-      (all_both (reverse xs) (x ∷ []) (all_back xs (right_of (is_digit x) (list_all is_digit xs) e)) (rw (left_of (is_digit x) (list_all is_digit xs) e) refl))
+    (all_both (reverse xs) (x ∷ []) (all_back xs (right_of (is_digit x) (list_all is_digit xs) e)) (rw (left_of (is_digit x) (list_all is_digit xs) e) refl))
 
 trimmed : (ds : List ℕ) → list_all is_digit ds ≡ true → trim_ows (32 ∷ ds) ≡ ds
 unfolding trim_ows

@@ -66,11 +66,7 @@ impl Inbox {
 
     /// The next message, or what stands in its place.
     #[tactic(auto, using(crate::proofs::Coming::keeps_same, crate::proofs::Coming::keeps_both, crate::proofs::Coming::message_comes, crate::proofs::Coming::bad_passes))]
-    pub fn next<S: Source>(
-        &mut self,
-        alloc: Global,
-        source: &mut S,
-    ) -> Result<Incoming, AllocError>
+    pub fn next<S: Source>(&mut self, alloc: Global, source: &mut S) -> Result<Incoming, AllocError>
         ensures { IfOk result (ComesIn (prepend_known self.old.kept.items (S.remaining source.old)) (prepend_known self.new.kept.items (S.remaining source.new))) }
     {
         for _ in 0..u64::MAX {

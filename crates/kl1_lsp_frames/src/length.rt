@@ -16,7 +16,10 @@ fn is_length_name(name: &[u8]) -> bool
 }
 
 /// The value of the first field of these that tells how many bytes a message has, and how many fields come after it.
-fn first_length<'b>(bytes: &'b [u8], fields: &'b [HeaderSpan]) -> Option<(&'b [u8], &'b [HeaderSpan])>
+fn first_length<'b>(
+    bytes: &'b [u8],
+    fields: &'b [HeaderSpan],
+) -> Option<(&'b [u8], &'b [HeaderSpan])>
     requires { All (IsHeaderWithin (length bytes.now)) fields.now }
     ensures { option_map (λ found. (found.0.now, map (header_bytes bytes.now) found.1.now)) result ≡ first_length (map (header_bytes bytes.now) fields.now) }
 {

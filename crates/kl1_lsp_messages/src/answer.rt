@@ -32,7 +32,12 @@ pub fn answer_to(alloc: Global, id: Value, outcome: Outcome) -> Result<Value, Al
     ensures { IfOk result (λ value. view value ≡ answer_data (view id) (outcome_view outcome)) }
 {
     let mut map = Map::new(alloc);
-    put(&mut map, alloc, "jsonrpc", Value::try_from_str(alloc, "2.0")?)?;
+    put(
+        &mut map,
+        alloc,
+        "jsonrpc",
+        Value::try_from_str(alloc, "2.0")?,
+    )?;
     put(&mut map, alloc, "id", id)?;
     match outcome {
         Outcome::Done(value) => put(&mut map, alloc, "result", value)?,

@@ -12,8 +12,18 @@ pub fn note_of(alloc: Global, method: &str, params: Value) -> Result<Value, Allo
     ensures { IfOk result (λ value. view value ≡ note_data method.now (view params)) }
 {
     let mut map = Map::new(alloc);
-    put(&mut map, alloc, "jsonrpc", Value::try_from_str(alloc, "2.0")?)?;
-    put(&mut map, alloc, "method", Value::try_from_str(alloc, method)?)?;
+    put(
+        &mut map,
+        alloc,
+        "jsonrpc",
+        Value::try_from_str(alloc, "2.0")?,
+    )?;
+    put(
+        &mut map,
+        alloc,
+        "method",
+        Value::try_from_str(alloc, method)?,
+    )?;
     put(&mut map, alloc, "params", params)?;
     Ok(Value::Object(map))
 }

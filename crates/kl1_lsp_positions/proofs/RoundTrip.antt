@@ -23,13 +23,14 @@ from_fresh : (p : Position) → IsFrom p (fresh p)
 from_fresh p = (omega arith, λ e. omega (arith, e))
 
 from_both : (p q r : Position) → IsFrom p q → IsFrom q r → IsFrom p r
-from_both p q r h k =
-    (omega (arith, h.0, k.0),
-     λ e. let same : p.line ≡ q.line = omega (arith, h.0, k.0, e) in
-          let next : q.line ≡ r.line = omega (arith, h.0, k.0, e) in
-          let one : p.character ≤ q.character = h.1 same in
-          let two : q.character ≤ r.character = k.1 next in
-          omega (arith, one, two))
+from_both p q r h k = (
+  omega (arith, h.0, k.0),
+  λ e. let same : p.line ≡ q.line = omega (arith, h.0, k.0, e) in
+      let next : q.line ≡ r.line = omega (arith, h.0, k.0, e) in
+      let one : p.character ≤ q.character = h.1 same in
+      let two : q.character ≤ r.character = k.1 next in
+      omega (arith, one, two),
+)
 
 from_end : (x : Bool) (p : Position) → IsFrom p (if x then p else fresh p)
 from_end true p = from_same p
@@ -127,19 +128,19 @@ fails true false false false h k = refl
 goes_on : (n : ℕ) (p t : Position) (b : ℕ) (bs : List ℕ) → t ≡ position_after n (next_position p b bs) bs → is_inside n (b == 13) bs ≡ false → stops t p b ≡ false
 goes_on n p t b bs is k =
     fails (p.line == t.line) (is_inner b) (is_end b) (nat_lt t.character (p.character + units b))
-      (λ e z.
-        let far : p.line < (position_after n (next_position p b bs) bs).line = later n p b bs (b == 13 && begins_feed bs) z refl k in
-        let same : p.line ≡ t.line = eqb-true p.line t.line e in
-        let there : t.line ≡ (position_after n (next_position p b bs) bs).line = ap (λ (x : Position). x.line) is in
-        omega (arith, far, same, there))
-      (λ e z l.
-        let same : p.line ≡ t.line = eqb-true p.line t.line e in
-        let here : next_position p b bs ≡ moved p (units b) = next_within p b bs z in
-        let from : IsFrom (next_position p b bs) (position_after n (next_position p b bs) bs) = from_all n (next_position p b bs) bs in
-        let from_here : IsFrom (moved p (units b)) t = subst (λ (q : Position). IsFrom q t) here (subst (λ (q : Position). IsFrom (next_position p b bs) q) (sym is) from) in
-        let reached : p.character + units b ≤ t.character = from_here.1 same in
-        let less : t.character < p.character + units b = ltb-true t.character (p.character + units b) l in
-        omega (arith, reached, less))
+    (λ e z.
+    let far : p.line < (position_after n (next_position p b bs) bs).line = later n p b bs (b == 13 && begins_feed bs) z refl k in
+    let same : p.line ≡ t.line = eqb-true p.line t.line e in
+    let there : t.line ≡ (position_after n (next_position p b bs) bs).line = ap (λ (x : Position). x.line) is in
+    omega (arith, far, same, there))
+    (λ e z l.
+    let same : p.line ≡ t.line = eqb-true p.line t.line e in
+    let here : next_position p b bs ≡ moved p (units b) = next_within p b bs z in
+    let from : IsFrom (next_position p b bs) (position_after n (next_position p b bs) bs) = from_all n (next_position p b bs) bs in
+    let from_here : IsFrom (moved p (units b)) t = subst (λ (q : Position). IsFrom q t) here (subst (λ (q : Position). IsFrom (next_position p b bs) q) (sym is) from) in
+    let reached : p.character + units b ≤ t.character = from_here.1 same in
+    let less : t.character < p.character + units b = ltb-true t.character (p.character + units b) l in
+    omega (arith, reached, less))
 
 some_units_by : (x : Bool) → 1 ≤ (if x then 1 else 2)
 some_units_by true = omega arith

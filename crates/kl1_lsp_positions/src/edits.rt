@@ -14,12 +14,7 @@ pub struct Range {
 }
 
 /// A text with other bytes in place of those of a range. A range that ends before it starts has none.
-pub fn edited(
-    alloc: Global,
-    text: &[u8],
-    range: Range,
-    bytes: &[u8],
-) -> Result<Vec<u8>, AllocError>
+pub fn edited(alloc: Global, text: &[u8], range: Range, bytes: &[u8]) -> Result<Vec<u8>, AllocError>
     ensures { IfOk result (λ new. new.items ≡ edited text.now range bytes.now) }
 {
     let start = offset_of(text, range.start);

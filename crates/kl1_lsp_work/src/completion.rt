@@ -30,14 +30,23 @@ fn number_of(named: Named) -> u64 {
 
 /// Names that every module has, with what they are.
 const WORDS: [(&str, &str); 9] = [
-    ("true", "the goal that does nothing, and the test that holds"),
+    (
+        "true",
+        "the goal that does nothing, and the test that holds",
+    ),
     ("otherwise", "parts the clauses of a predicate"),
     ("wait", "wait(X): X is known"),
     ("integer", "integer(X): X is an integer"),
     ("atom", "atom(X): X is an atom"),
     ("list", "list(X): X is a list that isn't empty"),
-    ("atom_from", "atom_from(Codes,X): X is the atom of these codes"),
-    ("shoen", "shoen:execute(Goal,Low,High,Allowance,Control,Reports)"),
+    (
+        "atom_from",
+        "atom_from(Codes,X): X is the atom of these codes",
+    ),
+    (
+        "shoen",
+        "shoen:execute(Goal,Low,High,Allowance,Control,Reports)",
+    ),
     ("mod", "X mod Y"),
 ];
 
@@ -81,7 +90,11 @@ impl Names<'_> {
             };
             if !is_same {
                 let detail = detail_of(self.alloc, &mentions, text, predicate.count)?;
-                self.put(mention.name.bytes(text), Named::Predicate, detail.as_slice())?;
+                self.put(
+                    mention.name.bytes(text),
+                    Named::Predicate,
+                    detail.as_slice(),
+                )?;
             }
             last = Some((predicate.name, predicate.count));
         }
@@ -110,9 +123,8 @@ impl Names<'_> {
         while let [first, others @ ..] = rest {
             let name = first.bytes(text);
             let is_here = first.start < at && at <= first.end;
-            let is_again = others
-                .iter()
-                .any(|other| other.bytes(text) == name && !(other.start < at && at <= other.end));
+            let is_again = others.iter().any(|other| other.bytes(text) == name
+                && !(other.start < at && at <= other.end));
             if matches!(first.kind, Kind::Variable) && !is_here && !is_again {
                 self.put(name, Named::Variable, b"variable of the clause")?;
             }
@@ -151,7 +163,11 @@ fn word_start(text: &[u8], at: usize) -> usize {
 
 /// The names that may stand at a place of the first source: after `m:` the predicates of m, after a capital letter the variables of the clause,
 /// and else the predicates of the module, names of modules, and what is built in.
-pub(crate) fn completion_at(alloc: Global, folder: &Folder, at: usize) -> Result<Value, AllocError> {
+pub(crate) fn completion_at(
+    alloc: Global,
+    folder: &Folder,
+    at: usize,
+) -> Result<Value, AllocError> {
     let mut names = Names {
         alloc,
         begun: &[],

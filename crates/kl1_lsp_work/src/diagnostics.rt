@@ -33,7 +33,13 @@ pub(crate) fn diagnostics_of(alloc: Global, folder: &Folder) -> Result<Value, Al
     put_each(alloc, text, reasons.as_slice(), Severity::Error, &mut told)?;
     if reasons.is_empty() {
         let warnings = warnings_of(alloc, text, own, folder.modules.as_slice())?;
-        put_each(alloc, text, warnings.as_slice(), Severity::Warning, &mut told)?;
+        put_each(
+            alloc,
+            text,
+            warnings.as_slice(),
+            Severity::Warning,
+            &mut told,
+        )?;
     }
     Ok(Value::Array(told))
 }

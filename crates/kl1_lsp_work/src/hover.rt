@@ -99,7 +99,11 @@ fn hover_value(alloc: Global, text: &[u8], has_markdown: bool) -> Result<Value, 
     if has_markdown {
         shown.extend_from_slice(b"\n```")?;
     }
-    let kind = if has_markdown { "markdown" } else { "plaintext" };
+    let kind = if has_markdown {
+        "markdown"
+    } else {
+        "plaintext"
+    };
     let value = text_value(alloc, shown.as_slice())?;
     json!(in alloc; {"contents": {"kind": kind, "value": value}})
 }

@@ -51,11 +51,7 @@ pub(crate) fn location_value(
 }
 
 /// The text that a member is to which a path leads.
-pub(crate) fn text_at<'v>(
-    alloc: Global,
-    value: &'v Value,
-    path: &str,
-) -> Result<&'v str, Failure> {
+pub(crate) fn text_at<'v>(alloc: Global, value: &'v Value, path: &str) -> Result<&'v str, Failure> {
     match value.pointer(path).and_then(Value::as_str) {
         Some(text) => Ok(text),
         None => Err(missing(alloc, path)),

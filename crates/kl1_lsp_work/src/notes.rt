@@ -12,6 +12,7 @@ use std::alloc::{AllocError, Global};
 
 /// The numbers of the protocol for a message that tells of a fault, and for one that doesn't.
 const FAULT: u64 = 1;
+
 const INFO: u64 = 3;
 
 /// Puts a note after what is told.

@@ -59,7 +59,12 @@ pub fn serve<S: Source, K: Sink, T: Tools>(
         match inbox.next(alloc, source)? {
             Incoming::Ended => return Ok(false),
             Incoming::Large => {
-                put_refusal(alloc, Fault::Invalid, "more than 16,777,216 bytes", &mut out)?;
+                put_refusal(
+                    alloc,
+                    Fault::Invalid,
+                    "more than 16,777,216 bytes",
+                    &mut out,
+                )?;
                 write_each(alloc, sink, out.as_slice())?;
                 return Ok(false);
             }

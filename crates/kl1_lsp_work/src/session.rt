@@ -139,13 +139,7 @@ impl Session {
             params,
             has_markdown: self.has_markdown,
         };
-        outcome_of(answer_about(
-            alloc,
-            tools,
-            &mut self.workspace,
-            question,
-            out,
-        ))
+        outcome_of(answer_about(alloc, tools, &mut self.workspace, question, out))
     }
 
     /// Takes a note. What it says of a text that isn't known, or says otherwise than the protocol has it, is nothing.
@@ -158,9 +152,11 @@ impl Session {
     ) -> Result<(), AllocError>
         ensures { OnOk result (answered out.new.items ≡ answered out.old.items) }
     {
-        let (Phase::Open, Some(noted), Some(params)) =
-            (self.phase, noted_by(message.method()), message.params())
-        else {
+        let (Phase::Open, Some(noted), Some(params)) = (
+            self.phase,
+            noted_by(message.method()),
+            message.params(),
+        ) else {
             return Ok(());
         };
         match noted {

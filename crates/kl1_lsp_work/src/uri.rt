@@ -7,8 +7,14 @@ use std::alloc::{AllocError, Global};
 const FILE: &[u8] = b"file://";
 
 /// The bytes of a path that are escaped in its URI: all but letters, digits, slashes, and the four marks that RFC 3986 leaves as they are.
-const ESCAPED: AsciiSet =
-    ascii_set!(NON_ALPHANUMERIC.remove(b'/').remove(b'-').remove(b'.').remove(b'_').remove(b'~'));
+const ESCAPED: AsciiSet = ascii_set!(
+    NON_ALPHANUMERIC
+        .remove(b'/')
+        .remove(b'-')
+        .remove(b'.')
+        .remove(b'_')
+        .remove(b'~')
+);
 
 /// The key by which a text is known: its path, which begins with a slash, if its URI is that of a file, and else the URI itself. So it is known
 /// that two URIs are of one file, though they escape other bytes.

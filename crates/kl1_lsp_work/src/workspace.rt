@@ -119,11 +119,7 @@ impl Workspace {
     }
 
     /// Reads the files of all folders anew.
-    pub(crate) fn refresh<T: Tools>(
-        &mut self,
-        alloc: Global,
-        tools: &T,
-    ) -> Result<(), AllocError> {
+    pub(crate) fn refresh<T: Tools>(&mut self, alloc: Global, tools: &T) -> Result<(), AllocError> {
         for folder in &mut self.folders {
             read_anew(alloc, tools, folder)?;
         }

@@ -50,7 +50,9 @@ pub fn mentions_of(alloc: Global, text: &[u8]) -> Result<Mentions, AllocError>
         at = end;
     }
     put_tests(alloc, text, &mut mentions.all)?;
-    mentions.all.sort_by_key(|mention: &Mention| mention.name.start)?;
+    mentions
+        .all
+        .sort_by_key(|mention: &Mention| mention.name.start)?;
     Ok(mentions)
 }
 

@@ -7,8 +7,8 @@ mod trial;
 
 use files::read_each;
 use kl1_words::{Fault, OptionSpec, Program, SystemFaults, Takes, asked_in};
-pub use results::{Results, results_in_first};
 use results::results_of;
+pub use results::{Results, results_in_first};
 use std::io::Write;
 
 /// What the program knows.
