@@ -1,6 +1,5 @@
 -- What a message is, by JSON-RPC 2.0 and the Language Server Protocol.
-use Rattle.std.specs.Prelude.{◌≡◌, ℕ, Bool, true, false, not, ◌&&◌, ◌||◌, if◌then◌else◌, List, codes, Option, Some, None, is_some, option_map, option_and_then, IsUtf8}
-use Rattle.core.specs.Option.{unwrap_or}
+use Rattle.std.specs.Prelude.{◌≡◌, ℕ, Bool, true, false, not, ◌&&◌, ◌||◌, if◌then◌else◌, List, codes, Option, Some, None, is_some, unwrap_or, option_map, option_and_then, IsUtf8}
 use Rattle.serde_json.specs.Data.{Data, null}
 use Rattle.serde_json.specs.Find.{get, as_str, as_number, is_float}
 use Rattle.serde_json.specs.Read.{read}
