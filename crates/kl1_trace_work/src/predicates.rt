@@ -117,10 +117,10 @@ impl Predicates {
     }
 
     /// How much is read of the text of a goal that calls what is at a place. What is shown stands in its first `most` bytes; of a goal that
-    /// isn't known to call a predicate of a module it may be a side of an equation, which ends with its text.
+    /// isn't known to call a predicate of a user's module it may be a side of an equation or a control stream, which ends with its text.
     pub fn extent_of(&self, place: usize, most: usize) -> Extent {
         match self.called(place) {
-            Some(called) if called.module.is_some() => Extent::AtMost(most),
+            Some(called) if has_clauses(called) => Extent::AtMost(most),
             _ => Extent::Cut,
         }
     }
@@ -249,6 +249,14 @@ impl Predicates {
     fn is_of_clauses(&self, place: usize) -> bool {
         match self.called(place) {
             Some(called) => has_clauses(called),
+            None => false,
+        }
+    }
+
+    /// Whether the predicate of a place is of `shoen`, which opens shoens.
+    pub fn is_of_shoen(&self, place: usize) -> bool {
+        match self.called(place) {
+            Some(called) => called.module.is_some() && !has_clauses(called),
             None => false,
         }
     }

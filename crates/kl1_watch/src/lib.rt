@@ -11,10 +11,13 @@ mod notes;
 mod ordered;
 mod snapshot;
 mod standing;
+mod totals;
 mod waiting;
 
+pub use held::holder_of;
 pub use holders::Holders;
 pub use lines::{Told, put_standing};
 pub use names::Names;
 pub use notes::{Note, Notes, Origins};
 pub use standing::{Awaited, Standing, WaitingGoal, standing_of};
+pub use totals::{total_of, totals_of};

@@ -6,6 +6,7 @@ use crate::limit::put_limit;
 use crate::names::Names;
 use crate::notes::{Notes, note_of};
 use crate::standing::{Awaited, Standing, WaitingGoal};
+use crate::totals::total_of;
 use kl1_command::Views;
 use kl1_lines::put_decimal;
 use kl1_model::Condition;
@@ -77,7 +78,8 @@ fn put_shoens(standing: &Standing, told: &Told<'_>, out: &mut Vec<u8>) -> Result
     }
     put_left_out(told.program, b"unanswered exceptions", count, out)?;
     for shoen in standing.still.iter().take(MOST_SHOENS as usize) {
-        put_still(shoen, told.program, out)?;
+        let total = total_of(standing.totals.as_slice(), shoen.number.0);
+        put_still(shoen, total, told.program, out)?;
     }
     let still = standing.still.len() as u64;
     put_left_out(told.program, b"stopped or exhausted shoens", still, out)
@@ -283,8 +285,13 @@ fn word_of(condition: Condition) -> &'static [u8] {
     }
 }
 
-/// Puts the line of a shoen that holds its goals back after the bytes.
-fn put_still(shoen: &ShoenView, program: &[u8], out: &mut Vec<u8>) -> Result<(), AllocError> {
+/// Puts the line of a shoen that holds its goals back after the bytes: those are all that are in it and below it.
+fn put_still(
+    shoen: &ShoenView,
+    total: u64,
+    program: &[u8],
+    out: &mut Vec<u8>,
+) -> Result<(), AllocError> {
     out.extend_from_slice(program)?;
     out.extend_from_slice(b": shoen ")?;
     put_decimal(out, shoen.number.0)?;
@@ -299,7 +306,7 @@ fn put_still(shoen: &ShoenView, program: &[u8], out: &mut Vec<u8>) -> Result<(),
     out.extend_from_slice(b" of ")?;
     put_decimal(out, shoen.allowance)?;
     out.extend_from_slice(b", goals alive: ")?;
-    put_decimal(out, shoen.alive)?;
+    put_decimal(out, total)?;
     out.push(b'\n')?;
     Ok(())
 }

@@ -3,6 +3,7 @@
 use crate::holders::{Holders, holders_of, variables_of};
 use crate::ordered::ordered;
 use crate::snapshot::{goals_in, shoens_in};
+use crate::totals::totals_of;
 use crate::waiting::{still_among, unanswered_among, waiting_among};
 use kl1_command::Views;
 use kl1_user_events::{GoalNo, GoalView, ShoenView};
@@ -29,12 +30,16 @@ pub struct Standing {
     pub count: u64,
     /// The first of them, those first of which no other goal has the variables.
     pub waiting: Vec<WaitingGoal>,
-    /// The goals in place of those that raised an exception that nobody has answered, and that no shoen holds back.
+    /// The goals in place of those that raised an exception that nobody has answered.
     pub unanswered: Vec<GoalView>,
+    /// How many of them no shoen holds back.
+    pub free: u64,
     /// The shoens that live, and hold their goals back.
     pub still: Vec<ShoenView>,
     /// All shoens.
     pub shoens: Vec<ShoenView>,
+    /// For each of them, how many goals there are in it and below it.
+    pub totals: Vec<u64>,
 }
 
 /// These variables, each with the other goals that have it.
@@ -95,15 +100,18 @@ fn standing_over<H: Views>(
     let all = waiting_among(alloc, shoens, goals)?;
     let order = ordered(alloc, host, goals, all.as_slice())?;
     let waiting = front_of(alloc, host, goals, order.as_slice(), most)?;
-    let unanswered = unanswered_among(alloc, shoens, goals)?;
+    let unanswered = unanswered_among(alloc, host, shoens, goals)?;
     let still = still_among(alloc, shoens)?;
     let copies = Vec::from_slice(alloc, shoens)?;
+    let totals = totals_of(alloc, shoens)?;
     Ok(Standing {
         count: all.len() as u64,
         waiting,
-        unanswered,
+        unanswered: unanswered.goals,
+        free: unanswered.free,
         still,
         shoens: copies,
+        totals,
     })
 }
 

@@ -3,6 +3,7 @@
 use crate::run::after::After;
 use kl1_model::Condition;
 use kl1_run_work::Ending;
+use kl1_user_events::ShoenView;
 use kl1_watch::Standing;
 use kl1_words::Fault;
 use kl1_world::Rules;
@@ -28,17 +29,26 @@ pub fn used_of(rules: Rules, files: u64, steps: u64) -> Used {
     }
 }
 
-/// Whether goals stand still in exhausted shoens alone: none waits, for a variable or for an answer.
+/// Whether a shoen is held back by its allowance alone.
+fn is_spent(shoen: &ShoenView) -> bool {
+    match shoen.condition {
+        Condition::Exhausted => true,
+        Condition::Stopped | Condition::Running | Condition::Terminated | Condition::Aborted =>
+            false,
+    }
+}
+
+/// Whether goals stand still in exhausted shoens alone: none waits, for a variable or for an answer, and no shoen is stopped.
 fn is_exhausted(standing: &Standing) -> bool {
-    if 0 < standing.count || !standing.unanswered.is_empty() {
+    if 0 < standing.count || 0 < standing.free {
         return false;
     }
     for shoen in standing.still.as_slice() {
-        if let Condition::Exhausted = shoen.condition {
-            return true;
+        if !is_spent(shoen) {
+            return false;
         }
     }
-    false
+    !standing.still.is_empty()
 }
 
 /// The status of a run after which goals are left that can't step.

@@ -5,7 +5,7 @@ use kl1_journal_entries::{Deed, entry_of, next_line};
 use kl1_lines::put_decimal;
 use kl1_model::{Message, Rules};
 use kl1_timeline::{Observers, draw_new};
-use kl1_trace_work::{NewGoal, Predicates, Trace, Viewer, Watched, watch_first, watch_step};
+use kl1_trace_work::{Anew, NewGoal, Predicates, Trace, Viewer, Watched, watch_first, watch_step};
 use kl1_user_events::{Event, Reply};
 use kl1_words::Fault;
 use std::alloc::{AllocError, Global};
@@ -33,7 +33,7 @@ enum Done {
 pub struct Player<'a, W> {
     pub alloc: Global,
     pub rules: Rules,
-    pub viewer: Viewer<Observers<'a, W>>,
+    pub viewer: Viewer<'a, Observers<'a, W>>,
 }
 
 /// What became of a step.
@@ -80,26 +80,27 @@ fn put_event(event: &Event, reply: &Reply, out: &mut Vec<u8>) -> Result<(), Allo
     }
 }
 
-/// Puts the lines of goals that came up otherwise than in a step after these, and tells them, if steps are told.
+/// Puts the lines of what came up otherwise than in a step after these, and tells them, if steps are told.
 fn trace_new<H: Views, W: Write + Drop>(
     host: &mut H,
     trace: &mut Option<Trace<'_, W>>,
     predicates: &Predicates,
-    new: &[NewGoal],
+    new: &Anew,
     mut lines: Vec<u8>,
 ) -> Result<(), AllocError> {
     if let Some(trace) = trace {
-        trace.put_all_new(host, predicates, new, &mut lines)?;
+        trace.put_all_new(host, predicates, new.goals.as_slice(), &mut lines)?;
+        trace.put_all_opened(new.opened.as_slice(), &mut lines)?;
         trace.tell(lines.as_slice())?;
     }
     Ok(())
 }
 
-/// Tells goals that came up otherwise than in a step after lines, if steps are told.
+/// Tells what came up otherwise than in a step after lines, if steps are told.
 fn trace<H: Views, W: Write + Drop>(
     host: &mut H,
-    viewer: &mut Viewer<Observers<'_, W>>,
-    new: &[NewGoal],
+    viewer: &mut Viewer<'_, Observers<'_, W>>,
+    new: &Anew,
     lines: Vec<u8>,
 ) -> Result<(), AllocError> {
     trace_new(
@@ -114,7 +115,7 @@ fn trace<H: Views, W: Write + Drop>(
 /// Draws goals that came up otherwise than in a step, if there is a picture.
 fn draw<H: Views, W>(
     host: &mut H,
-    viewer: &mut Viewer<Observers<'_, W>>,
+    viewer: &mut Viewer<'_, Observers<'_, W>>,
     new: &[NewGoal],
 ) -> Result<(), AllocError> {
     let step = viewer.number;
@@ -128,19 +129,19 @@ fn draw<H: Views, W>(
 }
 
 impl<W: Write + Drop> Player<'_, W> {
-    /// Tells an event that isn't a step, and the goals that are new by it.
+    /// Tells an event that isn't a step, and what is new by it.
     fn tell<H: Views>(
         &mut self,
         host: &mut H,
         event: &Event,
         reply: &Reply,
-        new: &[NewGoal],
+        new: &Anew,
     ) -> Result<(), AllocError> {
         let mut lines = Vec::new(self.alloc);
         put_event(event, reply, &mut lines)?;
         lines.push(b'\n')?;
         trace(host, &mut self.viewer, new, lines)?;
-        draw(host, &mut self.viewer, new)
+        draw(host, &mut self.viewer, new.goals.as_slice())
     }
 
     /// Has an event done and told.
@@ -157,7 +158,7 @@ impl<W: Write + Drop> Player<'_, W> {
             return Ok(Done::Refused);
         }
         let new = self.viewer.look_anew(host)?;
-        self.tell(host, event, &reply, new.as_slice())?;
+        self.tell(host, event, &reply, &new)?;
         Ok(Done::More)
     }
 

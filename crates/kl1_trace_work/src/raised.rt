@@ -1,0 +1,204 @@
+// Whether a step raised an exception, and of which kind.
+
+use crate::predicates::is_monitor;
+use crate::seen::Next;
+use kl1_model::Rules;
+use kl1_shown::parse_print;
+use kl1_steps::{Called, ClausePlace, Judged, Kind, clause_at, judged};
+use kl1_user_events::{GoalView, TaskKind, Usage};
+use std::alloc::{AllocError, Global};
+
+/// What the rules of an account and the sources of its modules tell of its steps.
+#[derive(Clone, Copy)]
+pub struct Ground<'a> {
+    pub rules: Rules,
+    pub clauses: &'a [ClausePlace],
+}
+
+/// A step that was done.
+#[derive(Clone, Copy)]
+pub(crate) struct Done<'s> {
+    pub(crate) step: &'s Next,
+    pub(crate) called: Option<&'s Called>,
+    /// The text of its goal, if it was asked for.
+    pub(crate) text: Option<&'s [u8]>,
+    /// Whether an exception leaves a substitute for sure: by the rules, and since the stream of reports isn't broken.
+    pub(crate) is_sure: bool,
+    /// The goals that are new.
+    pub(crate) new: &'s [GoalView],
+    /// What the account had before.
+    pub(crate) usage: Usage,
+    /// How many shoens its shoen is in, that one itself among them.
+    pub(crate) depth: u64,
+}
+
+/// Whether a substitute is among goals.
+fn has_substitute(goals: &[GoalView]) -> bool {
+    for goal in goals {
+        if let TaskKind::Substitutes = goal.task {
+            return true;
+        }
+    }
+    false
+}
+
+/// Whether a goal to be reduced is among goals.
+fn has_reduced(goals: &[GoalView]) -> bool {
+    for goal in goals {
+        if let TaskKind::Reduces = goal.task {
+            return true;
+        }
+    }
+    false
+}
+
+/// Whether a monitor is among goals.
+fn has_monitor(goals: &[GoalView]) -> bool {
+    for goal in goals {
+        if is_monitor(goal) {
+            return true;
+        }
+    }
+    false
+}
+
+/// Whether what is called is a predicate of a module other than `shoen`, which alone is built in.
+fn is_of_users(called: &Called) -> bool {
+    match called.module {
+        Some(module) => module.unpacked().as_slice() != b"shoen".as_slice(),
+        None => false,
+    }
+}
+
+/// Whether the clause that a step took makes goals, as far as it is known.
+fn makes_goals(ground: &Ground<'_>, done: &Done<'_>) -> bool {
+    let Some(
+        Called {
+            module: Some(module),
+            predicate,
+            arity,
+        },
+    ) = done.called
+    else {
+        return false;
+    };
+    match clause_at(
+        ground.clauses,
+        module,
+        predicate,
+        *arity,
+        done.step.clause.0,
+    ) {
+        Some(clause) => clause.has_body,
+        None => false,
+    }
+}
+
+/// The exception of a goal that took a clause: a limit would have been passed, so that its body isn't there.
+fn raised_by_clause(ground: &Ground<'_>, done: &Done<'_>) -> Option<Kind> {
+    let is_left = !done.is_sure && done.new.is_empty() && makes_goals(ground, done);
+    if has_substitute(done.new) || is_left {
+        Some(Kind::Exhaustion)
+    } else {
+        None
+    }
+}
+
+/// What the goal of a step does, by its text.
+fn judged_in(alloc: Global, ground: &Ground<'_>, done: &Done<'_>) -> Result<Judged, AllocError> {
+    let Some(text) = done.text else {
+        return Ok(Judged::Unknown);
+    };
+    let parsed = parse_print(alloc, text)?;
+    judged(
+        alloc,
+        ground.rules.most_spelled(),
+        parsed.nodes.as_slice(),
+        parsed.is_whole,
+    )
+}
+
+/// Whether the account had all the names that it may have, and has no more now as far as the step tells.
+fn has_all_names(usage: &Usage) -> bool {
+    usage.names.most <= usage.names.count
+}
+
+/// The kind of the exception of `shoen:execute`: if its text doesn't tell, and there was room for a shoen, its arguments were wrong.
+fn kind_of_opening(ground: &Ground<'_>, done: &Done<'_>, judged: Judged) -> Kind {
+    let limits = ground.rules.limits();
+    let has_room = done.usage.shoens.count < done.usage.shoens.most
+        && done.depth < limits.depth as u64;
+    match judged.raised() {
+        Kind::Unknown if has_room => Kind::IllegalInput,
+        kind => kind,
+    }
+}
+
+/// The kind of the exception of a built-in goal that raised one.
+fn kind_of_built_in(done: &Done<'_>, judged: Judged) -> Kind {
+    match (judged, done.called) {
+        // It fails, unless the name was one too many.
+        (Judged::Raises(Kind::Failure), Some(called))
+            if has_all_names(&done.usage)
+                && called.predicate.unpacked().as_slice() == b"atom_from".as_slice() => {
+            Kind::Unknown
+        }
+        _ => judged.raised(),
+    }
+}
+
+/// The exception of a built-in goal.
+fn raised_by_built_in(done: &Done<'_>, judged: Judged) -> Option<Kind> {
+    if has_substitute(done.new) {
+        return Some(kind_of_built_in(done, judged));
+    }
+    match judged {
+        Judged::Raises(_kind) if !done.is_sure => Some(kind_of_built_in(done, judged)),
+        _ => None,
+    }
+}
+
+/// The exception of a goal that was to be reduced by no clause.
+fn raised_alone(
+    alloc: Global,
+    ground: &Ground<'_>,
+    done: &Done<'_>,
+) -> Result<Option<Kind>, AllocError> {
+    let Some(called) = done.called else {
+        let judged = judged_in(alloc, ground, done)?;
+        return Ok(raised_by_built_in(done, judged));
+    };
+    if is_of_users(called) {
+        return Ok(Some(Kind::Failure));
+    }
+    if called.module.is_some() {
+        // What is of `shoen` opens one, or raises an exception.
+        if has_monitor(done.new) {
+            return Ok(None);
+        }
+        let judged = judged_in(alloc, ground, done)?;
+        return Ok(Some(kind_of_opening(ground, done, judged)));
+    }
+    // Whatever the goal is, it raised nothing if it would have left a substitute and didn't.
+    if done.is_sure && !has_substitute(done.new) {
+        return Ok(None);
+    }
+    let judged = judged_in(alloc, ground, done)?;
+    Ok(raised_by_built_in(done, judged))
+}
+
+/// The kind of the exception that a step of a goal that isn't a monitor raised, if it raised one, be it reported or not.
+pub(crate) fn raised_by(
+    alloc: Global,
+    ground: &Ground<'_>,
+    done: &Done<'_>,
+) -> Result<Option<Kind>, AllocError> {
+    match done.step.goal.task {
+        TaskKind::Monitor => Ok(None),
+        // It gives way to a goal, or what it was given is none.
+        TaskKind::Substitutes if has_reduced(done.new) => Ok(None),
+        TaskKind::Substitutes => Ok(Some(Kind::IllegalInput)),
+        TaskKind::Reduces if 0 < done.step.clause.0 => Ok(raised_by_clause(ground, done)),
+        TaskKind::Reduces => raised_alone(alloc, ground, done),
+    }
+}
