@@ -5,14 +5,11 @@ use kl1_command::Views;
 use kl1_lines::put_decimal;
 use kl1_model::Condition;
 use kl1_user_events::{Extent, GoalNo, GoalView, ShoenNo, ShoenView, TaskKind, Usage, Used};
-use kl1_watch::{Names, Notes, Told, holder_of, put_standing, standing_of, total_of, totals_of};
+use kl1_watch::{Names, Notes, Told, alive_in, holder_of, put_standing, standing_of};
 use std::alloc::{AllocError, Global};
 
-/// The most goals that are looked at for a table.
+/// The most goals and shoens that are looked at for a table.
 const MOST_LOOKED: usize = 65_536;
-
-/// More than an account has of shoens by any rules.
-const ALL: usize = 4_294_967_296;
 
 /// The most rows of a table.
 const MOST_ROWS: usize = 64;
@@ -35,7 +32,7 @@ pub fn put_table<H: Views>(
     match table {
         Table::Goals => put_goals(alloc, host, names, out)?,
         Table::Waits => put_waits(alloc, host, usize::MAX, names, out)?,
-        Table::Shoens => put_shoens(alloc, host, out)?,
+        Table::Shoens => put_shoens(host, out)?,
         Table::Used => put_usage(&host.usage(), out)?,
     }
     if before < out.len() {
@@ -195,9 +192,8 @@ fn put_standing_word<H: Views>(
 }
 
 /// Puts a line for each shoen that lives after the bytes, up to the most rows, and how many have ended.
-fn put_shoens<H: Views>(alloc: Global, host: &H, out: &mut Vec<u8>) -> Result<(), AllocError> {
-    let shoens = host.shoens_from(ShoenNo(0), ALL)?;
-    let totals = totals_of(alloc, shoens.as_slice())?;
+fn put_shoens<H: Views>(host: &mut H, out: &mut Vec<u8>) -> Result<(), AllocError> {
+    let shoens = host.shoens_from(ShoenNo(0), MOST_LOOKED)?;
     let mut rows: u64 = 0;
     let mut ended: u64 = 0;
     for shoen in shoens.as_slice() {
@@ -205,7 +201,8 @@ fn put_shoens<H: Views>(alloc: Global, host: &H, out: &mut Vec<u8>) -> Result<()
             ended = ended.saturating_add(1);
         } else {
             if rows < MOST_ROWS as u64 {
-                put_shoen(shoen, total_of(totals.as_slice(), shoen.number.0), out)?;
+                let alive = alive_in(host, shoen.number)?;
+                put_shoen(shoen, alive, out)?;
             }
             rows = rows.saturating_add(1);
         }
@@ -238,8 +235,8 @@ pub(crate) fn word_of(condition: Condition) -> &'static [u8] {
     }
 }
 
-/// Puts the line of a shoen after the bytes, in and below which there are `total` goals.
-fn put_shoen(shoen: &ShoenView, total: u64, out: &mut Vec<u8>) -> Result<(), AllocError> {
+/// Puts the line of a shoen after the bytes, in and below which there are `alive` goals.
+fn put_shoen(shoen: &ShoenView, alive: u64, out: &mut Vec<u8>) -> Result<(), AllocError> {
     out.extend_from_slice(b"shoen ")?;
     put_decimal(out, shoen.number.0)?;
     if let Some(parent) = shoen.parent {
@@ -247,7 +244,7 @@ fn put_shoen(shoen: &ShoenView, total: u64, out: &mut Vec<u8>) -> Result<(), All
         put_decimal(out, parent.0)?;
     }
     out.extend_from_slice(b": ")?;
-    put_state(shoen.condition, shoen.charged, shoen.allowance, total, out)
+    put_state(shoen.condition, shoen.charged, shoen.allowance, alive, out)
 }
 
 /// Puts the state of a shoen after the bytes, and the end of its line.

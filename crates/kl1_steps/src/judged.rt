@@ -69,15 +69,14 @@ fn then(first: Found, second: Found) -> Found {
 
 /// What is found of the name of a module and of what is called in it.
 fn callee_found(nodes: &[Node]) -> Found {
-    match nodes {
-        [Node::Variable(_module), ..] => Found::Waits,
-        [module, callee @ ..] => match (module, split_term(callee).0) {
-            (_, []) => Found::Cut,
-            (_, [Node::Variable(_callee), ..]) => Found::Waits,
-            (Node::Atom(_module), [Node::Atom(_) | Node::Structure(_, _), ..]) => Found::Right,
-            _ => Found::Wrong,
-        },
-        [] => Found::Cut,
+    let (module, callee) = split_term(nodes);
+    match (module, callee) {
+        ([Node::Variable(_), ..], _) => Found::Waits,
+        (_, []) => Found::Cut,
+        (_, [Node::Variable(_), ..]) => Found::Waits,
+        ([Node::Atom(_)], [Node::Atom(_), ..]) => Found::Right,
+        ([Node::Atom(_)], [Node::Structure(_, _), ..]) => Found::Right,
+        _ => Found::Wrong,
     }
 }
 

@@ -20,8 +20,8 @@ pub enum Evaluated {
 }
 
 /// What an integer comes to that may be outside 64 bits.
-fn fitted(result: Option<i64>) -> Number {
-    match result {
+fn fitted(computed: Option<i64>) -> Number {
+    match computed {
         Some(value) => Number::Value(value),
         None => Number::Overflow,
     }

@@ -115,7 +115,8 @@ impl<'a> Classes<'a> {
 
     /// The nodes of the term at a place.
     fn term_at(&self, place: usize) -> &'a [Node] {
-        self.nodes.get(place..self.end_at(place)).unwrap_or(&[])
+        let nodes = self.nodes;
+        nodes.get(place..self.end_at(place)).unwrap_or(&[])
     }
 
     /// Binds the variable of a class to the term that stands for another, in whose class it is then.

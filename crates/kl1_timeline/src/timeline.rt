@@ -243,7 +243,7 @@ impl Timeline {
         }
         for change in seen.changed.as_slice() {
             self.put_report(step, change.shoen, change.word(), false)?;
-            if let Condition::Aborted = change.now {
+            if let Condition::Aborted = change.to {
                 self.drawn.end_all(change.shoen, step);
             }
         }

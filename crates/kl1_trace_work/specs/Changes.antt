@@ -15,4 +15,4 @@ state_word Running = codes "running"
 abbrev pub change_word : Condition → Condition → List ℕ
 change_word Stopped Running = codes "resumed"
 change_word Stopped Exhausted = codes "resumed"
-change_word before now = state_word now
+change_word from to = state_word to

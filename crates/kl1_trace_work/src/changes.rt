@@ -20,16 +20,17 @@ pub fn last_of(goals: &[GoalView], before: u64) -> u64 {
 #[derive(Clone, Copy)]
 pub struct Change {
     pub shoen: ShoenNo,
-    pub before: Condition,
-    pub now: Condition,
+    /// Its state before, and the one in which it is.
+    pub from: Condition,
+    pub to: Condition,
 }
 
 impl Change {
     /// The word for what became of it: that of a report, or `running` of one that more allowance lets go on.
     pub fn word(self) -> &'static [u8]
-        ensures { result.now ≡ change_word self.before self.now }
+        ensures { result.now ≡ change_word self.from self.to }
     {
-        match (self.before, self.now) {
+        match (self.from, self.to) {
             (Condition::Stopped, Condition::Running) => b"resumed",
             (Condition::Stopped, Condition::Exhausted) => b"resumed",
             (_, Condition::Terminated) => b"terminated",
@@ -42,7 +43,7 @@ impl Change {
 
     /// Whether the shoen ended.
     pub fn is_end(self) -> bool {
-        match self.now {
+        match self.to {
             Condition::Terminated | Condition::Aborted => true,
             Condition::Stopped | Condition::Exhausted | Condition::Running => false,
         }
@@ -50,7 +51,7 @@ impl Change {
 
     /// Whether the shoen terminated.
     pub fn is_termination(self) -> bool {
-        match self.now {
+        match self.to {
             Condition::Terminated => true,
             Condition::Aborted | Condition::Stopped | Condition::Exhausted | Condition::Running => {
                 false
@@ -88,8 +89,8 @@ pub fn change_of(before: &ShoenView, now: &ShoenView) -> Option<Change> {
     }
     Some(Change {
         shoen: now.number,
-        before: before.condition,
-        now: now.condition,
+        from: before.condition,
+        to: now.condition,
     })
 }
 

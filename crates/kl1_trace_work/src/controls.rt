@@ -39,11 +39,14 @@ enum Element {
 /// What an element of a control stream is.
 fn element_in(nodes: &[Node]) -> Element {
     match nodes {
-        [Node::Variable(_number), ..] | [] => Element::Unseen,
-        [Node::Atom(name)] => match name.unpacked().as_slice() {
-            b"stop" | b"start" | b"abort" => Element::Message,
-            _ => Element::Other,
-        },
+        [Node::Variable(_), ..] | [] => Element::Unseen,
+        [Node::Atom(name)] => {
+            let text = name.unpacked();
+            match text.as_slice() {
+                b"stop" | b"start" | b"abort" => Element::Message,
+                _ => Element::Other,
+            }
+        }
         [Node::Structure(name, 1), more] if name.unpacked().as_slice() == b"allow".as_slice() => {
             match more {
                 Node::Variable(_number) => Element::Unseen,
@@ -144,7 +147,7 @@ impl Controls {
             return Ok(Heard::Unseen);
         };
         match stream.as_slice() {
-            [Node::Variable(_number), ..] | [] => Ok(Heard::Unseen),
+            [Node::Variable(_), ..] | [] => Ok(Heard::Unseen),
             [end] if is_end(end) => Ok(Heard::Message),
             [cell, rest @ ..] if is_cell(cell) => {
                 let (element, tail) = split_term(rest);

@@ -36,7 +36,8 @@ pub(crate) fn hear_opening(
     // Before the control stream stand the goal, two priorities and an allowance.
     let mut rest = arguments;
     for _ in 0..4 {
-        rest = split_term(rest).1;
+        let (_argument, others) = split_term(rest);
+        rest = others;
     }
     let (control, reports) = split_term(rest);
     if is_whole_term(control) && !reports.is_empty() {

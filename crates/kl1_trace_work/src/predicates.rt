@@ -1,5 +1,9 @@
 // Which predicates the goals of an account call.
 
+ghost use Rattle.std.specs.Prelude.{◌≡◌};
+ghost use Rattle.kl1_trace_work.specs.Raising.{is_monitor};
+
+use crate::raised::has_substitute;
 use crate::seen::{NewGoal, Next};
 use kl1_command::Views;
 use kl1_shown::parse_print;
@@ -294,21 +298,14 @@ impl Predicates {
 }
 
 /// Whether a goal is the monitor of a shoen.
-pub fn is_monitor(goal: &GoalView) -> bool {
+pub fn is_monitor(goal: &GoalView) -> bool
+    ensures { result ≡ is_monitor goal.now }
+{
     match goal.task {
         TaskKind::Monitor => true,
-        _ => false,
+        TaskKind::Reduces => false,
+        TaskKind::Substitutes => false,
     }
-}
-
-/// Whether a substitute is among goals.
-fn has_substitute(goals: &[GoalView]) -> bool {
-    for goal in goals {
-        if let TaskKind::Substitutes = goal.task {
-            return true;
-        }
-    }
-    false
 }
 
 /// What a goal calls, if it is known.

@@ -1,5 +1,9 @@
 // Whether a step raised an exception, and of which kind.
 
+ghost use Rattle.std.specs.Prelude.{◌≡◌};
+ghost use Rattle.std.specs.List.{list_any};
+ghost use Rattle.kl1_trace_work.specs.Raising.{is_substitute, is_reduced, is_monitor, raised_by_answer};
+
 use crate::predicates::is_monitor;
 use crate::seen::Next;
 use kl1_model::Rules;
@@ -28,38 +32,55 @@ pub(crate) struct Done<'s> {
     pub(crate) new: &'s [GoalView],
     /// What the account had before.
     pub(crate) usage: Usage,
-    /// How many shoens its shoen is in, that one itself among them.
+    /// How many shoens its shoen is in, that one itself among them, if it was to open one.
     pub(crate) depth: u64,
 }
 
-/// Whether a substitute is among goals.
-fn has_substitute(goals: &[GoalView]) -> bool {
-    for goal in goals {
-        if let TaskKind::Substitutes = goal.task {
-            return true;
-        }
+/// Whether a goal is a substitute.
+fn is_substitute(goal: &GoalView) -> bool
+    ensures { result ≡ is_substitute goal.now }
+{
+    match goal.task {
+        TaskKind::Substitutes => true,
+        TaskKind::Monitor => false,
+        TaskKind::Reduces => false,
     }
-    false
 }
 
-/// Whether a goal to be reduced is among goals.
-fn has_reduced(goals: &[GoalView]) -> bool {
-    for goal in goals {
-        if let TaskKind::Reduces = goal.task {
-            return true;
-        }
+/// Whether a goal is to be reduced.
+fn is_reduced(goal: &GoalView) -> bool
+    ensures { result ≡ is_reduced goal.now }
+{
+    match goal.task {
+        TaskKind::Reduces => true,
+        TaskKind::Monitor => false,
+        TaskKind::Substitutes => false,
     }
-    false
+}
+
+/// Whether a substitute is among goals.
+pub(crate) fn has_substitute(goals: &[GoalView]) -> bool
+    ensures { result ≡ list_any is_substitute goals.now }
+{
+    goals.iter().any(|goal| is_substitute(goal))
 }
 
 /// Whether a monitor is among goals.
-fn has_monitor(goals: &[GoalView]) -> bool {
-    for goal in goals {
-        if is_monitor(goal) {
-            return true;
-        }
+fn has_monitor(goals: &[GoalView]) -> bool
+    ensures { result ≡ list_any is_monitor goals.now }
+{
+    goals.iter().any(|goal| is_monitor(goal))
+}
+
+/// The exception of a substitute that was given something, after which these goals are new: it gave way to a goal, or that was none.
+fn raised_by_answer(new: &[GoalView]) -> Option<Kind>
+    ensures { result ≡ raised_by_answer new.now }
+{
+    if new.iter().any(|goal| is_reduced(goal)) {
+        None
+    } else {
+        Some(Kind::IllegalInput)
     }
-    false
 }
 
 /// Whether what is called is a predicate of a module other than `shoen`, which alone is built in.
@@ -96,12 +117,13 @@ fn makes_goals(ground: &Ground<'_>, done: &Done<'_>) -> bool {
 
 /// The exception of a goal that took a clause: a limit would have been passed, so that its body isn't there.
 fn raised_by_clause(ground: &Ground<'_>, done: &Done<'_>) -> Option<Kind> {
-    let is_left = !done.is_sure && done.new.is_empty() && makes_goals(ground, done);
-    if has_substitute(done.new) || is_left {
-        Some(Kind::Exhaustion)
-    } else {
-        None
+    if has_substitute(done.new) {
+        return Some(Kind::Exhaustion);
     }
+    if !done.is_sure && done.new.is_empty() && makes_goals(ground, done) {
+        return Some(Kind::Exhaustion);
+    }
+    None
 }
 
 /// What the goal of a step does, by its text.
@@ -173,7 +195,7 @@ fn raised_alone(
     }
     if called.module.is_some() {
         // What is of `shoen` opens one, or raises an exception.
-        if has_monitor(done.new) {
+        if has_monitor(done.new) && !has_substitute(done.new) {
             return Ok(None);
         }
         let judged = judged_in(alloc, ground, done)?;
@@ -195,9 +217,7 @@ pub(crate) fn raised_by(
 ) -> Result<Option<Kind>, AllocError> {
     match done.step.goal.task {
         TaskKind::Monitor => Ok(None),
-        // It gives way to a goal, or what it was given is none.
-        TaskKind::Substitutes if has_reduced(done.new) => Ok(None),
-        TaskKind::Substitutes => Ok(Some(Kind::IllegalInput)),
+        TaskKind::Substitutes => Ok(raised_by_answer(done.new)),
         TaskKind::Reduces if 0 < done.step.clause.0 => Ok(raised_by_clause(ground, done)),
         TaskKind::Reduces => raised_alone(alloc, ground, done),
     }

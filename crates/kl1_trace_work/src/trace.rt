@@ -1,5 +1,8 @@
 // The lines of a trace.
 
+ghost use Rattle.std.specs.Prelude.{◌≡◌};
+ghost use Rattle.kl1_trace_work.specs.Raising.{binds};
+
 use crate::bound::bound_by;
 use crate::columns::{put_blanks, put_front, put_right};
 use crate::computed::value_in;
@@ -78,11 +81,14 @@ pub(crate) fn put_spent(shoen: &ShoenView, out: &mut Vec<u8>) -> Result<(), Allo
     }
 }
 
-/// Whether the step of a goal binds what the goal says: an answer only gives way to its goal, and an exception binds nothing.
-fn binds(seen: &Seen) -> bool {
-    match seen.step.goal.task {
-        TaskKind::Reduces => seen.raised.is_none(),
-        TaskKind::Monitor | TaskKind::Substitutes => false,
+/// Whether the step of a goal of this task binds what the goal says: an answer only gives way to its goal, and an exception binds nothing.
+fn binds(task: TaskKind, has_raised: bool) -> bool
+    ensures { result ≡ binds task has_raised }
+{
+    match task {
+        TaskKind::Reduces => !has_raised,
+        TaskKind::Monitor => false,
+        TaskKind::Substitutes => false,
     }
 }
 
@@ -158,7 +164,7 @@ impl<'a, W: Write + Drop> Trace<'a, W> {
             return Ok(());
         };
         let print = text.as_slice();
-        if !binds(seen) || !may_bind(print) {
+        if !binds(seen.step.goal.task, seen.raised.is_some()) || !may_bind(print) {
             return Ok(());
         }
         if let Some((left, right)) = sides_of(print) {

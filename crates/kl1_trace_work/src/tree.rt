@@ -84,8 +84,9 @@ impl Tree {
         let Some(before) = self.views.get_mut(place_of(shoen)) else {
             return Ok(None);
         };
-        let change = change_of(before, now);
+        let was = *before;
         *before = *now;
+        let change = change_of(&was, now);
         Ok(change)
     }
 

@@ -91,7 +91,8 @@ impl<'a, O: Drop> Viewer<'a, O> {
                 None
             },
         };
-        viewer.begun = viewer.look_anew(host)?.goals;
+        let Anew { goals, .. } = viewer.look_anew(host)?;
+        viewer.begun = goals;
         Ok(viewer)
     }
 
@@ -301,7 +302,11 @@ impl<O: Drop> Viewer<'_, O> {
             Some(text) => Some(text.as_slice()),
             None => None,
         };
-        let path = self.tree.path_of(goal.shoen)?;
+        let depth = if self.predicates.is_of_shoen(before.step.predicate) {
+            self.tree.path_of(goal.shoen)?.len() as u64
+        } else {
+            0
+        };
         let done = Done {
             step: &before.step,
             called: self.predicates.called(before.step.predicate),
@@ -309,7 +314,7 @@ impl<O: Drop> Viewer<'_, O> {
             is_sure: before.is_sure,
             new: goals,
             usage: self.usage,
-            depth: path.len() as u64,
+            depth,
         };
         Ok(match raised_by(self.alloc, &self.ground, &done)? {
             Some(kind) => Some(Raised {

@@ -1,12 +1,12 @@
 // The lines that tell of an account that stands still.
 
+use crate::alive::alive_in;
 use crate::circle::put_circle;
 use crate::holders::Holders;
 use crate::limit::put_limit;
 use crate::names::Names;
 use crate::notes::{Notes, note_of};
 use crate::standing::{Awaited, Standing, WaitingGoal};
-use crate::totals::total_of;
 use kl1_command::Views;
 use kl1_lines::put_decimal;
 use kl1_model::Condition;
@@ -45,7 +45,7 @@ pub fn put_standing<H: Views>(
     put_waiting(alloc, host, standing.waiting.as_slice(), told, out)?;
     put_more(standing, out)?;
     put_circle(alloc, standing.waiting.as_slice(), out)?;
-    put_shoens(standing, told, out)?;
+    put_shoens(host, standing, told, out)?;
     match &told.notes.limit {
         Some(usage) => put_limit(usage, told.program, out),
         None => Ok(()),
@@ -65,7 +65,12 @@ fn put_count(standing: &Standing, program: &[u8], out: &mut Vec<u8>) -> Result<(
 }
 
 /// Puts the lines of exceptions without an answer and of shoens that hold their goals back after the bytes.
-fn put_shoens(standing: &Standing, told: &Told<'_>, out: &mut Vec<u8>) -> Result<(), AllocError> {
+fn put_shoens<H: Views>(
+    host: &mut H,
+    standing: &Standing,
+    told: &Told<'_>,
+    out: &mut Vec<u8>,
+) -> Result<(), AllocError> {
     let mut count: u64 = 0;
     for goal in standing.unanswered.as_slice() {
         // The reports of the console's shoens are told anyway.
@@ -78,8 +83,8 @@ fn put_shoens(standing: &Standing, told: &Told<'_>, out: &mut Vec<u8>) -> Result
     }
     put_left_out(told.program, b"unanswered exceptions", count, out)?;
     for shoen in standing.still.iter().take(MOST_SHOENS as usize) {
-        let total = total_of(standing.totals.as_slice(), shoen.number.0);
-        put_still(shoen, total, told.program, out)?;
+        let alive = alive_in(host, shoen.number)?;
+        put_still(shoen, alive, told.program, out)?;
     }
     let still = standing.still.len() as u64;
     put_left_out(told.program, b"stopped or exhausted shoens", still, out)
@@ -288,7 +293,7 @@ fn word_of(condition: Condition) -> &'static [u8] {
 /// Puts the line of a shoen that holds its goals back after the bytes: those are all that are in it and below it.
 fn put_still(
     shoen: &ShoenView,
-    total: u64,
+    alive: u64,
     program: &[u8],
     out: &mut Vec<u8>,
 ) -> Result<(), AllocError> {
@@ -306,7 +311,7 @@ fn put_still(
     out.extend_from_slice(b" of ")?;
     put_decimal(out, shoen.allowance)?;
     out.extend_from_slice(b", goals alive: ")?;
-    put_decimal(out, total)?;
+    put_decimal(out, alive)?;
     out.push(b'\n')?;
     Ok(())
 }

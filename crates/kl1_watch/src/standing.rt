@@ -1,11 +1,14 @@
 // What is told of an account that stands still.
 
+ghost use Rattle.std.specs.Prelude.{◌≡◌};
+ghost use Rattle.kl1_watch.specs.Still.{is_stopped, is_spent};
+
 use crate::holders::{Holders, holders_of, variables_of};
 use crate::ordered::ordered;
 use crate::snapshot::{goals_in, shoens_in};
-use crate::totals::totals_of;
 use crate::waiting::{still_among, unanswered_among, waiting_among};
 use kl1_command::Views;
+use kl1_model::Condition;
 use kl1_user_events::{GoalNo, GoalView, ShoenView};
 use std::alloc::{AllocError, Global};
 
@@ -38,8 +41,25 @@ pub struct Standing {
     pub still: Vec<ShoenView>,
     /// All shoens.
     pub shoens: Vec<ShoenView>,
-    /// For each of them, how many goals there are in it and below it.
-    pub totals: Vec<u64>,
+}
+
+/// Whether a shoen is stopped.
+fn is_stopped(shoen: &ShoenView) -> bool
+    ensures { result ≡ is_stopped shoen.now }
+{
+    match shoen.condition {
+        Condition::Stopped => true,
+        Condition::Terminated | Condition::Aborted | Condition::Exhausted | Condition::Running => {
+            false
+        }
+    }
+}
+
+/// Whether goals are left in exhausted shoens alone: so many wait for variables, so many for an answer, and these shoens hold theirs back.
+pub fn is_spent(waiting: u64, free: u64, still: &[ShoenView]) -> bool
+    ensures { result ≡ is_spent waiting free still.now }
+{
+    waiting == 0 && free == 0 && 0 < still.len() && !still.iter().any(|shoen| is_stopped(shoen))
 }
 
 /// These variables, each with the other goals that have it.
@@ -103,7 +123,6 @@ fn standing_over<H: Views>(
     let unanswered = unanswered_among(alloc, host, shoens, goals)?;
     let still = still_among(alloc, shoens)?;
     let copies = Vec::from_slice(alloc, shoens)?;
-    let totals = totals_of(alloc, shoens)?;
     Ok(Standing {
         count: all.len() as u64,
         waiting,
@@ -111,7 +130,6 @@ fn standing_over<H: Views>(
         free: unanswered.free,
         still,
         shoens: copies,
-        totals,
     })
 }
 

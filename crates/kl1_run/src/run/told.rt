@@ -1,10 +1,8 @@
 // What standard error is told, and the program's status.
 
 use crate::run::after::After;
-use kl1_model::Condition;
 use kl1_run_work::Ending;
-use kl1_user_events::ShoenView;
-use kl1_watch::Standing;
+use kl1_watch::{Standing, is_spent};
 use kl1_words::Fault;
 use kl1_world::Rules;
 use std::io;
@@ -29,28 +27,6 @@ pub fn used_of(rules: Rules, files: u64, steps: u64) -> Used {
     }
 }
 
-/// Whether a shoen is held back by its allowance alone.
-fn is_spent(shoen: &ShoenView) -> bool {
-    match shoen.condition {
-        Condition::Exhausted => true,
-        Condition::Stopped | Condition::Running | Condition::Terminated | Condition::Aborted =>
-            false,
-    }
-}
-
-/// Whether goals stand still in exhausted shoens alone: none waits, for a variable or for an answer, and no shoen is stopped.
-fn is_exhausted(standing: &Standing) -> bool {
-    if 0 < standing.count || 0 < standing.free {
-        return false;
-    }
-    for shoen in standing.still.as_slice() {
-        if !is_spent(shoen) {
-            return false;
-        }
-    }
-    !standing.still.is_empty()
-}
-
 /// The status of a run after which goals are left that can't step.
 fn waiting_status(after: Option<&After>) -> u8 {
     match after {
@@ -59,7 +35,7 @@ fn waiting_status(after: Option<&After>) -> u8 {
                 standing: Some(standing),
                 ..
             },
-        ) if is_exhausted(standing) => 4,
+        ) if is_spent(standing.count, standing.free, standing.still.as_slice()) => 4,
         _ => 3,
     }
 }
