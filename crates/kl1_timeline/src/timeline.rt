@@ -8,7 +8,8 @@ use kl1_lines::put_decimal;
 use kl1_model::Condition;
 use kl1_steps::Called;
 use kl1_trace_work::{
-    Calling, MOST_TEXT, NewGoal, Next, Pattern, Predicates, Seen, put_kind, put_name, put_readable,
+    Calling, MOST_TEXT, NewGoal, Next, Pattern, Predicates, Seen, is_spent, put_kind, put_name,
+    put_readable,
 };
 use kl1_user_events::{Extent, GoalNo, ShoenNo, TaskKind};
 use std::alloc::{AllocError, Global};
@@ -232,7 +233,7 @@ impl Timeline {
         let step = seen.step.number;
         for shoen in seen.opened.as_slice() {
             self.put_report(step, shoen.number, b"started", false)?;
-            if let Condition::Exhausted = shoen.condition {
+            if is_spent(shoen.condition) {
                 self.put_report(step, shoen.number, b"exhausted", false)?;
             }
         }

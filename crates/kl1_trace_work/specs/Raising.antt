@@ -1,11 +1,15 @@
 -- What steps raise and bind.
-use Rattle.std.specs.Prelude.{not, Bool, true, false, if◌then◌else◌, List, Option, Some, None}
+use Rattle.std.specs.Prelude.{ℕ, ◌==◌, not, ◌&&◌, ◌||◌, Bool, true, false, if◌then◌else◌, List, length, Option, Some, None}
 use Rattle.std.specs.List.{list_any}
 use Rattle.kl1_user_events.specs.declared.goal_view.TaskKind.{TaskKind}
 use Rattle.kl1_user_events.specs.declared.goal_view.TaskKind.TheVariants.{Monitor, Reduces, Substitutes}
 use Rattle.kl1_user_events.specs.declared.goal_view.GoalView.{GoalView}
 use Rattle.kl1_steps.specs.declared.kind.Kind.{Kind}
 use Rattle.kl1_steps.specs.declared.kind.Kind.TheVariants.{IllegalInput}
+use Rattle.kl1_steps.specs.declared.judged.Judged.{Judged}
+use Rattle.kl1_steps.specs.declared.judged.Judged.TheVariants.{Raises}
+use Rattle.kl1_trace_work.specs.declared.controls.Element.{Element}
+use Rattle.kl1_trace_work.specs.declared.controls.Element.TheVariants.{Message, Other, Unseen}
 
 -- whether a goal does this
 abbrev pub substitutes : TaskKind → Bool
@@ -38,3 +42,23 @@ raised_by_answer new = if list_any is_reduced new then None else Some IllegalInp
 abbrev pub binds : TaskKind → Bool → Bool
 binds Reduces has_raised = not has_raised
 binds task has_raised = false
+
+-- whether a judged goal raises an exception for sure
+abbrev pub raises : Judged → Bool
+raises (Raises kind) = true
+raises judged = false
+
+-- whether a built-in goal raised an exception: it left a substitute, or none is left for sure, and its term says that it did
+abbrev pub is_raised : Bool → Bool → Judged → Bool
+is_raised has_substitute is_sure judged = has_substitute || (not is_sure && raises judged)
+
+-- whether a goal that took a clause may be gone with an exception: none is left for sure, and no goal is new
+abbrev pub may_be_gone : Bool → List GoalView → Bool
+may_be_gone is_sure new = not is_sure && length new == 0
+
+-- whether a monitor raised an exception by what it read: that is no message; or it wasn't seen, something was reported, and the shoen is in no
+-- other state, which each message that is reported changes
+abbrev pub is_bad : Element → Bool → Bool → Bool
+is_bad Message is_reported is_obeyed = false
+is_bad Other is_reported is_obeyed = true
+is_bad Unseen is_reported is_obeyed = is_reported && not is_obeyed

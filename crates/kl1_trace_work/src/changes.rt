@@ -1,7 +1,7 @@
 // What is new or changed after a step.
 
 ghost use Rattle.std.specs.Prelude.{◌≡◌};
-ghost use Rattle.kl1_trace_work.specs.Changes.{change_word};
+ghost use Rattle.kl1_trace_work.specs.Changes.{change_word, is_spent};
 
 use kl1_model::Condition;
 use kl1_user_events::{GoalView, ShoenNo, ShoenView};
@@ -56,6 +56,18 @@ impl Change {
             Condition::Aborted | Condition::Stopped | Condition::Exhausted | Condition::Running => {
                 false
             }
+        }
+    }
+}
+
+/// Whether a shoen that opens in this state has used up its allowance: it had none.
+pub fn is_spent(condition: Condition) -> bool
+    ensures { result ≡ is_spent condition }
+{
+    match condition {
+        Condition::Exhausted => true,
+        Condition::Terminated | Condition::Aborted | Condition::Stopped | Condition::Running => {
+            false
         }
     }
 }

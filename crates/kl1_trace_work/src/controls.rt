@@ -1,5 +1,8 @@
 // What monitors are to read, as far as it is seen.
 
+ghost use Rattle.std.specs.Prelude.{◌≡◌};
+ghost use Rattle.kl1_trace_work.specs.Raising.{is_bad};
+
 use kl1_steps::split_term;
 use kl1_term::Node;
 use std::alloc::{AllocError, Global};
@@ -8,15 +11,41 @@ use std::collections::HashMap;
 /// The most nodes of a control stream that is kept.
 const MOST_NODES: usize = 65_536;
 
-/// What a monitor has read.
-#[derive(Drop)]
-pub enum Heard {
+/// What an element of a control stream is.
+#[derive(Clone, Copy)]
+pub enum Element {
     /// A message, or the end of the stream.
     Message,
-    /// What is no message.
-    Other(Vec<Node>),
-    /// It wasn't seen what.
+    Other,
+    /// It wasn't seen.
     Unseen,
+}
+
+/// What a monitor has read, and the nodes of that if it is no message.
+#[derive(Drop)]
+pub(crate) struct Heard {
+    pub(crate) element: Element,
+    pub(crate) other: Option<Vec<Node>>,
+}
+
+/// What wasn't seen.
+pub(crate) fn unseen() -> Heard {
+    Heard {
+        element: Element::Unseen,
+        other: None,
+    }
+}
+
+/// Whether a monitor raised an exception by what it read, in a step in which something was reported, and in which its shoen came into another
+/// state.
+pub(crate) fn is_bad(element: Element, is_reported: bool, is_obeyed: bool) -> bool
+    ensures { result ≡ is_bad element is_reported is_obeyed }
+{
+    match element {
+        Element::Message => false,
+        Element::Other => true,
+        Element::Unseen => is_reported && !is_obeyed,
+    }
 }
 
 /// The control streams of shoens that programs opened, and by the number of a variable those that have it.
@@ -25,15 +54,6 @@ pub struct Controls {
     alloc: Global,
     streams: HashMap<u64, Vec<Node>>,
     by_variable: HashMap<u64, Vec<u64>>,
-}
-
-/// What an element of a control stream is.
-#[derive(Clone, Copy)]
-enum Element {
-    Message,
-    Other,
-    /// It has no value as far as that was seen.
-    Unseen,
 }
 
 /// What an element of a control stream is.
@@ -144,22 +164,32 @@ impl Controls {
     /// What the monitor of a shoen has read now.
     pub fn read(&mut self, shoen: u64) -> Result<Heard, AllocError> {
         let Some(stream) = self.streams.remove(&shoen) else {
-            return Ok(Heard::Unseen);
+            return Ok(unseen());
         };
         match stream.as_slice() {
-            [Node::Variable(_), ..] | [] => Ok(Heard::Unseen),
-            [end] if is_end(end) => Ok(Heard::Message),
+            [Node::Variable(_), ..] | [] => Ok(unseen()),
+            [end] if is_end(end) => Ok(Heard {
+                element: Element::Message,
+                other: None,
+            }),
             [cell, rest @ ..] if is_cell(cell) => {
                 let (element, tail) = split_term(rest);
                 self.put(shoen, tail)?;
-                Ok(match element_in(element) {
-                    Element::Message => Heard::Message,
-                    Element::Other => Heard::Other(Vec::from_slice(self.alloc, element)?),
-                    Element::Unseen => Heard::Unseen,
-                })
+                self.heard(element_in(element), element)
             }
-            other => Ok(Heard::Other(Vec::from_slice(self.alloc, other)?)),
+            stream => self.heard(Element::Other, stream),
         }
+    }
+
+    /// What was read, by what it is.
+    fn heard(&self, element: Element, nodes: &[Node]) -> Result<Heard, AllocError> {
+        Ok(Heard {
+            element,
+            other: match element {
+                Element::Other => Some(Vec::from_slice(self.alloc, nodes)?),
+                Element::Message | Element::Unseen => None,
+            },
+        })
     }
 }
 

@@ -22,7 +22,7 @@ mod viewer;
 mod waits;
 mod watching;
 
-pub use changes::Change;
+pub use changes::{Change, is_spent};
 pub use columns::put_front;
 pub use json::profile_json;
 pub use pattern::Pattern;

@@ -2,7 +2,7 @@
 
 ghost use Rattle.std.specs.Prelude.{◌≡◌};
 ghost use Rattle.std.specs.List.{list_any};
-ghost use Rattle.kl1_trace_work.specs.Raising.{is_substitute, is_reduced, is_monitor, raised_by_answer};
+ghost use Rattle.kl1_trace_work.specs.Raising.{is_substitute, is_reduced, is_monitor, raised_by_answer, is_raised, may_be_gone};
 
 use crate::predicates::is_monitor;
 use crate::seen::Next;
@@ -115,12 +115,19 @@ fn makes_goals(ground: &Ground<'_>, done: &Done<'_>) -> bool {
     }
 }
 
+/// Whether a goal that took a clause may be gone with an exception: none is left for sure, and no goal is new.
+fn may_be_gone(is_sure: bool, new: &[GoalView]) -> bool
+    ensures { result ≡ may_be_gone is_sure new.now }
+{
+    !is_sure && new.len() == 0
+}
+
 /// The exception of a goal that took a clause: a limit would have been passed, so that its body isn't there.
 fn raised_by_clause(ground: &Ground<'_>, done: &Done<'_>) -> Option<Kind> {
     if has_substitute(done.new) {
         return Some(Kind::Exhaustion);
     }
-    if !done.is_sure && done.new.is_empty() && makes_goals(ground, done) {
+    if may_be_gone(done.is_sure, done.new) && makes_goals(ground, done) {
         return Some(Kind::Exhaustion);
     }
     None
@@ -169,14 +176,27 @@ fn kind_of_built_in(done: &Done<'_>, judged: Judged) -> Kind {
     }
 }
 
-/// The exception of a built-in goal.
-fn raised_by_built_in(done: &Done<'_>, judged: Judged) -> Option<Kind> {
-    if has_substitute(done.new) {
-        return Some(kind_of_built_in(done, judged));
+/// Whether a built-in goal raised an exception: it left a substitute, or none is left for sure, and its term says that it did.
+fn is_raised(has_substitute: bool, is_sure: bool, judged: Judged) -> bool
+    ensures { result ≡ is_raised has_substitute is_sure judged }
+{
+    if has_substitute {
+        return true;
     }
     match judged {
-        Judged::Raises(_kind) if !done.is_sure => Some(kind_of_built_in(done, judged)),
-        _ => None,
+        Judged::Raises(_kind) => !is_sure,
+        Judged::Goes => false,
+        Judged::MayFail => false,
+        Judged::Unknown => false,
+    }
+}
+
+/// The exception of a built-in goal.
+fn raised_by_built_in(done: &Done<'_>, judged: Judged) -> Option<Kind> {
+    if is_raised(has_substitute(done.new), done.is_sure, judged) {
+        Some(kind_of_built_in(done, judged))
+    } else {
+        None
     }
 }
 

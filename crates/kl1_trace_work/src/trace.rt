@@ -4,6 +4,7 @@ ghost use Rattle.std.specs.Prelude.{◌≡◌};
 ghost use Rattle.kl1_trace_work.specs.Raising.{binds};
 
 use crate::bound::bound_by;
+use crate::changes::is_spent;
 use crate::columns::{put_blanks, put_front, put_right};
 use crate::computed::value_in;
 use crate::pattern::Pattern;
@@ -13,7 +14,6 @@ use crate::seen::{NewGoal, Next, Seen};
 use crate::texts::{MOST_READ, Texts};
 use kl1_command::Views;
 use kl1_lines::put_decimal;
-use kl1_model::Condition;
 use kl1_text::put_int;
 use kl1_user_events::{GoalNo, ShoenNo, ShoenView, TaskKind};
 use kl1_watch::holder_of;
@@ -71,13 +71,12 @@ fn put_report(shoen: ShoenNo, text: &[u8], out: &mut Vec<u8>) -> Result<(), Allo
     Ok(())
 }
 
-/// Puts the line that tells that a shoen which is new has used up its allowance after the bytes, if it is none.
-pub(crate) fn put_spent(shoen: &ShoenView, out: &mut Vec<u8>) -> Result<(), AllocError> {
-    match shoen.condition {
-        Condition::Exhausted => put_report(shoen.number, b"exhausted", out),
-        Condition::Running | Condition::Stopped | Condition::Terminated | Condition::Aborted => Ok(
-            (),
-        ),
+/// Puts the line that tells that a shoen which is new has used up its allowance after the bytes, if it had none.
+fn put_spent(shoen: &ShoenView, out: &mut Vec<u8>) -> Result<(), AllocError> {
+    if is_spent(shoen.condition) {
+        put_report(shoen.number, b"exhausted", out)
+    } else {
+        Ok(())
     }
 }
 

@@ -1,10 +1,36 @@
 // The shoens of an account, as they were looked at last.
 
+ghost use Rattle.std.specs.Prelude.{◌≡◌};
+ghost use Rattle.kl1_trace_work.specs.Changes.{look_of};
+
 use crate::changes::{Change, Shoens, change_of, changed_among, in_order};
 use crate::waits::ALL;
 use kl1_command::Views;
 use kl1_user_events::{ShoenNo, ShoenView};
 use std::alloc::{AllocError, Global};
+
+/// At which shoens it is looked after a step.
+#[derive(Clone, Copy)]
+pub enum Look {
+    All,
+    /// That of the step's goal, and those that it is in.
+    Path,
+    Nothing,
+}
+
+/// At which shoens it is looked after a step: of a monitor or not; in which something was reported or a shoen opened; of a shoen whose
+/// reports are all made.
+pub(crate) fn look_of(is_monitor: bool, is_told: bool, is_heard: bool) -> Look
+    ensures { result ≡ look_of is_monitor is_told is_heard }
+{
+    if is_monitor {
+        Look::All
+    } else if is_told || !is_heard {
+        Look::Path
+    } else {
+        Look::Nothing
+    }
+}
 
 /// The shoens of an account by their numbers, from 1.
 #[derive(Drop)]

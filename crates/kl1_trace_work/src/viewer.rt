@@ -1,13 +1,13 @@
 // What looks at an account before and after each step.
 
 use crate::changes::{Change, Shoens, is_among, last_of};
-use crate::controls::{Controls, Heard};
+use crate::controls::{Controls, Heard, is_bad, unseen};
 use crate::hearing::{hear_bindings, hear_opening};
 use crate::predicates::{Predicates, is_monitor};
 use crate::prints::{is_cut, variables_of};
 use crate::raised::{Done, Ground, raised_by};
 use crate::seen::{NewGoal, Next, Observer, Raised, Seen};
-use crate::tree::Tree;
+use crate::tree::{Look, Tree, look_of};
 use crate::waits::{ALL, Waits};
 use kl1_command::{UnbookedHost, Views};
 use kl1_steps::Kind;
@@ -226,18 +226,16 @@ impl<O: Drop> Viewer<'_, O> {
         usage: &Usage,
     ) -> Result<Shoens, AllocError> {
         let goal = &before.step.goal;
-        if is_monitor(goal) {
-            return self.tree.look_at_all(host);
-        }
         let is_told = usage.reports.count != self.usage.reports.count
             || usage.shoens.count != self.tree.count();
-        if is_told || !self.is_heard(goal.shoen) {
-            return self.tree.look_at_path(host, goal.shoen);
+        match look_of(is_monitor(goal), is_told, self.is_heard(goal.shoen)) {
+            Look::All => self.tree.look_at_all(host),
+            Look::Path => self.tree.look_at_path(host, goal.shoen),
+            Look::Nothing => Ok(Shoens {
+                opened: Vec::new(self.alloc),
+                changed: Vec::new(self.alloc),
+            }),
         }
-        Ok(Shoens {
-            opened: Vec::new(self.alloc),
-            changed: Vec::new(self.alloc),
-        })
     }
 
     /// What became in a step of the shoens and goals that were there before it. `goals` are new, and are looked at from now on.
@@ -260,8 +258,7 @@ impl<O: Drop> Viewer<'_, O> {
         Ok(Others { woken, shoens })
     }
 
-    /// The exception of a monitor that read something: no message, as far as that was seen, and else what was reported without a change of
-    /// its shoen.
+    /// The exception of a monitor that read something.
     fn heard_by(
         &mut self,
         shoen: ShoenNo,
@@ -270,19 +267,16 @@ impl<O: Drop> Viewer<'_, O> {
     ) -> Result<Option<Raised>, AllocError> {
         let heard = match &mut self.controls {
             Some(controls) => controls.read(shoen.0)?,
-            None => Heard::Unseen,
+            None => unseen(),
         };
-        let is_obeyed = is_among(changed, shoen);
         let is_reported = usage.reports.count != self.usage.reports.count;
-        let message = match heard {
-            Heard::Message => return Ok(None),
-            Heard::Other(nodes) => Some(nodes),
-            Heard::Unseen if is_reported && !is_obeyed => None,
-            Heard::Unseen => return Ok(None),
-        };
+        let Heard { element, other } = heard;
+        if !is_bad(element, is_reported, is_among(changed, shoen)) {
+            return Ok(None);
+        }
         Ok(Some(Raised {
             kind: Kind::IllegalInput,
-            message,
+            message: other,
         }))
     }
 

@@ -1,6 +1,7 @@
 // Which goals are held back by shoens.
 
-ghost use Rattle.std.specs.Prelude.{◌<◌};
+ghost use Rattle.std.specs.Prelude.{◌<◌, ◌≡◌};
+ghost use Rattle.kl1_watch.specs.Still.{is_left};
 
 use kl1_command::Views;
 use kl1_model::Condition;
@@ -106,10 +107,13 @@ pub(crate) fn waits_in(shoens: &[ShoenView], is_numbered: bool, goal: &GoalView)
 }
 
 /// Whether a goal that is shown is a substitute that can't step: it waits for an answer, or its shoen holds it back.
-pub(crate) fn is_left(goal: &GoalView) -> bool {
+pub(crate) fn is_left(goal: &GoalView) -> bool
+    ensures { result ≡ is_left goal.now }
+{
     match goal.task {
         TaskKind::Substitutes => !goal.can_step,
-        TaskKind::Monitor | TaskKind::Reduces => false,
+        TaskKind::Monitor => false,
+        TaskKind::Reduces => false,
     }
 }
 
