@@ -104,6 +104,11 @@ impl Controls {
         }
     }
 
+    /// Whether no variable is in a stream.
+    pub fn is_empty(&self) -> bool {
+        self.by_variable.is_empty()
+    }
+
     /// Whether a variable is in a stream.
     pub fn has(&self, variable: u64) -> bool {
         self.by_variable.contains_key(&variable)

@@ -52,6 +52,9 @@ pub(crate) fn hear_bindings(
     controls: &mut Controls,
     print: &[u8],
 ) -> Result<(), AllocError> {
+    if controls.is_empty() {
+        return Ok(());
+    }
     let variables = variables_of(alloc, print)?;
     if !is_any_heard(controls, variables.as_slice()) {
         return Ok(());

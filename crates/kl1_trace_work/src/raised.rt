@@ -147,7 +147,7 @@ fn judged_in(alloc: Global, ground: &Ground<'_>, done: &Done<'_>) -> Result<Judg
     )
 }
 
-/// Whether the account had all the names that it may have, and has no more now as far as the step tells.
+/// Whether the account had all the names that it may have.
 fn has_all_names(usage: &Usage) -> bool {
     usage.names.most <= usage.names.count
 }
