@@ -19,6 +19,6 @@ pub use judged::{Judged, execute_arguments, judged, judged_answer, named_by};
 pub use kind::Kind;
 pub use notes::{notes_of_found, put_clause};
 pub use steps::{StepWatch, step_through};
-pub use sums::{Evaluated, evaluated, operated};
+pub use sums::{Evaluated, evaluated, operated, operator_named};
 pub use terms::{is_whole_term, split_term};
 pub use unified::{Binding, Unified, unified};

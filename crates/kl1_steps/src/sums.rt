@@ -1,8 +1,13 @@
 // What an expression comes to.
 
+ghost use Rattle.std.specs.Prelude.{◌≡◌, ℤ, FitsSigned};
+ghost use Rattle.std.specs.Int.{w64};
+ghost use Rattle.std.specs.Option.{SomeIff};
+ghost use Rattle.kl1_model.specs.Arithmetic.{fitted, operated, applied};
+
 use crate::terms::split_term;
-use kl1_model::Number;
 use kl1_model::limits::MOST_OPERATORS;
+use kl1_model::{Number, Operator};
 use kl1_term::Node;
 use std::alloc::{AllocError, Global};
 
@@ -19,44 +24,73 @@ pub enum Evaluated {
     Cut,
 }
 
-/// What an integer comes to that may be outside 64 bits.
-fn fitted(computed: Option<i64>) -> Number {
-    match computed {
+/// The number that a checked operation found, or an overflow if it found none.
+fn number_of(checked: Option<i64>) -> Number
+    ensures { (z : ℤ) → SomeIff checked (FitsSigned w64 z) z → result ≡ fitted z }
+{
+    match checked {
         Some(value) => Number::Value(value),
         None => Number::Overflow,
     }
 }
 
-/// What an operator makes of two integers, if it is one.
-pub fn operated(name: &[u8], left: i64, right: i64) -> Option<Number> {
+/// A quotient, rounded towards zero.
+fn divided(left: i64, right: i64) -> Number
+    ensures { result ≡ operated Operator.Divide left right }
+{
+    if right == 0 {
+        return Number::ZeroDivisor;
+    }
+    number_of(left.checked_div(right))
+}
+
+/// What a division leaves, with the sign of its left operand.
+fn remainder(left: i64, right: i64) -> Number
+    ensures { result ≡ operated Operator.Modulo left right }
+{
+    if right == 0 {
+        return Number::ZeroDivisor;
+    }
+    Number::Value(left.wrapping_rem(right))
+}
+
+/// What an operator makes of two integers.
+pub fn operated(operator: Operator, left: i64, right: i64) -> Number
+    ensures { result ≡ operated operator left right }
+{
+    match operator {
+        Operator::Plus => number_of(left.checked_add(right)),
+        Operator::Minus => number_of(left.checked_sub(right)),
+        Operator::Times => number_of(left.checked_mul(right)),
+        Operator::Divide => divided(left, right),
+        Operator::Modulo => remainder(left, right),
+    }
+}
+
+/// What an operator makes of what its operands come to; a fault of the left one goes before one of the right.
+fn applied(operator: Operator, left: Number, right: Number) -> Number
+    ensures { result ≡ applied operator left right }
+{
+    match left {
+        Number::Value(first) => match right {
+            Number::Value(second) => operated(operator, first, second),
+            Number::Overflow => Number::Overflow,
+            Number::ZeroDivisor => Number::ZeroDivisor,
+        },
+        Number::Overflow => Number::Overflow,
+        Number::ZeroDivisor => Number::ZeroDivisor,
+    }
+}
+
+/// The operator of a name, if it is that of one.
+pub fn operator_named(name: &[u8]) -> Option<Operator> {
     match name {
-        b"+" => Some(fitted(left.checked_add(right))),
-        b"-" => Some(fitted(left.checked_sub(right))),
-        b"*" => Some(fitted(left.checked_mul(right))),
-        b"/" if right == 0 => Some(Number::ZeroDivisor),
-        b"/" => Some(fitted(left.checked_div(right))),
-        b"mod" if right == 0 => Some(Number::ZeroDivisor),
-        // The least integer has a remainder though it has no quotient.
-        b"mod" if right == -1 => Some(Number::Value(0)),
-        b"mod" => Some(fitted(left.checked_rem(right))),
+        b"+" => Some(Operator::Plus),
+        b"-" => Some(Operator::Minus),
+        b"*" => Some(Operator::Times),
+        b"/" => Some(Operator::Divide),
+        b"mod" => Some(Operator::Modulo),
         _ => None,
-    }
-}
-
-/// What an operator makes of what its operands come to, if it is one: the left one's fault, or else the right one's, or else its result.
-fn applied(name: &[u8], left: Number, right: Number) -> Option<Number> {
-    match (left, right) {
-        (Number::Value(first), Number::Value(second)) => operated(name, first, second),
-        (Number::Value(_first), fault) => Some(fault),
-        (fault, _right) => Some(fault),
-    }
-}
-
-/// Whether a name is that of an operator.
-fn is_operator(name: &[u8]) -> bool {
-    match name {
-        b"+" | b"-" | b"*" | b"/" | b"mod" => true,
-        _ => false,
     }
 }
 
@@ -70,7 +104,7 @@ fn scanned(term: &[Node]) -> Option<Evaluated> {
         match node {
             Node::Integer(_number) => {}
             Node::Variable(_number) => return Some(Evaluated::Waits),
-            Node::Structure(name, 2) if is_operator(name.unpacked().as_slice()) => {
+            Node::Structure(name, 2) if operator_named(name.unpacked().as_slice()).is_some() => {
                 if MOST_OPERATORS <= operators {
                     return Some(Evaluated::Wrong);
                 }
@@ -95,13 +129,14 @@ fn computed(alloc: Global, term: &[Node]) -> Result<Evaluated, AllocError> {
         match node {
             Node::Integer(number) => values.push(Number::Value(*number))?,
             Node::Structure(name, _count) => {
-                let (Some(left), Some(right)) = (values.pop(), values.pop()) else {
+                let (Some(operator), Some(left), Some(right)) = (
+                    operator_named(name.unpacked().as_slice()),
+                    values.pop(),
+                    values.pop(),
+                ) else {
                     return Ok(Evaluated::Cut);
                 };
-                match applied(name.unpacked().as_slice(), left, right) {
-                    Some(value) => values.push(value)?,
-                    None => return Ok(Evaluated::Wrong),
-                }
+                values.push(applied(operator, left, right))?;
             }
             _ => return Ok(Evaluated::Wrong),
         }

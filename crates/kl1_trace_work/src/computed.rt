@@ -3,13 +3,13 @@
 use crate::prints::Computing;
 use kl1_lines::only_number;
 use kl1_model::Number;
-use kl1_steps::operated;
+use kl1_steps::{operated, operator_named};
 
 /// What an operator makes of two numbers, if it is one and that is a number.
 fn computed(name: &[u8], left: i64, right: i64) -> Option<i64> {
-    match operated(name, left, right) {
-        Some(Number::Value(value)) => Some(value),
-        _ => None,
+    match operated(operator_named(name)?, left, right) {
+        Number::Value(value) => Some(value),
+        Number::Overflow | Number::ZeroDivisor => None,
     }
 }
 
