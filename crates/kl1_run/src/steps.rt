@@ -119,7 +119,7 @@ pub fn observers_for<'a, W: Write + Drop>(
 fn profile_lines<H: Views, W>(
     alloc: Global,
     asked: &StepsAsked<'_>,
-    viewer: &Viewer<'_, Observers<'_, W>>,
+    viewer: &Viewer<Observers<'_, W>>,
     host: &H,
 ) -> Result<Vec<u8>, Fault> {
     let mut lines = Vec::new(alloc);
@@ -183,7 +183,7 @@ pub fn finish<H: Views, W: Write + Drop>(
     asked: &StepsAsked<'_>,
     title: &str,
     modules: &[FileId],
-    viewer: &mut Viewer<'_, Observers<'_, W>>,
+    viewer: &mut Viewer<Observers<'_, W>>,
     host: &H,
     out: &mut W,
 ) -> Result<(), Fault> {

@@ -16,8 +16,6 @@ pub struct ClausePlace {
     pub arity: u64,
     /// The line on which it begins, from 1.
     pub line: u64,
-    /// Whether it has a body, and so makes goals.
-    pub has_body: bool,
     /// The names of the variables that stand nowhere in its head, in order of their first places.
     pub fresh: Vec<Vec<u8>>,
 }
@@ -38,7 +36,6 @@ struct Item<'a> {
     last: Option<AtomText>,
     depth: u64,
     is_head: bool,
-    has_body: bool,
     tokens: u64,
 }
 
@@ -54,7 +51,6 @@ impl<'a> Item<'a> {
             last: None,
             depth: 0,
             is_head: false,
-            has_body: false,
             tokens: 0,
         }
     }
@@ -85,11 +81,7 @@ impl<'a> Item<'a> {
             Spelled::Sign(Sign::Comma) if self.depth == 1 => {
                 self.arity = self.arity.saturating_add(1);
             }
-            Spelled::Sign(Sign::Neck) => {
-                self.is_head = false;
-                self.has_body = true;
-            }
-            Spelled::End => self.is_head = false,
+            Spelled::Sign(Sign::Neck) | Spelled::End => self.is_head = false,
             _ => {}
         }
         if self.is_head {
@@ -155,7 +147,6 @@ pub fn put_clauses(
                             predicate: name,
                             arity: item.arity,
                             line: item.line,
-                            has_body: item.has_body,
                             fresh: item.fresh(alloc, rest)?,
                         })?,
                     }

@@ -1,11 +1,11 @@
 -- What steps raise and bind.
-use Rattle.std.specs.Prelude.{ℕ, ◌==◌, not, ◌&&◌, ◌||◌, Bool, true, false, if◌then◌else◌, List, length, Option, Some, None}
+use Rattle.std.specs.Prelude.{not, ◌&&◌, ◌||◌, Bool, true, false, if◌then◌else◌, List, Option, Some, None}
 use Rattle.std.specs.List.{list_any}
 use Rattle.kl1_user_events.specs.declared.goal_view.TaskKind.{TaskKind}
 use Rattle.kl1_user_events.specs.declared.goal_view.TaskKind.TheVariants.{Monitor, Reduces, Substitutes}
 use Rattle.kl1_user_events.specs.declared.goal_view.GoalView.{GoalView}
 use Rattle.kl1_steps.specs.declared.kind.Kind.{Kind}
-use Rattle.kl1_steps.specs.declared.kind.Kind.TheVariants.{IllegalInput}
+use Rattle.kl1_steps.specs.declared.kind.Kind.TheVariants.{IllegalInput, Exhaustion}
 use Rattle.kl1_steps.specs.declared.judged.Judged.{Judged}
 use Rattle.kl1_steps.specs.declared.judged.Judged.TheVariants.{Raises}
 use Rattle.kl1_trace_work.specs.declared.controls.Element.{Element}
@@ -52,9 +52,9 @@ raises judged = false
 abbrev pub is_raised : Bool → Bool → Judged → Bool
 is_raised has_substitute is_sure judged = has_substitute || (not is_sure && raises judged)
 
--- whether a goal that took a clause may be gone with an exception: none is left for sure, and no goal is new
-abbrev pub may_be_gone : Bool → List GoalView → Bool
-may_be_gone is_sure new = not is_sure && length new == 0
+-- the exception of a goal that took a clause, after which these goals are new: a limit would have been passed, so that its body isn't there
+abbrev pub raised_by_clause : List GoalView → Option Kind
+raised_by_clause new = if list_any is_reduced new then None else Some Exhaustion
 
 -- whether a monitor raised an exception by what it read: that is no message; or it wasn't seen, something was reported, and the shoen is in no
 -- other state, which each message that is reported changes

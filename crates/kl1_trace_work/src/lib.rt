@@ -28,7 +28,6 @@ pub use json::profile_json;
 pub use pattern::Pattern;
 pub use predicates::{Calling, Predicates};
 pub use profile::{Counts, Profile, Row};
-pub use raised::Ground;
 pub use seen::{NewGoal, Next, Observer, Raised, Seen};
 pub use table::put_table;
 pub use texts::{Texts, put_kind, put_name, put_readable};

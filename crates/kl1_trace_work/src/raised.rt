@@ -2,22 +2,15 @@
 
 ghost use Rattle.std.specs.Prelude.{◌≡◌};
 ghost use Rattle.std.specs.List.{list_any};
-ghost use Rattle.kl1_trace_work.specs.Raising.{is_substitute, is_reduced, is_monitor, raised_by_answer, is_raised, may_be_gone};
+ghost use Rattle.kl1_trace_work.specs.Raising.{is_substitute, is_reduced, is_monitor, raised_by_answer, raised_by_clause, is_raised};
 
 use crate::predicates::is_monitor;
 use crate::seen::Next;
 use kl1_model::Rules;
 use kl1_shown::parse_print;
-use kl1_steps::{Called, ClausePlace, Judged, Kind, clause_at, judged};
+use kl1_steps::{Called, Judged, Kind, judged};
 use kl1_user_events::{GoalView, TaskKind, Usage};
 use std::alloc::{AllocError, Global};
-
-/// What the rules of an account and the sources of its modules tell of its steps.
-#[derive(Clone, Copy)]
-pub struct Ground<'a> {
-    pub rules: Rules,
-    pub clauses: &'a [ClausePlace],
-}
 
 /// A step that was done.
 #[derive(Clone, Copy)]
@@ -65,6 +58,13 @@ pub(crate) fn has_substitute(goals: &[GoalView]) -> bool
     goals.iter().any(|goal| is_substitute(goal))
 }
 
+/// Whether a goal to be reduced is among goals.
+fn has_reduced(goals: &[GoalView]) -> bool
+    ensures { result ≡ list_any is_reduced goals.now }
+{
+    goals.iter().any(|goal| is_reduced(goal))
+}
+
 /// Whether a monitor is among goals.
 fn has_monitor(goals: &[GoalView]) -> bool
     ensures { result ≡ list_any is_monitor goals.now }
@@ -76,7 +76,7 @@ fn has_monitor(goals: &[GoalView]) -> bool
 fn raised_by_answer(new: &[GoalView]) -> Option<Kind>
     ensures { result ≡ raised_by_answer new.now }
 {
-    if new.iter().any(|goal| is_reduced(goal)) {
+    if has_reduced(new) {
         None
     } else {
         Some(Kind::IllegalInput)
@@ -91,57 +91,26 @@ fn is_of_users(called: &Called) -> bool {
     }
 }
 
-/// Whether the clause that a step took makes goals, as far as it is known.
-fn makes_goals(ground: &Ground<'_>, done: &Done<'_>) -> bool {
-    let Some(
-        Called {
-            module: Some(module),
-            predicate,
-            arity,
-        },
-    ) = done.called
-    else {
-        return false;
-    };
-    match clause_at(
-        ground.clauses,
-        module,
-        predicate,
-        *arity,
-        done.step.clause.0,
-    ) {
-        Some(clause) => clause.has_body,
-        None => false,
-    }
-}
-
-/// Whether a goal that took a clause may be gone with an exception: none is left for sure, and no goal is new.
-fn may_be_gone(is_sure: bool, new: &[GoalView]) -> bool
-    ensures { result ≡ may_be_gone is_sure new.now }
+/// The exception of a goal that took a clause, after which these goals are new: a limit would have been passed. Each clause makes a goal,
+/// so none is there then, or a substitute.
+fn raised_by_clause(new: &[GoalView]) -> Option<Kind>
+    ensures { result ≡ raised_by_clause new.now }
 {
-    !is_sure && new.len() == 0
-}
-
-/// The exception of a goal that took a clause: a limit would have been passed, so that its body isn't there.
-fn raised_by_clause(ground: &Ground<'_>, done: &Done<'_>) -> Option<Kind> {
-    if has_substitute(done.new) {
-        return Some(Kind::Exhaustion);
-    }
-    if may_be_gone(done.is_sure, done.new) && makes_goals(ground, done) {
+    if !has_reduced(new) {
         return Some(Kind::Exhaustion);
     }
     None
 }
 
 /// What the goal of a step does, by its text.
-fn judged_in(alloc: Global, ground: &Ground<'_>, done: &Done<'_>) -> Result<Judged, AllocError> {
+fn judged_in(alloc: Global, rules: Rules, done: &Done<'_>) -> Result<Judged, AllocError> {
     let Some(text) = done.text else {
         return Ok(Judged::Unknown);
     };
     let parsed = parse_print(alloc, text)?;
     judged(
         alloc,
-        ground.rules.most_spelled(),
+        rules.most_spelled(),
         parsed.nodes.as_slice(),
         parsed.is_whole,
     )
@@ -153,8 +122,8 @@ fn has_all_names(usage: &Usage) -> bool {
 }
 
 /// The kind of the exception of `shoen:execute`: if its text doesn't tell, and there was room for a shoen, its arguments were wrong.
-fn kind_of_opening(ground: &Ground<'_>, done: &Done<'_>, judged: Judged) -> Kind {
-    let limits = ground.rules.limits();
+fn kind_of_opening(rules: Rules, done: &Done<'_>, judged: Judged) -> Kind {
+    let limits = rules.limits();
     let has_room = done.usage.shoens.count < done.usage.shoens.most
         && done.depth < limits.depth as u64;
     match judged.raised() {
@@ -201,13 +170,9 @@ fn raised_by_built_in(done: &Done<'_>, judged: Judged) -> Option<Kind> {
 }
 
 /// The exception of a goal that was to be reduced by no clause.
-fn raised_alone(
-    alloc: Global,
-    ground: &Ground<'_>,
-    done: &Done<'_>,
-) -> Result<Option<Kind>, AllocError> {
+fn raised_alone(alloc: Global, rules: Rules, done: &Done<'_>) -> Result<Option<Kind>, AllocError> {
     let Some(called) = done.called else {
-        let judged = judged_in(alloc, ground, done)?;
+        let judged = judged_in(alloc, rules, done)?;
         return Ok(raised_by_built_in(done, judged));
     };
     if is_of_users(called) {
@@ -218,27 +183,27 @@ fn raised_alone(
         if has_monitor(done.new) && !has_substitute(done.new) {
             return Ok(None);
         }
-        let judged = judged_in(alloc, ground, done)?;
-        return Ok(Some(kind_of_opening(ground, done, judged)));
+        let judged = judged_in(alloc, rules, done)?;
+        return Ok(Some(kind_of_opening(rules, done, judged)));
     }
     // Whatever the goal is, it raised nothing if it would have left a substitute and didn't.
     if done.is_sure && !has_substitute(done.new) {
         return Ok(None);
     }
-    let judged = judged_in(alloc, ground, done)?;
+    let judged = judged_in(alloc, rules, done)?;
     Ok(raised_by_built_in(done, judged))
 }
 
 /// The kind of the exception that a step of a goal that isn't a monitor raised, if it raised one, be it reported or not.
 pub(crate) fn raised_by(
     alloc: Global,
-    ground: &Ground<'_>,
+    rules: Rules,
     done: &Done<'_>,
 ) -> Result<Option<Kind>, AllocError> {
     match done.step.goal.task {
         TaskKind::Monitor => Ok(None),
         TaskKind::Substitutes => Ok(raised_by_answer(done.new)),
-        TaskKind::Reduces if 0 < done.step.clause.0 => Ok(raised_by_clause(ground, done)),
-        TaskKind::Reduces => raised_alone(alloc, ground, done),
+        TaskKind::Reduces if 0 < done.step.clause.0 => Ok(raised_by_clause(done.new)),
+        TaskKind::Reduces => raised_alone(alloc, rules, done),
     }
 }

@@ -5,11 +5,12 @@ use crate::controls::{Controls, Heard, is_bad, unseen};
 use crate::hearing::{hear_bindings, hear_opening};
 use crate::predicates::{Predicates, is_monitor};
 use crate::prints::{is_cut, variables_of};
-use crate::raised::{Done, Ground, raised_by};
+use crate::raised::{Done, raised_by};
 use crate::seen::{NewGoal, Next, Observer, Raised, Seen};
 use crate::tree::{Look, Tree, look_of};
 use crate::waits::{ALL, Waits};
 use kl1_command::{UnbookedHost, Views};
+use kl1_model::Rules;
 use kl1_steps::Kind;
 use kl1_user_events::{ClauseNo, Extent, GoalNo, GoalView, ShoenNo, ShoenView, Usage};
 use std::alloc::{AllocError, Global};
@@ -19,11 +20,11 @@ pub const MOST_TEXT: usize = 400;
 
 /// What looks at an account before and after each step, for an observer.
 #[derive(Drop)]
-pub struct Viewer<'a, O> {
+pub struct Viewer<O> {
     alloc: Global,
     pub observer: O,
     pub predicates: Predicates,
-    ground: Ground<'a>,
+    rules: Rules,
     /// The goals that were there at the beginning.
     pub begun: Vec<NewGoal>,
     /// How many steps were seen.
@@ -61,20 +62,20 @@ struct Others {
     shoens: Shoens,
 }
 
-impl<'a, O: Drop> Viewer<'a, O> {
-    /// What looks at an account as it is now; at who wakes only if that matters.
+impl<O: Drop> Viewer<O> {
+    /// What looks at an account, which keeps to these rules, as it is now; at who wakes only if that matters.
     pub fn new<H: Views>(
         alloc: Global,
         host: &mut H,
         observer: O,
         is_waking: bool,
-        ground: Ground<'a>,
+        rules: Rules,
     ) -> Result<Self, AllocError> {
         let mut viewer = Viewer {
             alloc,
             observer,
             predicates: Predicates::new(alloc)?,
-            ground,
+            rules,
             begun: Vec::new(alloc),
             number: 0,
             last_goal: 0,
@@ -160,7 +161,7 @@ fn text_if<H: Views>(
     }
 }
 
-impl<O> Viewer<'_, O> {
+impl<O> Viewer<O> {
     /// Whether a goal of the predicate of a place is built in.
     fn is_built_in(&self, place: usize) -> bool {
         match self.predicates.called(place) {
@@ -176,13 +177,13 @@ impl<O> Viewer<'_, O> {
 
     /// Whether an exception of a goal leaves a substitute for sure.
     fn is_sure(&self, goal: &GoalView) -> bool {
-        self.ground.rules.has_substitutes() && self.is_heard(goal.shoen)
+        self.rules.has_substitutes() && self.is_heard(goal.shoen)
     }
 }
 
 /// What is known before a step; `None` if there is no such goal.
 pub(crate) fn look_before<H: UnbookedHost + Views, O: Observer<H> + Drop>(
-    viewer: &Viewer<'_, O>,
+    viewer: &Viewer<O>,
     host: &mut H,
     goal: GoalNo,
     clause: ClauseNo,
@@ -216,7 +217,7 @@ pub(crate) fn look_before<H: UnbookedHost + Views, O: Observer<H> + Drop>(
     }))
 }
 
-impl<O: Drop> Viewer<'_, O> {
+impl<O: Drop> Viewer<O> {
     /// What became of the shoens in a step. A reduction changes those of its path alone, and of a shoen that is heard for sure nothing
     /// without a report.
     fn look_at_shoens<H: Views>(
@@ -310,7 +311,7 @@ impl<O: Drop> Viewer<'_, O> {
             usage: self.usage,
             depth,
         };
-        Ok(match raised_by(self.alloc, &self.ground, &done)? {
+        Ok(match raised_by(self.alloc, self.rules, &done)? {
             Some(kind) => Some(Raised {
                 kind,
                 message: None,

@@ -22,7 +22,7 @@ pub fn watch_step<H: UnbookedHost + Views, O: Observer<H> + Drop>(
     host: &mut H,
     goal: GoalNo,
     clause: ClauseNo,
-    viewer: &mut Viewer<'_, O>,
+    viewer: &mut Viewer<O>,
 ) -> Result<Watched, AllocError> {
     let Some(before) = look_before(viewer, host, goal, clause)? else {
         return Ok(Watched::Refused);
@@ -45,7 +45,7 @@ pub fn watch_step<H: UnbookedHost + Views, O: Observer<H> + Drop>(
 /// Does the first step, and has it seen.
 pub fn watch_once<H: UnbookedHost + Views, O: Observer<H> + Drop>(
     host: &mut H,
-    viewer: &mut Viewer<'_, O>,
+    viewer: &mut Viewer<O>,
 ) -> Result<Watched, AllocError> {
     let Some((goal, clause)) = host.pick() else {
         return Ok(Watched::Refused);
@@ -57,7 +57,7 @@ pub fn watch_once<H: UnbookedHost + Views, O: Observer<H> + Drop>(
 pub fn watch_first<H: UnbookedHost + Views, O: Observer<H> + Drop>(
     host: &mut H,
     most: u64,
-    viewer: &mut Viewer<'_, O>,
+    viewer: &mut Viewer<O>,
 ) -> Result<Watched, AllocError> {
     for _ in 0..most {
         let watched = watch_once(host, viewer)?;

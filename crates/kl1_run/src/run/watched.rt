@@ -6,7 +6,7 @@ use crate::steps::{finish, observers_for};
 use crate::world::OwnWorld;
 use kl1_steps::ClausePlace;
 use kl1_timeline::{Observers, draw_new};
-use kl1_trace_work::{Ground, Texts, Viewer, watch_first};
+use kl1_trace_work::{Texts, Viewer, watch_first};
 use kl1_watch::Names;
 use kl1_words::{Fault, FileId};
 use std::alloc::{AllocError, Global};
@@ -29,7 +29,7 @@ fn texts_of<'a>(
 /// Begins the picture with the goals that are there, if there is one.
 fn begin_picture<W>(
     world: &mut OwnWorld,
-    viewer: &mut Viewer<'_, Observers<'_, W>>,
+    viewer: &mut Viewer<Observers<'_, W>>,
 ) -> Result<(), AllocError> {
     let begun = viewer.begun.as_slice();
     draw_new(
@@ -63,11 +63,7 @@ pub fn tell_steps(
     let texts = texts_of(alloc, names, clauses.as_slice(), files.as_slice());
     let observers = observers_for(&asked.told, texts, rt.stderr())?;
     let is_waking = observers.is_waking();
-    let ground = Ground {
-        rules: asked.rules,
-        clauses: clauses.as_slice(),
-    };
-    let mut viewer = Viewer::new(alloc, &mut world, observers, is_waking, ground)?;
+    let mut viewer = Viewer::new(alloc, &mut world, observers, is_waking, asked.rules)?;
     begin_picture(&mut world, &mut viewer)?;
     let _last = watch_first(&mut world, asked.steps, &mut viewer)?;
     finish(

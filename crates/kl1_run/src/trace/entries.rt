@@ -33,7 +33,7 @@ enum Done {
 pub struct Player<'a, W> {
     pub alloc: Global,
     pub rules: Rules,
-    pub viewer: Viewer<'a, Observers<'a, W>>,
+    pub viewer: Viewer<Observers<'a, W>>,
 }
 
 /// What became of a step.
@@ -99,7 +99,7 @@ fn trace_new<H: Views, W: Write + Drop>(
 /// Tells what came up otherwise than in a step after lines, if steps are told.
 fn trace<H: Views, W: Write + Drop>(
     host: &mut H,
-    viewer: &mut Viewer<'_, Observers<'_, W>>,
+    viewer: &mut Viewer<Observers<'_, W>>,
     new: &Anew,
     lines: Vec<u8>,
 ) -> Result<(), AllocError> {
@@ -115,7 +115,7 @@ fn trace<H: Views, W: Write + Drop>(
 /// Draws goals that came up otherwise than in a step, if there is a picture.
 fn draw<H: Views, W>(
     host: &mut H,
-    viewer: &mut Viewer<'_, Observers<'_, W>>,
+    viewer: &mut Viewer<Observers<'_, W>>,
     new: &[NewGoal],
 ) -> Result<(), AllocError> {
     let step = viewer.number;

@@ -10,7 +10,7 @@ use kl1_journal_entries::{Heading, heading_of, next_line};
 use kl1_model::limits::{MOST_SCRIPT_BYTES, MOST_SOURCE_BYTES};
 use kl1_run_work::SourceFile;
 use kl1_sums::plain_text;
-use kl1_trace_work::{Ground, Texts, Viewer};
+use kl1_trace_work::{Texts, Viewer};
 use kl1_watch::Names;
 use kl1_words::{Fault, named_line, put_named_line, read_up_to};
 
@@ -111,14 +111,10 @@ fn tell_headed(
     bring_in(alloc, &mut world, names.as_slice())?;
     let observers = observers_for(asked, texts, rt.stdout())?;
     let is_waking = observers.is_waking();
-    let ground = Ground {
-        rules: heading.rules,
-        clauses: clauses.as_slice(),
-    };
     let mut player = Player {
         alloc,
         rules: heading.rules,
-        viewer: Viewer::new(alloc, &mut world, observers, is_waking, ground)?,
+        viewer: Viewer::new(alloc, &mut world, observers, is_waking, heading.rules)?,
     };
     let played = player.play(&mut world, rest, first)?;
     finish(
