@@ -1,9 +1,9 @@
 -- Reports and shoens of an account that are let go, and what its machine leaves.
-use Rattle.kl1_user_account.proofs.Words.{◌≡◌, ℕ, ◌<◌, not, ◌&&◌, Bool, true, false, if◌then◌else◌, List, map, length, length-map, refl, sym, ap, ◌∙◌, subst, arith, Option, Some, None, option_map, limits_of, Account, State, step, is_living, with_entry, Transition, CellName, Cell, Held, Origin, Shoen, Reading, Fits, built, Means, meaning, origin_with, shoen_with, state_of, worked, Machine, made, Trail, Keeps, IsRested, Reschedules, is_among, Reads}
+use Rattle.kl1_user_account.proofs.Words.{◌≡◌, ℕ, ◌<◌, not, ◌&&◌, Bool, true, false, if◌then◌else◌, List, [], map, length, length-map, refl, sym, ap, ◌∙◌, subst, arith, Option, Some, None, option_map, limits_of, Account, State, step, is_living, with_entry, Transition, CellName, Cell, Held, Origin, Shoen, Reading, Fits, built, Means, meaning, origin_with, shoen_with, state_of, worked, Machine, made, Trail, Keeps, IsRested, Reschedules, is_among, Reads}
 use Rattle.kl1_model.specs.State as model
 use Rattle.kl1_model.specs.State.{change_shoen}
 use Rattle.kl1_model.specs.Meaning.{nil}
-use Rattle.kl1_model.specs.Event.{forget, forgot}
+use Rattle.kl1_model.specs.Event.{is_full, forget, forgot}
 use Rattle.kl1_model.specs.Forgetting.{without_shoen, empty_place, gone_below}
 use Rattle.kl1_model.specs.declared.built_in.BuiltIn.TheVariants.{EmptyList}
 use Rattle.kl1_model.specs.declared.life.Life.TheVariants.{Forgotten}
@@ -17,7 +17,8 @@ use Rattle.kl1_user_effects.proofs.Walking.{path_read}
 use Rattle.kl1_machine.proofs.Resting.{looked_state}
 use Rattle.kl1_machine.specs.Effects.{having_shoens}
 use Rattle.kl1_machine.specs.Forgetting.{none_left, forgetting_reports, Forgets, ForgetsReports}
-use Rattle.kl1_user_account.specs.Forgetting.{with_left, StepsInPart, StepsWhole}
+use Rattle.kl1_user_account.specs.Forgetting.{with_left, GoesInPart, GoesWhole, StepsInPart, StepsWhole}
+use Rattle.kl1_user_account.proofs.Counting.{more_entry}
 use Rattle.kl1_user_account.proofs.Machines.{Aside, account_of, state_aside, state_is, Began, began_state, rules_after, rested_after, noted, noted_counts, Holds, Leaves, left_holds}
 
 -- ---- the shoens, as they are kept and as the definitions have them
@@ -156,3 +157,21 @@ shoen_gone e n u steps room g rested keeps =
       keeps = keeps;
       room = room;
     })
+
+-- ---- what may go of an account, by what its fields have
+
+module _ (a : Account) (full : Bool) (n count : ℕ) (is : (f : Reading) → full ≡ is_full (state_of f a)) where
+  no_more_full : full ≡ false → a.entries < (limits_of a.rules).entries
+  no_more_full e = more_entry a.entries (limits_of a.rules).entries (sym (is (λ c. [])) ∙ e)
+
+  pub part_goes : (x : Cell CellName) → GoesInPart a.rules a.held a.shoens full n count x → StepsInPart a n count x × (a.entries < (limits_of a.rules).entries)
+  part_goes x g = ((λ f reads. g.steps f reads (record (state_of f a) { goals = []; shoens = []; last_variable = 0 }) a.goals refl (sym (is f))), no_more_full g.room)
+
+  pub whole_goes : GoesWhole a.rules a.held a.shoens full n count → StepsWhole a n × (a.entries < (limits_of a.rules).entries)
+  whole_goes g = (
+    λ f reads.
+        let S = state_of f a in
+        let to : ℕ → Transition = λ k. step S (forget n k) in
+        ap to (sym g.none) ∙ g.steps f reads (record S { goals = []; shoens = []; last_variable = 0 }) a.goals refl (sym (is f)),
+    no_more_full g.room,
+  )

@@ -159,8 +159,8 @@ shoens_shown f a from count views up e =
     let low = λ (h : Shoen CellName). nat_le from h.number in
     let all : from - 1 - 0 ≡ from - 1 = omega arith in
     let is =
-        filter_each k test (λ (h : Shoen CellName). nat_le from h.number && is_kept_shoen h) (λ h. refl) a.shoens
-        ∙ ap (map k) (filter_both low is_kept_shoen a.shoens ∙ ap (filter is_kept_shoen) (numbered_from from 0 a.shoens up ∙ ap (λ n. drop n a.shoens) all)) in
+    filter_each k test (λ (h : Shoen CellName). nat_le from h.number && is_kept_shoen h) (λ h. refl) a.shoens
+    ∙ ap (map k) (filter_both low is_kept_shoen a.shoens ∙ ap (filter is_kept_shoen) (numbered_from from 0 a.shoens up ∙ ap (λ n. drop n a.shoens) all)) in
     e ∙ sym (page_shown k view shown test a.shoens page count is (all_of (λ (h : Shoen CellName). view (k h) ≡ shown h) (shoen_read f a) page))
 
 -- a goal that stands as the definitions have it is shown as it is kept
