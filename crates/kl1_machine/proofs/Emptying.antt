@@ -1,9 +1,9 @@
 -- Shoens that the console lets go: who is told, and what an event has done with their places emptied.
-use Rattle.kl1_machine.proofs.Words.{◌≡◌, ℕ, ◌+◌, ◌<◌, ◌≤◌, ◌==◌, ◌&&◌, ◌||◌, not, Bool, true, false, if◌then◌else◌, List, [], ◌∷◌, ◌++◌, length, map, take, get_or, take_more, take_all, refl, sym, ap, ap₂, ◌∙◌, arith, Vec, Option, Some, None, option_map, unwrap_or, OnOk, OnErr, Result, Ok, Err, AllByRecursion, filter, list_any, list_any-append, or-true, or_parts, inl, inr, cases_Bool, false≢true, eq-eqb, eqb-true, and_left, and_right, length-map, map-map, is_among, path_within, is_living, CellName, Cell, Held, IsIn, Goal, is_monitor, is_monitor_of, number_of, is_of_any, Shoen, Tree, has_number, AreBelow, AreOwned, IsShoenIn, AreShoensIn, parents_in, is_on_path_in, charged_in, is_exhausted_in, is_blocking_in, is_blocking_at, is_enabled_at, below_tells, all_then, all_of, SameFlags, control_at, Machine, IsMachine, Becomes, having_shoens, Keeps, KeepsControl, Since, StillSince, HasGrown-same}
+use Rattle.kl1_machine.proofs.Words.{◌≡◌, ℕ, ◌+◌, ◌<◌, ◌≤◌, ◌==◌, ◌&&◌, ◌||◌, not, Bool, true, false, List, [], ◌∷◌, ◌++◌, length, map, take, get_or, take_more, take_all, refl, sym, ap, ap₂, ◌∙◌, arith, Vec, Option, Some, OnOk, OnErr, Result, Ok, Err, AllByRecursion, filter, list_any, list_any-append, or-true, inl, inr, cases_Bool, false≢true, eq-eqb, eqb-true, length-map, is_among, path_within, is_living, CellName, Cell, Held, IsIn, Goal, is_monitor_of, number_of, is_of_any, Shoen, Tree, has_number, AreBelow, IsShoenIn, AreShoensIn, parents_in, is_on_path_in, charged_in, is_exhausted_in, is_blocking_in, is_blocking_at, is_enabled_at, below_tells, all_then, all_of, control_at, Machine, IsMachine, Becomes, having_shoens, KeepsControl, Since, StillSince}
 use Rattle.std.specs.Prelude.{option_to_list, count_by, nat_le, IsErr}
 use Rattle.kl1_shoen.specs.Shoens.{emptied_below, empty_with}
 use Rattle.kl1_shoen.proofs.Meaning.{any_same}
-use Rattle.kl1_user_effects.proofs.Lists.{find_by, found_by, maps_as}
+use Rattle.kl1_user_effects.proofs.Lists.{found_by}
 use Rattle.kl1_machine.specs.Forgetting.{none_left, IsToldOf, AreToldOf}
 use Rattle.kl1_machine.proofs.Sincing.{each_both}
 use Rattle.kl1_machine.proofs.Shoens.{since_tree, since_either, becomes_so}
@@ -23,11 +23,11 @@ numbers_of p [] = tt
 numbers_of p (g ∷ gs) = elim (cases_Bool (p g)) [
   | inl is ↦ (
     (λ e. rw is (ap (λ b. b || is_among g.number (map number_of (filter p gs))) (eq-eqb g.number g.number refl))),
-    all_then (AmongThose p gs) (AmongThose p (g ∷ gs)) (λ k among e. rw is (ap (λ b. (k.number == g.number) || b) (among e) ∙ or-true (k.number == g.number))) gs (numbers_of p gs)
+    all_then (AmongThose p gs) (AmongThose p (g ∷ gs)) (λ k among e. rw is (ap (λ b. (k.number == g.number) || b) (among e) ∙ or-true (k.number == g.number))) gs (numbers_of p gs),
   )
   | inr off ↦ (
     (λ e. absurd (false≢true (sym off ∙ e))),
-    all_then (AmongThose p gs) (AmongThose p (g ∷ gs)) (λ k among e. rw off (among e)) gs (numbers_of p gs)
+    all_then (AmongThose p gs) (AmongThose p (g ∷ gs)) (λ k among e. rw off (among e)) gs (numbers_of p gs),
   )
 ]
 
@@ -128,9 +128,9 @@ module _ (x : Cell CellName) (all : List (Shoen CellName)) (n : ℕ) where
   blocks_still ss work h = elim (cases_Bool (is_living h.life)) [
     | inl lives ↦ as_charged ss work h (living_stays h lives)
     | inr dead ↦ elim (cases_Bool (is_on_path_in all n h.number)) [
-        | inl below ↦ ap (is_blocking_in (map emptied ss) work) (ended_below h dead below) ∙ sym (ended_blocks ss work h dead)
-        | inr beside ↦ as_charged ss work h (stays_beside h beside)
-      ]
+      | inl below ↦ ap (is_blocking_in (map emptied ss) work) (ended_below h dead below) ∙ sym (ended_blocks ss work h dead)
+      | inr beside ↦ as_charged ss work h (stays_beside h beside)
+    ]
   ]
 
   holds_still : (ss : List (Shoen CellName)) (work : List ℕ) (a : ℕ) → is_blocking_at (map emptied ss) work a ≡ is_blocking_at ss work a

@@ -1,4 +1,3 @@
-use Rattle.kl1_machine.proofs.Words.{sym}
 use Rattle.kl1_machine.proofs.Emptying.{emptied_becomes, emptied_since, told_refused}
 use Rattle.kl1_machine.proofs.machine.Machine.empty_below.Goals as goal
 

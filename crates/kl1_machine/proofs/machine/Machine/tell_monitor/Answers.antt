@@ -1,4 +1,4 @@
-use Rattle.kl1_machine.proofs.Words.{◌≡◌, ℕ, ◌++◌, List, append-nil, refl, sym, ap, ◌∙◌, None, Some, map, filter, is_monitor_of, number_of}
+use Rattle.kl1_machine.proofs.Words.{append-nil, sym, ap, ◌∙◌, None, Some}
 use Rattle.std.specs.Prelude.{option_to_list}
 use Rattle.kl1_machine.proofs.Emptying.{tells_one}
 use Rattle.kl1_machine.proofs.machine.Machine.tell_monitor.Goals as goal

@@ -1,4 +1,4 @@
-use Rattle.kl1_machine.proofs.Words.{List, ℕ, Option, Machine, most_names, false, true, refl, sym, ap, ◌∙◌, Some, option_map, CellName, Variable, Atom, Raises, Unifies, Names, Does, Failure, Exhaustion}
+use Rattle.kl1_machine.proofs.Words.{List, ℕ, Option, Machine, most_names, refl, sym, ap, ◌∙◌, Some, option_map, CellName, Variable, Atom, Raises, Unifies, Names, Does, Failure, Exhaustion}
 use Rattle.kl1_machine.specs.declared.machine.naming.Named.TheVariants.{Becomes}
 use Rattle.kl1_machine.proofs.Sincing.{named_machine}
 use Rattle.kl1_machine.proofs.Naming.{Walks, used_as, unnamed, full_stands, known_stands, new_stands, variable_can}
