@@ -43,7 +43,7 @@ flags_then : (b m : Machine) (t : Tree CellName) (shifts : Bool) → (shifts ≡
 flags_then b m t shifts f s e k le = let more = s.shoens in (f e).1 k (omega (arith, le, more)) ∙ s.flags (f e).0 k le
 
 -- a machine of which only shoens are others, how many the table of goals knows, what is noted of them, and who is told
-since_tree : (b m : Machine) (hs : List (Shoen CellName)) (room known : ℕ) (shifts : Bool) (v : Vec ℕ) → length m.shoens.shoens ≤ length hs → AllByRecursion (KeepsControl b (telling hs v m)) m.goals.goals → (shifts ≡ false → (m.shifts ≡ false) × SameFlags m.shoens (record m.shoens { shoens = hs })) → Since b m →
+pub since_tree : (b m : Machine) (hs : List (Shoen CellName)) (room known : ℕ) (shifts : Bool) (v : Vec ℕ) → length m.shoens.shoens ≤ length hs → AllByRecursion (KeepsControl b (telling hs v m)) m.goals.goals → (shifts ≡ false → (m.shifts ≡ false) × SameFlags m.shoens (record m.shoens { shoens = hs })) → Since b m →
     Since b (record m { shoens = record m.shoens { shoens = hs; room = room }; goals = record m.goals { shoens = known }; shifts = shifts; told = v })
 since_tree b m hs room known shifts v more controls flags s = record {
   keeps = record { grown = s.keeps.grown; trail = s.keeps.trail };
