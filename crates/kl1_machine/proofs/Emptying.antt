@@ -1,6 +1,6 @@
 -- Shoens that the console lets go: who is told, and what an event has done with their places emptied.
-use Rattle.kl1_machine.proofs.Words.{◌≡◌, ℕ, ◌+◌, ◌<◌, ◌≤◌, ◌==◌, ◌&&◌, ◌||◌, not, Bool, true, false, if◌then◌else◌, List, [], ◌∷◌, ◌++◌, length, map, take, get_or, take_more, take_all, refl, sym, ap, ap₂, ◌∙◌, arith, Vec, Option, Some, None, option_map, unwrap_or, OnOk, OnErr, Result, Ok, Err, AllByRecursion, filter, list_any, list_any-append, or-true, or_parts, inl, inr, cases_Bool, false≢true, eq-eqb, eqb-true, and_left, and_right, length-map, map-map, is_among, path_within, is_living, CellName, Cell, Held, Goal, is_monitor, is_monitor_of, number_of, is_of_any, Shoen, Tree, has_number, AreBelow, AreOwned, IsShoenIn, AreShoensIn, parents_in, is_on_path_in, charged_in, is_blocking_in, is_blocking_at, is_enabled_at, below_tells, all_then, all_of, SameFlags, control_at, Machine, IsMachine, Becomes, having_shoens, Keeps, KeepsControl, Since, StillSince, HasGrown-same}
-use Rattle.std.specs.Prelude.{option_to_list, count_by, nat_le}
+use Rattle.kl1_machine.proofs.Words.{◌≡◌, ℕ, ◌+◌, ◌<◌, ◌≤◌, ◌==◌, ◌&&◌, ◌||◌, not, Bool, true, false, if◌then◌else◌, List, [], ◌∷◌, ◌++◌, length, map, take, get_or, take_more, take_all, refl, sym, ap, ap₂, ◌∙◌, arith, Vec, Option, Some, None, option_map, unwrap_or, OnOk, OnErr, Result, Ok, Err, AllByRecursion, filter, list_any, list_any-append, or-true, or_parts, inl, inr, cases_Bool, false≢true, eq-eqb, eqb-true, and_left, and_right, length-map, map-map, is_among, path_within, is_living, CellName, Cell, Held, IsIn, Goal, is_monitor, is_monitor_of, number_of, is_of_any, Shoen, Tree, has_number, AreBelow, AreOwned, IsShoenIn, AreShoensIn, parents_in, is_on_path_in, charged_in, is_exhausted_in, is_blocking_in, is_blocking_at, is_enabled_at, below_tells, all_then, all_of, SameFlags, control_at, Machine, IsMachine, Becomes, having_shoens, Keeps, KeepsControl, Since, StillSince, HasGrown-same}
+use Rattle.std.specs.Prelude.{option_to_list, count_by, nat_le, IsErr}
 use Rattle.kl1_shoen.specs.Shoens.{emptied_below, empty_with}
 use Rattle.kl1_shoen.proofs.Meaning.{any_same}
 use Rattle.kl1_user_effects.proofs.Lists.{find_by, found_by, maps_as}
@@ -14,12 +14,21 @@ use Rattle.kl1_machine.proofs.Shoens.{since_tree, since_either, becomes_so}
 abbrev pub telling_only : Vec ℕ → Machine → Machine
 telling_only v m = record m { told = v }
 
--- goals that pass a test are of those that do, by their numbers
-numbers_of : (p : Goal CellName → Bool) (gs : List (Goal CellName)) → AllByRecursion (λ g. p g ≡ true → is_among g.number (map number_of (filter p gs)) ≡ true) gs
+-- a goal that passes a test is of those that do, by its number
+abbrev AmongThose : (Goal CellName → Bool) → List (Goal CellName) → Goal CellName → Type 0
+AmongThose p gs g = p g ≡ true → is_among g.number (map number_of (filter p gs)) ≡ true
+
+numbers_of : (p : Goal CellName → Bool) (gs : List (Goal CellName)) → AllByRecursion (AmongThose p gs) gs
 numbers_of p [] = tt
 numbers_of p (g ∷ gs) = elim (cases_Bool (p g)) [
-  | inl y ↦ rw y ((λ e. ap (λ b. b || is_among g.number (map number_of (filter p gs))) (eq-eqb g.number g.number refl)), all_then (λ k. p k ≡ true → is_among k.number (map number_of (filter p gs)) ≡ true) (λ k. p k ≡ true → is_among k.number (g.number ∷ map number_of (filter p gs)) ≡ true) (λ k among e. ap (λ b. (k.number == g.number) || b) (among e) ∙ or-true (k.number == g.number)) gs (numbers_of p gs))
-  | inr off ↦ rw off ((λ e. absurd (false≢true e)), numbers_of p gs)
+  | inl is ↦ (
+    (λ e. rw is (ap (λ b. b || is_among g.number (map number_of (filter p gs))) (eq-eqb g.number g.number refl))),
+    all_then (AmongThose p gs) (AmongThose p (g ∷ gs)) (λ k among e. rw is (ap (λ b. (k.number == g.number) || b) (among e) ∙ or-true (k.number == g.number))) gs (numbers_of p gs)
+  )
+  | inr off ↦ (
+    (λ e. absurd (false≢true (sym off ∙ e))),
+    all_then (AmongThose p gs) (AmongThose p (g ∷ gs)) (λ k among e. rw off (among e)) gs (numbers_of p gs)
+  )
 ]
 
 -- it was among them, and more came after them
@@ -98,14 +107,30 @@ module _ (x : Cell CellName) (all : List (Shoen CellName)) (n : ℕ) where
   charges_stay : (ss : List (Shoen CellName)) (work : List ℕ) (a : ℕ) → charged_in (map emptied ss) work a ≡ charged_in ss work a
   charges_stay ss work a = ap (λ (ps : List ℕ). count_by (λ w. is_among a (path_within w ps w)) work) (parents_stay ss)
 
+  -- one that lives or is elsewhere stays
+  living_stays : (h : Shoen CellName) → is_living h.life ≡ true → emptied h ≡ h
+  living_stays h lives = rw lives refl
+
+  pub stays_beside : (h : Shoen CellName) → is_on_path_in all n h.number ≡ false → emptied h ≡ h
+  stays_beside h beside = elim (cases_Bool (is_living h.life)) [ inl lives ↦ living_stays h lives | inr dead ↦ rw (dead, beside) refl ]
+
+  ended_below : (h : Shoen CellName) → is_living h.life ≡ false → is_on_path_in all n h.number ≡ true → emptied h ≡ empty_with x h
+  ended_below h dead below = rw (dead, below) refl
+
   -- a shoen that has ended holds back what is below it, emptied or not
+  ended_blocks : (ss : List (Shoen CellName)) (work : List ℕ) (h : Shoen CellName) → is_living h.life ≡ false → is_blocking_in ss work h ≡ true
+  ended_blocks ss work h dead = ap (λ b. h.is_stopped || not b || is_exhausted_in ss work h) dead ∙ ap (λ b. b || is_exhausted_in ss work h) (or-true h.is_stopped)
+
+  as_charged : (ss : List (Shoen CellName)) (work : List ℕ) (h : Shoen CellName) → emptied h ≡ h → is_blocking_in (map emptied ss) work (emptied h) ≡ is_blocking_in ss work h
+  as_charged ss work h same = ap (is_blocking_in (map emptied ss) work) same ∙ ap (λ c. h.is_stopped || not (is_living h.life) || nat_le h.allowance c) (charges_stay ss work h.number)
+
   blocks_still : (ss : List (Shoen CellName)) (work : List ℕ) (h : Shoen CellName) → is_blocking_in (map emptied ss) work (emptied h) ≡ is_blocking_in ss work h
   blocks_still ss work h = elim (cases_Bool (is_living h.life)) [
-    | inl lives ↦ rw lives (ap (λ c. h.is_stopped || not true || nat_le h.allowance c) (charges_stay ss work h.number))
+    | inl lives ↦ as_charged ss work h (living_stays h lives)
     | inr dead ↦ elim (cases_Bool (is_on_path_in all n h.number)) [
-      | inl below ↦ rw (dead, below) (sym (or-true h.is_stopped))
-      | inr beside ↦ rw (dead, beside) (or-true h.is_stopped ∙ sym (or-true h.is_stopped))
-    ]
+        | inl below ↦ ap (is_blocking_in (map emptied ss) work) (ended_below h dead below) ∙ sym (ended_blocks ss work h dead)
+        | inr beside ↦ as_charged ss work h (stays_beside h beside)
+      ]
   ]
 
   holds_still : (ss : List (Shoen CellName)) (work : List ℕ) (a : ℕ) → is_blocking_at (map emptied ss) work a ≡ is_blocking_at ss work a
@@ -118,15 +143,12 @@ module _ (x : Cell CellName) (all : List (Shoen CellName)) (n : ℕ) where
       ∙ ap (λ b. not b) (any_same (is_blocking_at (map emptied ss) work) (is_blocking_at ss work) (holds_still ss work) (path_within k (parents_in ss) k))
 
   -- a shoen elsewhere has the control stream that it had
-  kept_at : (h : Shoen CellName) → is_on_path_in all n h.number ≡ false → emptied h ≡ h
-  kept_at h beside = elim (cases_Bool (is_living h.life)) [ inl lives ↦ rw lives | inr dead ↦ rw (dead, beside) ]
-
   pub emptied_beside : (k : ℕ) → is_on_path_in all n k ≡ false → (ss : List (Shoen CellName)) → control_at (map emptied ss) k ≡ control_at ss k
   emptied_beside k beside [] = refl
   emptied_beside k beside (h ∷ hs) = elim (cases_Bool (h.number == k)) [
     | inl is ↦
         let here : is_on_path_in all n h.number ≡ false = ap (is_on_path_in all n) (eqb-true h.number k is) ∙ beside in
-        rw (number_stays h, is) (ap (λ (y : Shoen CellName). Some y.control) (kept_at h here))
+        rw (number_stays h, is) (ap (λ (y : Shoen CellName). Some y.control) (stays_beside h here))
     | inr other ↦ rw (number_stays h, other) (emptied_beside k beside hs)
   ]
 
@@ -190,5 +212,6 @@ emptied_since r b m u t n below are i rest told ok err s =
     rw rest (since_either r b m t (left_after n m) m.shifts u.told (rw trees at ok) (rw trees at err) (λ q. since_emptied b m u.told n below are i (record { before = told.before; each = told.each }) q) s)
 
 -- monitors were told, and memory was refused
-pub told_keeps : (b m u : Machine) → u ≡ telling_only u.told m → Since b m → Keeps b u
-told_keeps b m u rest s = rw rest (record { grown = s.keeps.grown; trail = s.keeps.trail })
+pub told_refused : {T E : Type 0} (r : Result T E) (b m u : Machine) → IsErr r → u ≡ telling_only u.told m → Since b m → StillSince r b u
+told_refused (Ok x) b m u refused rest s = absurd (false≢true refused)
+told_refused (Err e) b m u refused rest s = rw rest (record { grown = s.keeps.grown; trail = s.keeps.trail })

@@ -1,5 +1,5 @@
 use Rattle.kl1_machine.proofs.Words.{sym}
-use Rattle.kl1_machine.proofs.Emptying.{emptied_becomes, emptied_since, told_keeps}
+use Rattle.kl1_machine.proofs.Emptying.{emptied_becomes, emptied_since, told_refused}
 use Rattle.kl1_machine.proofs.machine.Machine.empty_below.Goals as goal
 
 pub returns-clause-ok : goal.returns-clause-ok
@@ -13,4 +13,5 @@ returns-clause-since c b =
     (rw c.of.ensures at c.forget.ensures.ok) c.forget.ensures.err
 
 pub returns-in_err-tell_monitors-clause-since : goal.returns-in_err-tell_monitors-clause-since
-returns-in_err-tell_monitors-clause-since c b s = told_keeps b c.args.self.now c.tell_monitors.new.self c.in_err-tell_monitors.ensures.rest s
+returns-in_err-tell_monitors-clause-since c b s =
+    told_refused c.from_residual-in_err-tell_monitors.result b c.args.self.now c.tell_monitors.new.self c.from_residual-in_err-tell_monitors.ensures.0 c.in_err-tell_monitors.ensures.rest s

@@ -8,7 +8,7 @@ returns-in-None-clause-told c =
     let m = c.args.self.now in
     tells_one c.args.shoen None m m.told (c.monitor.ensures ∙ ap option_to_list c.in-None.is) (sym (append-nil m.told.items))
 
-pub returns-in-Some-clause-told : goal.returns-in-Some-clause-told
-returns-in-Some-clause-told c =
+pub returns-in_ok-push-in-Some-clause-told : goal.returns-in_ok-push-in-Some-clause-told
+returns-in_ok-push-in-Some-clause-told c =
     let m = c.args.self.now in
-    tells_one c.args.shoen (Some c.in-Some.monitor) m c.push.new.self (c.monitor.ensures ∙ ap option_to_list c.in-Some.is) c.in_ok-push.ensures.items
+    tells_one c.args.shoen (Some c.in-Some.monitor) m c.push.new.self (c.monitor.ensures ∙ ap option_to_list c.in-Some.is) c.in_ok-push-in-Some.ensures.items
