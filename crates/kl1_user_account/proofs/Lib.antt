@@ -31,3 +31,4 @@ pub mod GivenShapes
 pub mod ToldAmong
 mod GivenGoals
 mod ForgetSteps
+mod LettingGo

@@ -34,20 +34,20 @@ first_and_last false b c e = absurd (false≢true e)
 -- variables as a text tells them are numbered from 1
 pub told_from_one : (seen : ℕ) (vs : List ℕ) → told_after seen vs ≡ true → AreFromOne vs
 told_from_one seen [] e = tt
-told_from_one seen (v ∷ vs) e = by (cases_lt v FIRST_UNTOLD)
+told_from_one seen (v ∷ vs) e = by (cases_lt v FIRST_UNTOLD) (λ k. told_from_one k vs)
   where
     Rest : Bool → Type 0
     Rest b = (if b then nat_le 1 v && told_after seen vs else nat_le v (FIRST_UNTOLD + seen) && is_number v && told_after (max seen (suc v - FIRST_UNTOLD)) vs) ≡ true
 
-    by : (v < FIRST_UNTOLD) ⊎ (FIRST_UNTOLD ≤ v) → AreFromOne (v ∷ vs)
-    by (inl lt) =
+    by : (v < FIRST_UNTOLD) ⊎ (FIRST_UNTOLD ≤ v) → ((k : ℕ) → told_after k vs ≡ true → AreFromOne vs) → AreFromOne (v ∷ vs)
+    by (inl lt) rest =
         let h : Rest true = subst Rest (lt-ltb v FIRST_UNTOLD lt) e in
         let p = and_parts (nat_le 1 v) (told_after seen vs) h in
-        (leb-true 1 v p.0, told_from_one seen vs p.1)
-    by (inr le) =
+        (leb-true 1 v p.0, rest seen p.1)
+    by (inr le) rest =
         let h : Rest false = subst Rest (le-ltb v FIRST_UNTOLD le) e in
         let p = first_and_last (nat_le v (FIRST_UNTOLD + seen)) (is_number v) (told_after (max seen (suc v - FIRST_UNTOLD)) vs) h in
-        (omega (arith, le), told_from_one (max seen (suc v - FIRST_UNTOLD)) vs p.1)
+        (omega (arith, le), rest (max seen (suc v - FIRST_UNTOLD)) p.1)
 
 from_one_more : (xs : List ℕ) (n : ℕ) → AreFromOne xs → 1 ≤ n → AreFromOne (xs ++ n ∷ [])
 from_one_more [] n h low = (low, tt)
@@ -56,11 +56,11 @@ from_one_more (x ∷ xs) n h low = (h.0, from_one_more xs n h.1 low)
 -- so are they, once each
 pub among_from_one : (seen ns : List ℕ) → AreFromOne seen → AreFromOne ns → AreFromOne (new_among None seen ns)
 among_from_one seen [] h low = h
-among_from_one seen (n ∷ ns) h low = by (is_among n seen)
+among_from_one seen (n ∷ ns) h low = by (is_among n seen) (λ k p. among_from_one k ns p low.1)
   where
-    by : (b : Bool) → AreFromOne (if b then new_among None seen ns else new_among None (seen ++ n ∷ []) ns)
-    by true = among_from_one seen ns h low.1
-    by false = among_from_one (seen ++ n ∷ []) ns (from_one_more seen n h low.0) low.1
+    by : (b : Bool) → ((k : List ℕ) → AreFromOne k → AreFromOne (new_among None k ns)) → AreFromOne (if b then new_among None seen ns else new_among None (seen ++ n ∷ []) ns)
+    by true rest = rest seen h
+    by false rest = rest (seen ++ n ∷ []) (from_one_more seen n h low.0)
 
 from_one_at : (ns : List ℕ) (i : ℕ) → i < length ns → AreFromOne ns → 1 ≤ get_or ns i 0
 from_one_at [] i lt low = absurd (omega (arith, lt))
@@ -121,16 +121,16 @@ new_push : (told : List (Option ℕ)) (r : Option ℕ) → new_in (told ++ r ∷
 new_push [] None = refl
 new_push [] (Some v) = refl
 new_push (Some w ∷ told) r = new_push told r
-new_push (None ∷ told) None = ap suc (new_push told None)
+new_push (None ∷ told) None = let e = new_push told None in omega (arith, e)
 new_push (None ∷ told) (Some v) = ap suc (new_push told (Some v))
 
 any_push : (p : ℕ → Bool) (xs : List ℕ) (n : ℕ) → list_any p (xs ++ n ∷ []) ≡ (list_any p xs || p n)
 any_push p [] n = or-false (p n)
-any_push p (x ∷ xs) n = by (p x)
+any_push p (x ∷ xs) n = by (p x) (any_push p xs n)
   where
-    by : (b : Bool) → (b || list_any p (xs ++ n ∷ [])) ≡ ((b || list_any p xs) || p n)
-    by true = refl
-    by false = any_push p xs n
+    by : (b : Bool) → list_any p (xs ++ n ∷ []) ≡ (list_any p xs || p n) → (b || list_any p (xs ++ n ∷ [])) ≡ ((b || list_any p xs) || p n)
+    by true others = refl
+    by false others = others
 
 gone_step : (a : Option Asked) (h : Held CellName) (n : ℕ) (t gone made : Bool) (r : Option ℕ) → 1 ≤ n → IsTell n t r → t ≡ stands_at a n → made ≡ is_variable_of h n →
     gone_with gone made r ≡ (gone || is_gone a (h.variables - 1) n)
@@ -195,28 +195,28 @@ pub all_free : (f : Reading) (h : Held CellName) (a : Option (Asking CellName)) 
 all_free f h None [] formed inside = tt
 all_free f h None (n ∷ ns) formed inside = all_free f h None ns formed inside
 all_free f h (Some x) [] formed inside = tt
-all_free f h (Some x) (n ∷ ns) formed inside = by (stands_at (Some (asked_of f h x)) n) refl
+all_free f h (Some x) (n ∷ ns) formed inside = by (stands_at (Some (asked_of f h x)) n) refl (all_free f h (Some x) ns formed inside)
   where
     rest : List (Option ℕ)
     rest = map (tell (Some (asked_of f h x))) ns
 
-    by : (b : Bool) → stands_at (Some (asked_of f h x)) n ≡ b → AreTold h ((if b then Some n else None) ∷ rest)
-    by true s = (occurs_free f h n x.goal formed inside.goal (and_parts (occurs n (term_of f h x.goal)) (not (n == x.new)) s).0, all_free f h (Some x) ns formed inside)
-    by false s = all_free f h (Some x) ns formed inside
+    by : (b : Bool) → stands_at (Some (asked_of f h x)) n ≡ b → AreTold h rest → AreTold h ((if b then Some n else None) ∷ rest)
+    by true s free = (occurs_free f h n x.goal formed inside.goal (and_parts (occurs n (term_of f h x.goal)) (not (n == x.new)) s).0, free)
+    by false s free = free
 
 -- none is what the substitute waits for
 others_in : (f : Reading) (h : Held CellName) (x : Asking CellName) (ns : List ℕ) → AreOthers x.new (map (tell (Some (asked_of f h x))) ns)
 others_in f h x [] = tt
-others_in f h x (n ∷ ns) = by (stands_at (Some (asked_of f h x)) n) refl
+others_in f h x (n ∷ ns) = by (stands_at (Some (asked_of f h x)) n) refl (others_in f h x ns)
   where
     rest : List (Option ℕ)
     rest = map (tell (Some (asked_of f h x))) ns
 
-    by : (b : Bool) → stands_at (Some (asked_of f h x)) n ≡ b → AreOthers x.new ((if b then Some n else None) ∷ rest)
-    by true s =
+    by : (b : Bool) → stands_at (Some (asked_of f h x)) n ≡ b → AreOthers x.new rest → AreOthers x.new ((if b then Some n else None) ∷ rest)
+    by true s others =
         let other : not (n == x.new) ≡ true = (and_parts (occurs n (term_of f h x.goal)) (not (n == x.new)) s).1 in
-        (λ e. false≢true (sym (ap not (eq-eqb n x.new e)) ∙ other), others_in f h x ns)
-    by false s = others_in f h x ns
+        (λ e. false≢true (sym (ap not (eq-eqb n x.new e)) ∙ other), others)
+    by false s others = others
 
 pub all_others : (f : Reading) (h : Held CellName) (a : Option (Asking CellName)) (ns : List ℕ) → IfSome a (λ x. AreOthers x.new (map (tell (option_map (asked_of f h) a)) ns))
 all_others f h None ns = tt

@@ -24,8 +24,8 @@ loop-number-preserved c =
     let on = told_on h c.args.asked ns found i c.loop-number.told.items c.loop-number.new c.loop-number.tells_gone c.is_variable_of-made.result r c.mark-held.ensures.formed c.requires.inside c.requires.found c.requires.least c.loop-number-test.true c.is_variable_of-made.ensures.value by so.so in
     record {
       place = (let p = so.place in omega (arith, p));
-      few = (let f = so.few in let m = new_few c.loop-number.new r in let e = c.new_with.ensures in omega (arith, f, m, e));
-      so = told_moved h c.args.asked (take (i + 1) ns) _ _ _ _ _ _ c.in_ok-push.ensures.ok c.new_with.ensures c.gone_with.ensures on;
+      few = (let f = so.few in let m = new_few c.loop-number.new r in let e = c.new_with-new.ensures in omega (arith, f, m, e));
+      so = told_moved h c.args.asked (take (i + 1) ns) _ _ _ _ _ _ c.in_ok-push.ensures.items c.new_with-new.ensures c.gone_with-tells_gone.ensures on;
     }
 
 pub returns : goal.returns
