@@ -1,4 +1,4 @@
-use Rattle.kl1_user_account.proofs.Words.{◌≡◌, ◌<◌, [], sym, ◌∙◌, limits_of, Reading, state_of, kept_in}
+use Rattle.kl1_user_account.proofs.Words.{◌≡◌, ◌<◌, [], refl, sym, ◌∙◌, limits_of, Reading, state_of, kept_in}
 use Rattle.kl1_user_account.specs.Forgetting.{StepsInPart, StepsWhole}
 use Rattle.kl1_user_account.proofs.LettingGo.{part_goes, whole_goes}
 use Rattle.kl1_user_account.proofs.account.Account.forget.Goals.{In-Reports, In-Shoen}
