@@ -68,6 +68,7 @@ fn times_in<R: Threads + Clock + Sync>(
     rounds: usize,
 ) -> Result<Times, AllocError>
     requires seats { (k : ℕ) (seat : AtomSeat) → slice_get seats.old.items k ≡ Some seat → IsNewSharedSeat table.now.table.shared.table_id seat.badge.table_id table.now.accounts (face_in seat.badge.views) seat.account k }
+    requires rooms { (k : ℕ) (seat : AtomSeat) → slice_get seats.old.items k ≡ Some seat → (face_in seat.badge.views).room ≡ MOST_NAMES_BEFORE }
     requires seven { 7 ≤ vec_len seats.old }
     requires few { length texts.now ≤ 1000 }
 {
