@@ -1,6 +1,7 @@
 // How long look-ups take: in a map on one thread, and in the shared table from one, two and four threads at once.
 
 ghost use Rattle.std.specs.Prelude.{◌≡◌, ℕ, ◌≤◌, Some, length, slice_get, vec_len};
+ghost use Rattle.kl1_model.specs.declared.limits.TheConstants.{MOST_NAMES_BEFORE};
 ghost use Rattle.kl1_atoms.specs.Seats.{IsNewSharedSeat, face_in};
 ghost use Rattle.kl1_atoms.specs.declared.atom_seat.AtomSeat.{AtomSeat};
 
