@@ -144,7 +144,7 @@ pub trait HostView {
     ) -> Result<Option<Vec<u8>>, AllocError>;
 
     /// The variables that a goal of an account waits for; `None` if there is no such goal.
-    fn awaited(&self, account: usize, goal: GoalNo) -> Result<Option<Vec<u32>>, AllocError>;
+    fn awaited(&self, account: usize, goal: GoalNo) -> Result<Option<Vec<u64>>, AllocError>;
 
     /// Whether a variable is in a goal of an account, as far as `most` of its parts tell.
     fn presence(

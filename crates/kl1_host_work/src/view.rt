@@ -243,7 +243,7 @@ impl<F: Front, N: Wait + Clock, R: Wait, K: PoolIds + Naming, C: Connecting> Hos
         Ok(text)
     }
 
-    fn awaited(&self, account: usize, goal: GoalNo) -> Result<Option<Vec<u32>>, AllocError> {
+    fn awaited(&self, account: usize, goal: GoalNo) -> Result<Option<Vec<u64>>, AllocError> {
         if !self.may_look(account) {
             return Err(AllocError);
         }

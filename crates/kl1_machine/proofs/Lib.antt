@@ -32,3 +32,5 @@ pub mod Bringing
 pub mod Published
 pub mod Calm
 pub mod Words
+mod Collecting
+mod Rehanging

@@ -90,7 +90,7 @@ impl<'t, R: Wait, K: PoolIds> Pool<'t, R, K> {
         rt: &W,
         account: usize,
         goal: GoalNo,
-    ) -> Result<Option<Vec<u32>>, AllocError>
+    ) -> Result<Option<Vec<u64>>, AllocError>
         requires within { account < K.accounts }
         ensures { IfOk result (λ awaited. IsOfSome K.rules (called_at K.names account) (λ s. AreAwaited s goal.0 (option_map (λ numbers. numbers.items) awaited))) }
     {

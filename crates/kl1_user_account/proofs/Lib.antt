@@ -31,3 +31,7 @@ pub mod GivenShapes
 pub mod ToldAmong
 mod GivenGoals
 mod ForgetSteps
+mod Collected
+mod Lifting
+mod Labelling
+mod Shown

@@ -11,6 +11,7 @@ kept_in u = record {
   own_name = u.name;
   rules = u.machine.rules;
   held = u.machine.store.held;
+  labels = u.labels;
   goals = u.machine.goals.goals;
   shoens = u.machine.shoens.shoens;
   work = u.machine.shoens.work;

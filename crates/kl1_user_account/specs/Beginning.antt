@@ -13,6 +13,7 @@ begun own rules names sessions = record {
   own_name = own;
   rules = rules;
   held = with_variable nothing_held;
+  labels = [];
   goals = [];
   shoens = [];
   work = [];

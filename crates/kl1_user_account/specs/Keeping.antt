@@ -4,6 +4,7 @@ use Rattle.std.specs.List.{AllByRecursion}
 use Rattle.kl1_model.specs.declared.limits.TheConstants.{MOST_RUN}
 use Rattle.kl1_model.specs.Rules.{limits_of}
 use Rattle.kl1_store.specs.Hooks.{Hook}
+use Rattle.kl1_store_copy.specs.Numbers.{AreRising, numbered}
 use Rattle.kl1_codes.specs.Numbered.{AreRead}
 use Rattle.kl1_user_effects.specs.Fitting.{Reading, Fits}
 use Rattle.kl1_user_effects.specs.Account.{Account, program_of, state_of}
@@ -18,10 +19,17 @@ pub record CountsWork (work entries run : ℕ) : Type 0 where
   pub all : work ≤ entries * MOST_RUN
   pub last : 0 < run → work + MOST_RUN ≤ entries * MOST_RUN + run
 
+-- numbers by which the first of `count` variables are known: the first variable, which no account uses, has its own
+pub record AreLabels (count : ℕ) (labels : List ℕ) : Type 0 where
+  pub rising : AreRising 0 labels
+  pub first : numbered labels 0 ≡ 0
+  pub few : length labels ≤ count
+
 -- what always holds of an account, on whose variables these numbers hang, and whose table of goals knows `known` shoens and had no goal
 -- put with a number above `put`; that its shoens are a tree is what the tree of shoens keeps
 pub record IsKept (a : Account) (hooks : List Hook) (known put : ℕ) : Type 0 where
   pub some : 0 < a.held.variables
+  pub labels : AreLabels a.held.variables a.labels
   pub goals : AreGoalsIn a.held a.goals
   pub owned : AreOwned (length a.shoens) a.goals
   pub shoens : AreShoensIn a.held a.shoens

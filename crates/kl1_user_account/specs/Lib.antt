@@ -11,3 +11,4 @@ pub mod Forgetting
 pub mod Viewed
 pub mod NameRows
 pub mod Bringing
+pub mod Collecting

@@ -21,3 +21,4 @@ pub mod Swapping
 pub mod Spares
 pub mod Messages
 pub mod Words
+pub mod Relabelling

@@ -65,7 +65,7 @@ impl<'t, R: Wait, K: PoolIds> PoolAccount<'t, R, K> {
         &self,
         codes: &SharedCodes<'t, R>,
         goal: GoalNo,
-    ) -> Result<Option<Vec<u32>>, AllocError>
+    ) -> Result<Option<Vec<u64>>, AllocError>
         requires codes { codes.now.table.now ≡ K.codes }
         ensures { IfOk result (λ awaited. (f : Reading) → Fits self.now.held.0.names f → AreAwaited (kept_of f self.now.held).state goal.0 (option_map (λ numbers. numbers.items) awaited)) }
     {

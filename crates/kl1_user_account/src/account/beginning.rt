@@ -12,6 +12,7 @@ ghost use Rattle.kl1_user_account.specs.Beginning.{IsNameList, begun};
 
 use crate::account::Account;
 use crate::account_name::AccountName;
+use crate::labels::Labels;
 use kl1_atoms::AtomSource;
 use kl1_codes::{CodeSource, Modules};
 use kl1_goals::{GoalTable, Rules};
@@ -133,10 +134,12 @@ impl<C: CodeSource> Account<C> {
         Account {
             name,
             machine,
+            labels: Labels::new(alloc),
             modules: Modules::new(alloc),
             entries: 0,
             run: 0,
             sessions,
+            due: 0,
             trial: Trial::new(alloc),
             scan: PathScan::new(alloc),
             cells: Vec::new(alloc),

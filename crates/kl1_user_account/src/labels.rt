@@ -1,0 +1,72 @@
+// The numbers by which the variables of a store are known.
+
+ghost use Rattle.std.specs.Prelude.{◌≡◌, ◌<◌, ◌≤◌, [], ℕ, length, map, IfOk, MatchOption};
+ghost use Rattle.kl1_store_copy.specs.Numbers.{after, AreRising, numbered};
+
+use std::alloc::{AllocError, Global};
+use std::marker::Model;
+
+/// Above no number of a variable that can be counted.
+const MOST: u64 = 1 << 63;
+
+/// The numbers of the variables of an account: those of the first ones in a list, which lived through the last collection; the next
+/// variable has `next`, and each later one a number more.
+#[derive(Drop)]
+pub struct Labels {
+    first: Vec<u64>,
+    next: u64,
+}
+
+impl Model for Labels {
+    ghost use Rattle.std.specs.Prelude.{◌≡◌, ◌≤◌, ◌^◌, List, ℕ};
+    ghost use Rattle.kl1_store_copy.specs.Numbers.{after, AreRising};
+
+    ghost Value = { List ℕ };
+
+    ghost view = { λ l. l.first.items };
+
+    ghost invariant = { λ l. (l.next ≡ after 0 l.first.items) × (AreRising 0 l.first.items × (l.next ≤ 2 ^ 63)) };
+}
+
+impl Labels {
+    /// Each variable has its number in the store.
+    pub(crate) fn new(alloc: Global) -> Self
+        ensures { result ≡ [] }
+    {
+        Labels {
+            first: Vec::new(alloc),
+            next: 0,
+        }
+    }
+
+    /// The number by which a variable of the store is known.
+    #[inline]
+    pub(crate) fn of(&self, variable: u32) -> u64
+        ensures { result ≡ numbered self.now variable }
+    {
+        let place = variable as usize;
+        if place < self.first.len() {
+            return self.first[place];
+        }
+        self.next + (place - self.first.len()) as u64
+    }
+
+    /// The numbers of the variables of a copy, of which `back` has for each the number in the store.
+    pub(crate) fn of_copy(&self, alloc: Global, back: &Vec<u32>) -> Result<Labels, AllocError>
+        requires rising { AreRising 0 back.now.items }
+        requires long { length self.now ≤ after 0 back.now.items }
+        ensures { IfOk result (λ labels. labels ≡ map (numbered self.now) back.now.items) }
+    {
+        let mut first = Vec::with_capacity(alloc, back.len())?;
+        let mut next = 0;
+        for place in 0..back.len() {
+            let label = self.of(back[place]);
+            if label >= MOST {
+                return Err(AllocError);
+            }
+            first.push(label)?;
+            next = label + 1;
+        }
+        Ok(Labels { first, next })
+    }
+}
