@@ -214,6 +214,7 @@ fn origin_at<N: Copy>(origin: Option<Origin<N>>, cells: &[Cell<N>], at: usize) -
             goal: cell_at(cells, at, own.goal),
             reports: cell_at(cells, at + 1, own.reports),
             control: cell_at(cells, at + 2, own.control),
+            forgotten: own.forgotten,
         }),
     }
 }

@@ -9,6 +9,7 @@ use Rattle.kl1_model.specs.State.{State, names_of, with_names}
 use Rattle.kl1_model.specs.Event.{answer, sent, refuse, with_entry}
 use Rattle.kl1_model.specs.Answering.{answered}
 use Rattle.kl1_model.specs.Step.{step}
+use Rattle.kl1_model.specs.laws.RelabelLaws.{relabelled}
 use Rattle.kl1_user_events.specs.declared.refusal.Refusal.{Refusal}
 use Rattle.kl1_user_events.specs.Views.{refusal_of}
 use Rattle.kl1_text.specs.Reading.{Reads}
@@ -16,6 +17,7 @@ use Rattle.kl1_text.specs.declared.cell_name.CellName.{CellName}
 use Rattle.kl1_atoms.specs.declared.known.Known.{Known}
 use Rattle.kl1_store.specs.Held.{Held}
 use Rattle.kl1_store.specs.Unbound.{IsUnbound}
+use Rattle.kl1_store_copy.specs.Numbers.{numbered}
 use Rattle.kl1_match.specs.GoalCells.{new_in, AreTold}
 use Rattle.kl1_goals.specs.declared.goal.Goal.{Goal}
 use Rattle.kl1_shoen_paths.specs.declared.shoen.Shoen.{Shoen}
@@ -33,14 +35,18 @@ use Rattle.kl1_user_account.specs.Starting.{HasNames, IsFree}
 abbrev pub has_room_to_answer_beside : Counted → ℕ → ℕ → Bool
 has_room_to_answer_beside c variables nodes = nat_le (c.variables + variables) c.most.variables && nat_le (c.nodes + nodes) c.most.nodes
 
--- an answer to a report of shoen `n` is refused for a reason, if this is counted
-abbrev pub RefusesAnswer : Rules → Held CellName → List (Shoen CellName) → List Known → Counted → ℕ → ℕ → Term → Refusal → Type 0
-RefusesAnswer rules h ss names counted n report goal r =
+-- a state with the numbers by which its variables are known
+abbrev pub known_state : List ℕ → State → State
+known_state labels s = relabelled (numbered labels) s
+
+-- an answer to a report of shoen `n` is refused for a reason, if this is counted, in an account whose variables are known by these numbers
+abbrev pub RefusesAnswer : Rules → Held CellName → List ℕ → List (Shoen CellName) → List Known → Counted → ℕ → ℕ → Term → Refusal → Type 0
+RefusesAnswer rules h labels ss names counted n report goal r =
     (f : Reading) → Reads built f → (s : State) (goals : List (Goal CellName)) → s.rules ≡ rules → HasNames (with_kept f s h goals ss) names counted →
-    step (with_kept f s h goals ss) (answer n report goal) ≡ refuse (with_kept f s h goals ss) (refusal_of r)
+    step (known_state labels (with_kept f s h goals ss)) (answer n report goal) ≡ refuse (known_state labels (with_kept f s h goals ss)) (refusal_of r)
 
 -- an answer to a report of shoen `n` may be given: this is its goal, with this many structures, and a substitute waits for this variable
-pub record IsAnswerable (rules : Rules) (h : Held CellName) (ss : List (Shoen CellName)) (names : List Known) (counted : Counted) (n report : ℕ) (goal : Term) (g : Given) (nodes v : ℕ) : Type 0 where
+pub record IsAnswerable (rules : Rules) (h : Held CellName) (labels : List ℕ) (ss : List (Shoen CellName)) (names : List Known) (counted : Counted) (n report : ℕ) (goal : Term) (g : Given) (nodes v : ℕ) : Type 0 where
   pub goal_is : is_goal g.code ≡ true
   pub numbered : IsTrue (is_numbered g.code)
   pub count : length g.told.items ≡ highest g.code
@@ -51,10 +57,10 @@ pub record IsAnswerable (rules : Rules) (h : Held CellName) (ss : List (Shoen Ce
   pub told : AreTold h g.told.items
   pub others : AreOthers v g.told.items
   pub steps : (f : Reading) → Reads built f → (s : State) (goals : List (Goal CellName)) → s.rules ≡ rules → HasNames (with_kept f s h goals ss) names counted →
-      step (with_kept f s h goals ss) (answer n report goal)
-      ≡ record { state = with_entry (answered v (record { goal = given_goal (h.variables - 1) g; new = g.new; tells_gone = false }) g.code (with_kept f s h goals ss)); reply = sent }
+      step (known_state labels (with_kept f s h goals ss)) (answer n report goal)
+      ≡ record { state = known_state labels (with_entry (answered v (record { goal = given_goal (h.variables - 1) g; new = g.new; tells_gone = false }) g.code (with_kept f s h goals ss))); reply = sent }
 
 -- what comes of an answer to a report of shoen `n`
-abbrev pub AnswersAs : Rules → Held CellName → List (Shoen CellName) → List Known → Counted → ℕ → ℕ → Term → Answering → Type 0
-AnswersAs rules h ss names counted n report goal (Refused r) = RefusesAnswer rules h ss names counted n report goal r
-AnswersAs rules h ss names counted n report goal (Coded g nodes v) = IsAnswerable rules h ss names counted n report goal g nodes v
+abbrev pub AnswersAs : Rules → Held CellName → List ℕ → List (Shoen CellName) → List Known → Counted → ℕ → ℕ → Term → Answering → Type 0
+AnswersAs rules h labels ss names counted n report goal (Refused r) = RefusesAnswer rules h labels ss names counted n report goal r
+AnswersAs rules h labels ss names counted n report goal (Coded g nodes v) = IsAnswerable rules h labels ss names counted n report goal g nodes v

@@ -7,7 +7,7 @@ use Rattle.kl1_store.specs.Hooks.{Hook}
 use Rattle.kl1_store_copy.specs.Numbers.{AreRising, numbered}
 use Rattle.kl1_codes.specs.Numbered.{AreRead}
 use Rattle.kl1_user_effects.specs.Fitting.{Reading, Fits}
-use Rattle.kl1_user_effects.specs.Account.{Account, program_of, state_of}
+use Rattle.kl1_user_effects.specs.Account.{Account, program_of, local_state}
 use Rattle.kl1_user_effects.specs.Kept.{AreGoalsIn, AreOwned, AreUpTo, AreShoensIn}
 use Rattle.kl1_user_effects.specs.Settled.{AreSettled, AreEnabled}
 use Rattle.kl1_user_effects.specs.Naming.{AreSmall}
@@ -41,5 +41,5 @@ pub record IsKept (a : Account) (hooks : List Hook) (known put : ℕ) : Type 0 w
   pub settled : (f : Reading) → Fits a.names f → AreSettled f hooks a.held (program_of a) a.shoens a.goals
   pub enabled : AreEnabled a.shoens a.work a.goals
   pub rows : (f : Reading) → Fits a.names f → AreRead f a.modules
-  pub named : (f g : Reading) → Fits a.names f → Fits a.names g → state_of f a ≡ state_of g a
+  pub named : (f g : Reading) → Fits a.names f → Fits a.names g → local_state f a ≡ local_state g a
   pub small : AreSmall a.names

@@ -5,6 +5,7 @@ pub mod Loadings
 pub mod Starting
 pub mod Asked
 pub mod Beginning
+pub mod Labelled
 pub mod Giving
 pub mod Answering
 pub mod Forgetting

@@ -1,12 +1,13 @@
 // The numbers by which the variables of a store are known.
 
-ghost use Rattle.std.specs.Prelude.{◌≡◌, ◌<◌, ◌≤◌, [], ℕ, length, map, IfOk, MatchOption};
+ghost use Rattle.std.specs.Prelude.{◌≡◌, ◌<◌, ◌≤◌, [], ℕ, length, map, IfOk};
 ghost use Rattle.kl1_store_copy.specs.Numbers.{after, AreRising, numbered};
+ghost use Rattle.kl1_user_account.specs.Labelled.{IsNumberOf, AreNumbersOf};
 
 use std::alloc::{AllocError, Global};
 use std::marker::Model;
 
-/// Above no number of a variable that can be counted.
+/// Above each number of a variable that can be counted, and so that of none.
 const MOST: u64 = 1 << 63;
 
 /// The numbers of the variables of an account: those of the first ones in a list, which lived through the last collection; the next
@@ -49,6 +50,30 @@ impl Labels {
             return self.first[place];
         }
         self.next + (place - self.first.len()) as u64
+    }
+
+    /// The number in the store of the variable that is known by `label`; 2^63 if there is none.
+    fn number_of(&self, label: u64) -> u64
+        ensures { IsNumberOf self.now label result }
+    {
+        if self.next <= label {
+            return label - self.next + self.first.len() as u64;
+        }
+        match self.first.as_slice().binary_search(&label) {
+            Ok(place) => place as u64,
+            Err(_place) => MOST,
+        }
+    }
+
+    /// The numbers in the store of the variables that are known by these labels; 2^63 for each by which none is.
+    pub(crate) fn numbers_of(&self, alloc: Global, labels: &[u64]) -> Result<Vec<u64>, AllocError>
+        ensures { IfOk result (λ numbers. AreNumbersOf self.now labels.now numbers.items) }
+    {
+        let mut numbers = Vec::with_capacity(alloc, labels.len())?;
+        for label in labels {
+            numbers.push(self.number_of(*label))?;
+        }
+        Ok(numbers)
     }
 
     /// The numbers of the variables of a copy, of which `back` has for each the number in the store.
