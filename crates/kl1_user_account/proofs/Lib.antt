@@ -28,6 +28,7 @@ mod Started
 pub mod Words
 pub mod Givings
 pub mod GivenShapes
+mod KnownAs
 pub mod ToldAmong
 mod GivenGoals
 mod ForgetSteps

@@ -40,11 +40,6 @@ occurs_at a n = elim a [ None ↦ false | Some a ↦ occurs n a.goal ]
 abbrev pub AreFound : Held CellName → Option (Asking CellName) → List ℕ → List Bool → Type 0
 AreFound h a numbers found = (f : Reading) → found ≡ map (occurs_at (option_map (asked_of f h) a)) numbers
 
--- numbers none of which is 0
-abbrev pub AreFromOne : List ℕ → Type 0
-AreFromOne [] = Unit {0}
-AreFromOne (n ∷ ns) = (1 ≤ n) × AreFromOne ns
-
 -- whether a number isn't that of the variable that the substitute waits for
 abbrev pub is_other : Option (Asking CellName) → ℕ → Bool
 is_other None n = true

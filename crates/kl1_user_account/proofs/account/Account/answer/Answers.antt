@@ -1,17 +1,25 @@
-use Rattle.kl1_user_account.proofs.Words.{◌≡◌, [], refl, sym, ap, ◌∙◌, Transition, sent, State, Reading, state_of, kept_in, IsAnswerable}
+use Rattle.kl1_user_account.proofs.Words.{◌≡◌, ℕ, List, [], refl, sym, ap, ◌∙◌, Transition, sent, State, Reading, local_state, kept_in, IsAnswerable}
+use Rattle.kl1_model.specs.laws.RelabelLaws.{relabelled}
+use Rattle.kl1_store_copy.specs.Numbers.{numbered}
 use Rattle.kl1_user_account.proofs.Started.{may_answer_it}
 use Rattle.kl1_user_account.proofs.account.Account.answer.Goals.{In-Coded}
 use Rattle.kl1_user_account.proofs.account.Account.answer.Goals as goal
+
+pub code_of_answer-requires-clause-known : goal.code_of_answer-requires-clause-known
+code_of_answer-requires-clause-known g c = c.self.inside.labels
+
+pub code_of_answer-requires-clause-some : goal.code_of_answer-requires-clause-some
+code_of_answer-requires-clause-some g c = c.self.inside.some
 
 pub returns-in-Refused-clause-step : goal.returns-in-Refused-clause-step
 returns-in-Refused-clause-step g c =
     let a = kept_in c.self.inside in
     let refused = rw c.in-Refused.is at c.in_ok-answering.ensures.answers in
-    rw (← c.self.view_is) (λ f fits. refused f fits.reads (record (state_of f a) { goals = []; shoens = []; last_variable = 0 }) a.goals refl (rw (← c.self.view_is) at (c.counted-counted.ensures f)))
+    rw (← c.self.view_is) (λ f fits. refused f fits.reads (record (local_state f a) { goals = []; shoens = []; last_variable = 0 }) a.goals refl (rw (← c.self.view_is) at (c.counted-counted.ensures f)))
 
 -- what is known of the goal and the variable
 answerable : (g : _) (c : goal.In-Coded g) → let a = c.args.self.now in
-    IsAnswerable a.rules a.held a.shoens a.names c.counted-counted.result c.args.number c.args.report c.args.goal.now c.in-Coded.given c.in-Coded.nodes c.in-Coded.variable
+    IsAnswerable a.rules a.held a.labels a.shoens a.names c.counted-counted.result c.args.number c.args.report c.args.goal.now c.in-Coded.given c.in-Coded.nodes c.in-Coded.variable
 answerable g c = rw (← c.self.view_is) (rw c.in-Coded.is at c.in_ok-answering.ensures.answers)
 
 pub bring-requires-clause-may : goal.bring-requires-clause-may
@@ -22,6 +30,7 @@ pub returns-clause-step : goal.returns-clause-step
 returns-clause-step g c = λ f fits.
     let a = c.args.self.now in
     let may = answerable g (goal.at.returns-clause-step g c).In-Coded in
-    let R : State → Transition = λ z. record { state = z; reply = sent } in
-    may.steps f fits.reads (record (state_of f a) { goals = []; shoens = []; last_variable = 0 }) a.goals refl (c.counted-counted.ensures f)
+    let R : State → Transition = λ z. record { state = relabelled (numbered a.labels) z; reply = sent } in
+    may.steps f fits.reads (record (local_state f a) { goals = []; shoens = []; last_variable = 0 }) a.goals refl (c.counted-counted.ensures f)
     ∙ ap R (c.in_ok-bring.ensures.brings f fits)
+    ∙ ap (λ (labels : List ℕ). let x : Transition = record { state = relabelled (numbered labels) (local_state f _); reply = sent } in x) (sym c.in_ok-bring.ensures.labels)
