@@ -36,14 +36,14 @@ same_shape xs at s =
 -- what is the same of each place is the same of all
 same_fields : {N X : Type 0} (f : Slot N → X) (xs : List (Cell N)) → ((at : ℕ) (s : Slot N) → f (slot_at xs at s) ≡ f s) → (at : ℕ) (ss : List (Slot N)) → map f (slots_with xs at ss) ≡ map f ss
 same_fields f xs same at [] = refl
-same_fields {N = N} {X = X} f xs same at (s ∷ ss) = by s.is_held
+same_fields {N = N} {X = X} f xs same at (s ∷ ss) = by s.is_held (same_fields f xs same (at + length (cell_of s.goal.task)) ss) (same_fields f xs same at ss)
   where
     next : ℕ
     next = at + length (cell_of s.goal.task)
 
-    by : (b : Bool) → map f (cond b (slot_at xs at s ∷ slots_with xs next ss) (s ∷ slots_with xs at ss)) ≡ f s ∷ map f ss
-    by true = ap (λ (x : X). x ∷ map f (slots_with xs next ss)) (same at s) ∙ ap (λ l. f s ∷ l) (same_fields f xs same next ss)
-    by false = ap (λ l. f s ∷ l) (same_fields f xs same at ss)
+    by : (b : Bool) → map f (slots_with xs next ss) ≡ map f ss → map f (slots_with xs at ss) ≡ map f ss → map f (cond b (slot_at xs at s ∷ slots_with xs next ss) (s ∷ slots_with xs at ss)) ≡ f s ∷ map f ss
+    by true later here = ap (λ (x : X). x ∷ map f (slots_with xs next ss)) (same at s) ∙ ap (λ l. f s ∷ l) later
+    by false later here = ap (λ l. f s ∷ l) here
 
 pub shapes_with : {N : Type 0} (xs : List (Cell N)) (ss : List (Slot N)) → map shape_in (slots_with xs 0 ss) ≡ map shape_in ss
 shapes_with xs ss = same_fields shape_in xs (same_shape xs) 0 ss
@@ -57,24 +57,24 @@ links_with xs ss = same_fields before_in xs (λ at s. refl) 0 ss
 -- the goals that are there have the cells
 pub goals_with : {N : Type 0} (xs : List (Cell N)) (at : ℕ) (ss : List (Slot N)) → goals_in (slots_with xs at ss) ≡ with_cells xs at (goals_in ss)
 goals_with xs at [] = refl
-goals_with {N = N} xs at (s ∷ ss) = by s.is_held refl
+goals_with {N = N} xs at (s ∷ ss) = by s.is_held refl (goals_with xs (at + length (cell_of s.goal.task)) ss) (goals_with xs at ss)
   where
     next : ℕ
     next = at + length (cell_of s.goal.task)
 
-    more : List (Slot N)
-    more = slots_with xs next ss
+    later : List (Slot N)
+    later = slots_with xs next ss
 
-    by : (b : Bool) → s.is_held ≡ b → goals_in (slots_with xs at (s ∷ ss)) ≡ with_cells xs at (goals_in (s ∷ ss))
-    by true e =
-        ap (λ c. goals_in (cond c (slot_at xs at s ∷ more) (s ∷ slots_with xs at ss))) e
-        ∙ ap (λ c. cond c (goal_at xs at s.goal ∷ goals_in more) (goals_in more)) e
-        ∙ ap (λ l. goal_at xs at s.goal ∷ l) (goals_with xs next ss)
+    by : (b : Bool) → s.is_held ≡ b → goals_in later ≡ with_cells xs next (goals_in ss) → goals_in (slots_with xs at ss) ≡ with_cells xs at (goals_in ss) → goals_in (slots_with xs at (s ∷ ss)) ≡ with_cells xs at (goals_in (s ∷ ss))
+    by true e there here =
+        ap (λ c. goals_in (cond c (slot_at xs at s ∷ later) (s ∷ slots_with xs at ss))) e
+        ∙ ap (λ c. cond c (goal_at xs at s.goal ∷ goals_in later) (goals_in later)) e
+        ∙ ap (λ l. goal_at xs at s.goal ∷ l) there
         ∙ sym (ap (λ c. with_cells xs at (cond c (s.goal ∷ goals_in ss) (goals_in ss))) e)
-    by false e =
-        ap (λ c. goals_in (cond c (slot_at xs at s ∷ more) (s ∷ slots_with xs at ss))) e
+    by false e there here =
+        ap (λ c. goals_in (cond c (slot_at xs at s ∷ later) (s ∷ slots_with xs at ss))) e
         ∙ ap (λ c. cond c (s.goal ∷ goals_in (slots_with xs at ss)) (goals_in (slots_with xs at ss))) e
-        ∙ goals_with xs at ss
+        ∙ here
         ∙ sym (ap (λ c. with_cells xs at (cond c (s.goal ∷ goals_in ss) (goals_in ss))) e)
 
 -- a table whose goals have other cells

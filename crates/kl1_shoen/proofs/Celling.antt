@@ -47,19 +47,19 @@ counted_with {N = N} xs hs ts cs is c =
 found_with : {N X : Type 0} (p : Shoen N → Bool) (q : Shoen N → X) (d : X) (xs : List (Cell N)) → ((at : ℕ) (h : Shoen N) → p (shoen_at xs at h) ≡ p h) → ((at : ℕ) (h : Shoen N) → q (shoen_at xs at h) ≡ q h) →
     (at : ℕ) (hs : List (Shoen N)) → unwrap_or (option_map q (find p (with_cells xs at hs))) d ≡ unwrap_or (option_map q (find p hs)) d
 found_with p q d xs ps qs at [] = refl
-found_with {N = N} {X = X} p q d xs ps qs at (h ∷ hs) = by (p h) refl
+found_with {N = N} {X = X} p q d xs ps qs at (h ∷ hs) = by (p h) refl (found_with p q d xs ps qs (at + length (cells_in h)) hs)
   where
     next : ℕ
     next = at + length (cells_in h)
 
-    by : (b : Bool) → p h ≡ b → unwrap_or (option_map q (find p (with_cells xs at (h ∷ hs)))) d ≡ unwrap_or (option_map q (find p (h ∷ hs))) d
-    by true e =
+    by : (b : Bool) → p h ≡ b → unwrap_or (option_map q (find p (with_cells xs next hs))) d ≡ unwrap_or (option_map q (find p hs)) d → unwrap_or (option_map q (find p (with_cells xs at (h ∷ hs)))) d ≡ unwrap_or (option_map q (find p (h ∷ hs))) d
+    by true e later =
         ap (λ c. unwrap_or (option_map q (if c then Some (shoen_at xs at h) else find p (with_cells xs next hs))) d) (ps at h ∙ e)
         ∙ qs at h
         ∙ sym (ap (λ c. unwrap_or (option_map q (if c then Some h else find p hs)) d) e)
-    by false e =
+    by false e later =
         ap (λ c. unwrap_or (option_map q (if c then Some (shoen_at xs at h) else find p (with_cells xs next hs))) d) (ps at h ∙ e)
-        ∙ found_with p q d xs ps qs next hs
+        ∙ later
         ∙ sym (ap (λ c. unwrap_or (option_map q (if c then Some h else find p hs)) d) e)
 
 pub path_with : {N : Type 0} (xs : List (Cell N)) (hs : List (Shoen N)) (n : ℕ) → path_in (with_cells xs 0 hs) n ≡ path_in hs n

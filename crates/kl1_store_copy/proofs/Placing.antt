@@ -74,26 +74,29 @@ mutual
 -- a list cell is one whichever numbers its variables have
 pub after_copied : (back : List ℕ) (k : ℕ) (t u : Term) → AreRising 0 back → IsAfter k (renumbered back t) (renumbered back u) → IsAfter k t u
 after_copied back zero t u h a = one_term back t u h a
-after_copied back (suc k) t u h a = split t a.1.1.0
+after_copied back (suc k) t u h a = split (λ y. after_copied back k y u h) t a.1.1.0
   where
-    rest : (y : Term) → renumbered back y ≡ a.1.0 → IsAfter k y u
-    rest y is = let P : Term → Type 0 = λ r. IsAfter k r (renumbered back u) in after_copied back k y u h (subst P (sym is) a.1.1.1)
+    Rests : Type 0
+    Rests = (y : Term) → IsAfter k (renumbered back y) (renumbered back u) → IsAfter k y u
 
-    split : (t : Term) → renumbered back t ≡ cell a.0 a.1.0 → IsAfter (suc k) t u
-    split (variable v) e = absurd (cc)
-    split (integer i) e = absurd (cc)
-    split (atom f) e = absurd (cc)
-    split (structure f none) e = absurd (no_row (ap arguments_in e))
+    rest : Rests → (y : Term) → renumbered back y ≡ a.1.0 → IsAfter k y u
+    rest on y is = let P : Term → Type 0 = λ r. IsAfter k r (renumbered back u) in on y (subst P (sym is) a.1.1.1)
+
+    split : Rests → (t : Term) → renumbered back t ≡ cell a.0 a.1.0 → IsAfter (suc k) t u
+    split on (variable v) e = absurd (cc)
+    split on (integer i) e = absurd (cc)
+    split on (atom f) e = absurd (cc)
+    split on (structure f none) e = absurd (no_row (ap arguments_in e))
       where
         no_row : none ≡ more a.0 (more a.1.0 none) → ⊥
         no_row e = cc
-    split (structure f (more x none)) e = absurd (no_second (ap (λ v. others_in (arguments_in v)) e))
+    split on (structure f (more x none)) e = absurd (no_second (ap (λ v. others_in (arguments_in v)) e))
       where
         no_second : none ≡ more a.1.0 none → ⊥
         no_second e = cc
-    split (structure f (more x (more y none))) e =
-        (x, (y, (ap (λ n. structure n (more x (more y none))) (ap name_in e), rest y (ap (λ v. first_in (others_in (arguments_in v))) e))))
-    split (structure f (more x (more y (more z zs)))) e = absurd (no_third (ap (λ v. others_in (others_in (arguments_in v))) e))
+    split on (structure f (more x (more y none))) e =
+        (x, (y, (ap (λ n. structure n (more x (more y none))) (ap name_in e), rest on y (ap (λ v. first_in (others_in (arguments_in v))) e))))
+    split on (structure f (more x (more y (more z zs)))) e = absurd (no_third (ap (λ v. others_in (others_in (arguments_in v))) e))
       where
         no_third : more (renumbered back z) (each_renumbered back zs) ≡ none → ⊥
         no_third e = cc

@@ -125,11 +125,11 @@ map_push g (t ∷ told) r = ap (λ (xs : List (Option ℕ)). option_map g t ∷ 
 
 any_push : (p : ℕ → Bool) (xs : List ℕ) (n : ℕ) → list_any p (xs ++ n ∷ []) ≡ (list_any p xs || p n)
 any_push p [] n = or-false (p n)
-any_push p (x ∷ xs) n = by (p x)
+any_push p (x ∷ xs) n = by (p x) (any_push p xs n)
   where
-    by : (b : Bool) → (b || list_any p (xs ++ n ∷ [])) ≡ ((b || list_any p xs) || p n)
-    by true = refl
-    by false = any_push p xs n
+    by : (b : Bool) → list_any p (xs ++ n ∷ []) ≡ (list_any p xs || p n) → (b || list_any p (xs ++ n ∷ [])) ≡ ((b || list_any p xs) || p n)
+    by true on = refl
+    by false on = on
 
 gone_step : (a : Option Asked) (last n v : ℕ) (t gone made : Bool) (r : Option ℕ) → IsTell v t r → t ≡ stands_at a n → made ≡ nat_le n last → gone_with gone made r ≡ (gone || is_gone a last n)
 gone_step a last n v t gone made None is same made_is =
@@ -162,8 +162,8 @@ module _ (h : Held CellName) (labels : List ℕ) (a : Option (Asking CellName)) 
   abbrev at : ℕ
   at = get_or ns i 0
 
-  abbrev of : ℕ
-  of = get_or vs i 0
+  abbrev cell : ℕ
+  cell = get_or vs i 0
 
   abbrev flag : Bool
   flag = get_or found i false
@@ -172,35 +172,35 @@ module _ (h : Held CellName) (labels : List ℕ) (a : Option (Asking CellName)) 
   asked f = option_map (asked_of f h) a
 
   pub told_on : (told : List (Option ℕ)) (new : ℕ) (gone made held : Bool) (r : Option ℕ) → AreRising 0 labels → IsFormed h → IfSome a (IsAskingIn h) → AreFound h a vs found → AreNumbersOf labels ns vs →
-      i < length ns → held ≡ is_variable_of h of → (held ≡ true → of < 2 ^ 32) → made ≡ nat_le at (numbered labels (h.variables - 1)) → IsToldBy a of flag held r → AreToldAmong h labels a (take i ns) told new gone →
+      i < length ns → held ≡ is_variable_of h cell → (held ≡ true → cell < 2 ^ 32) → made ≡ nat_le at (numbered labels (h.variables - 1)) → IsToldBy a cell flag held r → AreToldAmong h labels a (take i ns) told new gone →
       AreToldAmong h labels a (take (i + 1) ns) (told ++ r ∷ []) (new_with new r) (gone_with gone made r)
   told_on told new gone made held r rising formed inside are numbers lt held_is small made_is by so =
       let g : ℕ → ℕ = numbered labels in
-      let t : Bool = tells a of flag held in
+      let t : Bool = tells a cell flag held in
       let low : i < length vs = omega (arith, lt, numbers.long) in
-      let flag_is : (f : Reading) → flag ≡ occurs_at (asked f) of = λ f. ap (λ (xs : List Bool). get_or xs i false) (are f) ∙ get_or-map (occurs_at (asked f)) vs i 0 false low in
-      let stands : (f : Reading) → t ≡ stands_at (asked f) of = λ f. stands_is f h a of flag held formed inside (flag_is f) held_is in
-      let as : (f : Reading) → IsToldAs labels f h a at of = λ f. told_as labels f h a at of held (λ v w less. increasing 0 labels v w rising less) formed inside held_is small (numbers.each i lt) in
-      let shows : (f : Reading) → t ≡ stands_at (shown_of labels f h a) at = λ f. stands f ∙ sym (as f).same in
+      let flag_is : (f : Reading) → flag ≡ occurs_at (asked f) cell = λ f. ap (λ (xs : List Bool). get_or xs i false) (are f) ∙ get_or-map (occurs_at (asked f)) vs i 0 false low in
+      let stands : (f : Reading) → t ≡ stands_at (asked f) cell = λ f. stands_is f h a cell flag held formed inside (flag_is f) held_is in
+      let told_so : (f : Reading) → IsToldAs labels f h a at cell = λ f. told_as labels f h a at cell held (λ v w less. increasing 0 labels v w rising less) formed inside held_is small (numbers.each i lt) in
+      let shows : (f : Reading) → t ≡ stands_at (shown_of labels f h a) at = λ f. stands f ∙ sym (told_so f).same in
       record {
         told_is = λ f.
             map_push g told r
-            ∙ ap₂ (λ (xs : List (Option ℕ)) (x : Option ℕ). xs ++ x ∷ []) (so.told_is f) (tell_is labels (shown_of labels f h a) at of t r by (shows f) (λ e. (as f).known (sym (stands f) ∙ e)))
+            ∙ ap₂ (λ (xs : List (Option ℕ)) (x : Option ℕ). xs ++ x ∷ []) (so.told_is f) (tell_is labels (shown_of labels f h a) at cell t r by (shows f) (λ e. (told_so f).known (sym (stands f) ∙ e)))
             ∙ sym (map_more (tell (shown_of labels f h a)) ns i 0 lt);
-        free = free_push h told r so.free (told_free any h a of t r formed inside by (stands any));
+        free = free_push h told r so.free (told_free any h a cell t r formed inside by (stands any));
         others = others_more told r t by (stands any) so.others;
         new_is = ap (λ k. new_with k r) so.new_is ∙ sym (new_push told r);
         gone_is = λ f.
             let p : ℕ → Bool = is_gone (shown_of labels f h a) (g (h.variables - 1)) in
-            gone_step (shown_of labels f h a) (g (h.variables - 1)) at of t gone made r by (shows f) made_is
+            gone_step (shown_of labels f h a) (g (h.variables - 1)) at cell t gone made r by (shows f) made_is
             ∙ (ap (λ b. b || p at) (so.gone_is f) ∙ (sym (any_push p (take i ns) at) ∙ ap (list_any p) (sym (take_more ns i 0 lt))));
       }
     where
-      others_by : (b : Option (Asking CellName)) (told : List (Option ℕ)) (r : Option ℕ) (t : Bool) → IsTell of t r → t ≡ stands_at (option_map (asked_of any h) b) of → IfSome b (λ x. AreOthers x.new told) → IfSome b (λ x. AreOthers x.new (told ++ r ∷ []))
+      others_by : (b : Option (Asking CellName)) (told : List (Option ℕ)) (r : Option ℕ) (t : Bool) → IsTell cell t r → t ≡ stands_at (option_map (asked_of any h) b) cell → IfSome b (λ x. AreOthers x.new told) → IfSome b (λ x. AreOthers x.new (told ++ r ∷ []))
       others_by None told r t is same others = tt
-      others_by (Some x) told r t is same others = others_push x.new told r others (told_other any h x of t r is same)
+      others_by (Some x) told r t is same others = others_push x.new told r others (told_other any h x cell t r is same)
 
-      others_more : (told : List (Option ℕ)) (r : Option ℕ) (t : Bool) → IsTell of t r → t ≡ stands_at (asked any) of → IfSome a (λ x. AreOthers x.new told) → IfSome a (λ x. AreOthers x.new (told ++ r ∷ []))
+      others_more : (told : List (Option ℕ)) (r : Option ℕ) (t : Bool) → IsTell cell t r → t ≡ stands_at (asked any) cell → IfSome a (λ x. AreOthers x.new told) → IfSome a (λ x. AreOthers x.new (told ++ r ∷ []))
       others_more told r t is same others = others_by a told r t is same others
 
 -- nothing is told by no numbers
