@@ -1,5 +1,5 @@
 -- The variables of a term that is numbered anew.
-use Rattle.std.proofs.Common.{◌≡◌, ℕ, zero, suc, ◌+◌, ◌≤◌, ◌==◌, max, Bool, true, false, List, [], ◌∷◌, ◌++◌, map, length, None, if◌then◌else◌, refl, sym, ap, ap₂, ◌∙◌, ◌⊎◌, inl, inr, arith}
+use Rattle.std.proofs.Common.{◌≡◌, ℕ, suc, ◌≤◌, ◌==◌, max, Bool, true, false, List, [], ◌∷◌, ◌++◌, map, length, None, if◌then◌else◌, refl, sym, ap, ap₂, ◌∙◌, ◌⊎◌, inl, inr, arith}
 use Rattle.std.specs.Prelude.{nat_le, ◌&&◌}
 use Rattle.std.proofs.lemmas.Bool.{cases_eq, le-leb, true≢false, false≢true}
 use Rattle.std.proofs.lemmas.List.{map-append, length-append}
@@ -8,7 +8,7 @@ use Rattle.kl1_model.specs.Module.{is_among}
 use Rattle.kl1_model.specs.Meaning.{variables_of, variables_in, numbered_after, is_numbered, highest, highest_in}
 use Rattle.kl1_model.specs.Telling.{new_among, place_among}
 use Rattle.kl1_term.specs.Telling.{anew, renumbered}
-use Rattle.kl1_term.proofs.Renumbering.{place_same, place_other, among_same, among_other, place_kept, place_new, among_new, goes_on}
+use Rattle.kl1_term.proofs.Renumbering.{place_same, place_other, among_other, place_kept, place_new, among_new, goes_on}
 
 -- those of a term with other numbers are these numbers
 mutual
@@ -38,13 +38,13 @@ place_from (m ∷ ms) n = by (m == n)
 
 place_to : (seen : List ℕ) (n : ℕ) → is_among n seen ≡ true → place_among seen n ≤ length seen
 place_to [] n e = absurd (true≢false (sym e))
-place_to (m ∷ ms) n e = by (cases_eq m n)
+place_to (m ∷ ms) n e = by (cases_eq m n) (λ f. place_to ms n f)
   where
-    by : (m ≡ n) ⊎ (m ≡ n → ⊥) → place_among (m ∷ ms) n ≤ suc (length ms)
-    by (inl s) = let p = place_same m n ms s in omega (arith, p)
-    by (inr d) =
+    by : (m ≡ n) ⊎ (m ≡ n → ⊥) → (is_among n ms ≡ true → place_among ms n ≤ length ms) → place_among (m ∷ ms) n ≤ suc (length ms)
+    by (inl s) within = let p = place_same m n ms s in omega (arith, p)
+    by (inr d) within =
         let p = place_other m n ms d in
-        let q = place_to ms n (sym (among_other m n ms d) ∙ e) in
+        let q = within (sym (among_other m n ms d) ∙ e) in
         omega (arith, p, q)
 
 -- one more of numbers that are in order
@@ -72,24 +72,26 @@ one_longer seen n = let e = length-append seen (n ∷ []) in omega (arith, e)
 -- places at the end are in order
 order_on : (seen ns : List ℕ) → numbered_after (length seen) (map (place_among (new_among None seen ns)) ns) ≡ true
 order_on seen [] = refl
-order_on seen (n ∷ ns) = by (is_among n seen) refl
+order_on seen (n ∷ ns) = by (is_among n seen) refl (order_on seen ns) (order_on (seen ++ n ∷ []) ns)
   where
     by : (b : Bool) → is_among n seen ≡ b →
+        numbered_after (length seen) (map (place_among (new_among None seen ns)) ns) ≡ true →
+        numbered_after (length (seen ++ n ∷ [])) (map (place_among (new_among None (seen ++ n ∷ []) ns)) ns) ≡ true →
         numbered_after (length seen) (map (place_among (if b then new_among None seen ns else new_among None (seen ++ n ∷ []) ns)) (n ∷ ns)) ≡ true
-    by true e =
+    by true e old new =
         let all = new_among None seen ns in
         let p = old_place seen ns n e in
         let low = place_from all n in
         let high = place_to seen n e in
         let same : max (length seen) (place_among all n) ≡ length seen = omega (arith, p, high) in
-        in_order (length seen) (place_among all n) (map (place_among all) ns) low (omega (arith, p, high)) (ap (λ k. numbered_after k (map (place_among all) ns)) same ∙ order_on seen ns)
-    by false e =
+        in_order (length seen) (place_among all n) (map (place_among all) ns) low (omega (arith, p, high)) (ap (λ k. numbered_after k (map (place_among all) ns)) same ∙ old)
+    by false e old new =
         let now = seen ++ n ∷ [] in
         let all = new_among None now ns in
         let p = new_place seen ns n e in
         let longer = one_longer seen n in
         let same : max (length seen) (place_among all n) ≡ length now = omega (arith, p, longer) in
-        in_order (length seen) (place_among all n) (map (place_among all) ns) (omega (arith, p)) (omega (arith, p)) (ap (λ k. numbered_after k (map (place_among all) ns)) same ∙ order_on now ns)
+        in_order (length seen) (place_among all n) (map (place_among all) ns) (omega (arith, p)) (omega (arith, p)) (ap (λ k. numbered_after k (map (place_among all) ns)) same ∙ new)
 
 -- the greatest of numbers
 abbrev pub top : List ℕ → ℕ
@@ -114,23 +116,23 @@ mutual
 -- the greatest place at the end is how many were seen
 top_on : (seen ns : List ℕ) → max (length seen) (top (map (place_among (new_among None seen ns)) ns)) ≡ length (new_among None seen ns)
 top_on seen [] = omega arith
-top_on seen (n ∷ ns) = by (is_among n seen) refl
+top_on seen (n ∷ ns) = by (is_among n seen) refl (top_on seen ns) (top_on (seen ++ n ∷ []) ns)
   where
     by : (b : Bool) → is_among n seen ≡ b →
+        max (length seen) (top (map (place_among (new_among None seen ns)) ns)) ≡ length (new_among None seen ns) →
+        max (length (seen ++ n ∷ [])) (top (map (place_among (new_among None (seen ++ n ∷ []) ns)) ns)) ≡ length (new_among None (seen ++ n ∷ []) ns) →
         max (length seen) (top (map (place_among (if b then new_among None seen ns else new_among None (seen ++ n ∷ []) ns)) (n ∷ ns))) ≡ length (if b then new_among None seen ns else new_among None (seen ++ n ∷ []) ns)
-    by true e =
+    by true e old new =
         let all = new_among None seen ns in
         let p = old_place seen ns n e in
         let high = place_to seen n e in
-        let h = top_on seen ns in
-        omega (arith, p, high, h)
-    by false e =
+        omega (arith, p, high, old)
+    by false e old new =
         let now = seen ++ n ∷ [] in
         let all = new_among None now ns in
         let p = new_place seen ns n e in
         let longer = one_longer seen n in
-        let h = top_on now ns in
-        omega (arith, p, longer, h)
+        omega (arith, p, longer, new)
 
 -- so a term that is numbered anew is numbered from 1 by first occurrence, up to how many variables it has
 pub numbered_anew : (seen : List ℕ) (t : Term) → seen ≡ new_among None [] (variables_of t) → is_numbered (anew seen t) ≡ true

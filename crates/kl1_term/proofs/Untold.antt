@@ -50,23 +50,23 @@ not_among (suc k) n less =
 
 among_firsts : (k n : ℕ) → IsUpTo k n → is_among (untold_number n) (firsts k) ≡ true
 among_firsts zero n upto = absurd (omega (arith, upto))
-among_firsts (suc k) n upto = ap (is_among (untold_number n)) (firsts_more k) ∙ by (cases_eq n (suc k))
+among_firsts (suc k) n upto = ap (is_among (untold_number n)) (firsts_more k) ∙ by (cases_eq n (suc k)) (λ here. among_firsts k n here)
   where
-    by : (n ≡ suc k) ⊎ (n ≡ suc k → ⊥) → is_among (untold_number n) (firsts k ++ untold_number (suc k) ∷ []) ≡ true
-    by (inl same) = ap (λ m. is_among (untold_number m) (firsts k ++ untold_number (suc k) ∷ [])) same ∙ among_new (firsts k) (untold_number (suc k))
-    by (inr other) = among_kept (firsts k) (untold_number (suc k) ∷ []) (untold_number n) (among_firsts k n (upto.0, omega (arith, upto, other)))
+    by : (n ≡ suc k) ⊎ (n ≡ suc k → ⊥) → (IsUpTo k n → is_among (untold_number n) (firsts k) ≡ true) → is_among (untold_number n) (firsts k ++ untold_number (suc k) ∷ []) ≡ true
+    by (inl same) before = ap (λ m. is_among (untold_number m) (firsts k ++ untold_number (suc k) ∷ [])) same ∙ among_new (firsts k) (untold_number (suc k))
+    by (inr other) before = among_kept (firsts k) (untold_number (suc k) ∷ []) (untold_number n) (before (upto.0, omega (arith, upto, other)))
 
 place_firsts : (k n : ℕ) → IsUpTo k n → place_among (firsts k) (untold_number n) ≡ n
 place_firsts zero n upto = absurd (omega (arith, upto))
-place_firsts (suc k) n upto = ap (λ xs. place_among xs (untold_number n)) (firsts_more k) ∙ by (cases_eq n (suc k))
+place_firsts (suc k) n upto = ap (λ xs. place_among xs (untold_number n)) (firsts_more k) ∙ by (cases_eq n (suc k)) (λ here. place_firsts k n here)
   where
-    by : (n ≡ suc k) ⊎ (n ≡ suc k → ⊥) → place_among (firsts k ++ untold_number (suc k) ∷ []) (untold_number n) ≡ n
-    by (inl same) =
+    by : (n ≡ suc k) ⊎ (n ≡ suc k → ⊥) → (IsUpTo k n → place_among (firsts k) (untold_number n) ≡ n) → place_among (firsts k ++ untold_number (suc k) ∷ []) (untold_number n) ≡ n
+    by (inl same) before =
         ap (λ m. place_among (firsts k ++ untold_number (suc k) ∷ []) (untold_number m)) same
         ∙ place_new (firsts k) (untold_number (suc k)) (not_among k (suc k) (omega arith)) ∙ ap suc (length_firsts k) ∙ sym same
-    by (inr other) =
+    by (inr other) before =
         let here : IsUpTo k n = (upto.0, omega (arith, upto, other)) in
-        place_kept (firsts k) (untold_number (suc k) ∷ []) (untold_number n) (among_firsts k n here) ∙ place_firsts k n here
+        place_kept (firsts k) (untold_number (suc k) ∷ []) (untold_number n) (among_firsts k n here) ∙ before here
 
 -- ---- which variables are new
 
@@ -112,13 +112,13 @@ all_upto m k (v ∷ vs) h few =
     let range = and_parts (nat_le 1 v) (nat_le v (suc k)) parts.0 in
     ((leb-true 1 v range.0, omega (arith, few)), all_upto m (max k v) vs parts.1 (omega (arith, few)))
 
-all_left : {P : ℕ → Type 0} (xs ys : List ℕ) → AllByRecursion P (xs ++ ys) → AllByRecursion P xs
-all_left [] ys all = tt
-all_left (x ∷ xs) ys all = (all.0, all_left xs ys all.1)
+all_left : (P : ℕ → Type 0) (xs ys : List ℕ) → AllByRecursion P (xs ++ ys) → AllByRecursion P xs
+all_left P [] ys all = tt
+all_left P (x ∷ xs) ys all = (all.0, all_left P xs ys all.1)
 
-all_right : {P : ℕ → Type 0} (xs ys : List ℕ) → AllByRecursion P (xs ++ ys) → AllByRecursion P ys
-all_right [] ys all = all
-all_right (x ∷ xs) ys all = all_right xs ys all.1
+all_right : (P : ℕ → Type 0) (xs ys : List ℕ) → AllByRecursion P (xs ++ ys) → AllByRecursion P ys
+all_right P [] ys all = all
+all_right P (x ∷ xs) ys all = all_right P xs ys all.1
 
 mutual
   given_one : (f g : ℕ → Term) (m : ℕ) → ((v : ℕ) → IsUpTo m v → f (untold_number v) ≡ g v) → (t : Term) → AllByRecursion (IsUpTo m) (variables_of t) → substituted f (untold t) ≡ substituted g t
@@ -129,7 +129,7 @@ mutual
 
   given_each : (f g : ℕ → Term) (m : ℕ) → ((v : ℕ) → IsUpTo m v → f (untold_number v) ≡ g v) → (ts : Terms) → AllByRecursion (IsUpTo m) (variables_in ts) → each_substituted f (each_substituted (λ n. variable (untold_number n)) ts) ≡ each_substituted g ts
   given_each f g m is none all = refl
-  given_each f g m is (more t ts) all = ap₂ more (given_one f g m is t (all_left (variables_of t) (variables_in ts) all)) (given_each f g m is ts (all_right (variables_of t) (variables_in ts) all))
+  given_each f g m is (more t ts) all = ap₂ more (given_one f g m is t (all_left (IsUpTo m) (variables_of t) (variables_in ts) all)) (given_each f g m is ts (all_right (IsUpTo m) (variables_of t) (variables_in ts) all))
 
 variable_by : (b : Bool) (v n : ℕ) → b ≡ false → (if◌then◌else◌ {A = Term} b (variable v) (variable n)) ≡ variable n
 variable_by true v n e = cc

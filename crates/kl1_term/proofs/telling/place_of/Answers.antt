@@ -1,6 +1,4 @@
-use Rattle.std.proofs.Common.{◌≡◌, ◌+◌, suc, Some, length, subst, sym, arith}
-use Rattle.std.specs.HashMap.{Updates}
-use Rattle.std.specs.Prelude.{◌==◌}
+use Rattle.std.proofs.Common.{◌≡◌, ◌+◌, suc, length, arith}
 use Rattle.kl1_term.proofs.Renumbering.{placed_again, placed_first}
 use Rattle.kl1_term.proofs.telling.place_of.Goals as goal
 

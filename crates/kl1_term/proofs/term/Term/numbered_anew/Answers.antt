@@ -1,6 +1,5 @@
 use Rattle.std.proofs.Common.{◌≡◌, [], None, map, ap, ◌∙◌}
 use Rattle.kl1_model.specs.Telling.{new_among, place_among}
-use Rattle.kl1_model.specs.code.TermCode.{nodes_of}
 use Rattle.kl1_term.specs.Nodes.{code_of}
 use Rattle.kl1_term.specs.Telling.{anew}
 use Rattle.kl1_model.specs.Meaning.{is_numbered, highest}
