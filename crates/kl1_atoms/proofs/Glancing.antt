@@ -113,8 +113,8 @@ found_ends a b c t i e number more found learns starts is none =
 
 -- a text that was compared is known from then on
 pub learned_ends : (before mid after : Me (Unit {0}) View) (t : List ℕ) (n d i e : ℕ) (drafted : Bool) (h : Heard) → mid ≡ before → Steps mid after (λ f g. Learns f g i) → Walks (own before.0) t d drafted
-    → In (own before.0).heard h → h.bucket ≡ i → h.entry ≡ e → h.text ≡ t → (own before.0).entries ≡ n → e < n → Steps before after (λ f g. Compares f g t d drafted (FoundIn e))
-learned_ends before mid after t n d i e drafted h same learns walks is at entry text accounts within =
+    → In (own before.0).heard h → h.bucket ≡ i → h.entry ≡ e → h.text ≡ t → (own before.0).entries ≡ n → e < n → d ≤ n → Steps before after (λ f g. Compares f g t d drafted (FoundIn e))
+learned_ends before mid after t n d i e drafted h same learns walks is at entry text accounts within few =
     let steps : Steps before after (λ f g. Learns f g i) = subst (λ (m : Me (Unit {0}) View). Steps m after (λ f g. Learns f g i)) same learns in
     let change : own after.0 ≡ learned (own before.0) h = steps.tells.change h is at in
     let knows : (own after.0).knows ≡ added (own before.0).knows t record { number = FIRST_NUMBER + e } =
@@ -136,5 +136,6 @@ learned_ends before mid after t n d i e drafted h same learns walks is at entry 
         },
         used,
         subst (λ m. e < m) (sym accounts) within,
+        subst (λ m. d ≤ m) (sym accounts) few,
       );
     }

@@ -14,7 +14,7 @@ use Rattle.kl1_atoms.specs.declared.face.Heard.{Heard}
 use Rattle.kl1_atoms.specs.declared.face.View.{View}
 use Rattle.kl1_atoms.specs.declared.round.Round.{Round}
 use Rattle.kl1_atoms.specs.declared.round.Round.TheVariants.{Found, Made, Other}
-use Rattle.kl1_atoms.specs.Names.{number_in, text_in, text_by, HasRoom, Adds, AreNames}
+use Rattle.kl1_atoms.specs.Names.{number_in, text_in, text_by, Adds, AreNames}
 use Rattle.kl1_atoms.specs.Knowing.{adds_one, option_cases, publishes_one}
 use Rattle.kl1_atoms.specs.Way.{further}
 use Rattle.kl1_atoms.specs.Rule.{own_entry, Listed}
@@ -114,8 +114,8 @@ is_ready f t n d bucket walks accounts within way = record {
 }
 
 -- what a face knows once its text is published
-pub made : (f g h : Face) (t : List ℕ) (d : ℕ) (drafted : Bool) → Walks f t d drafted → number_in f.knows t ≡ None → Drafts f g (words_to_end t) → h ≡ published_by g → Listed h.entries h.knows → Gives f h t d Made
-made f g h t d drafted walks new drafts is names =
+pub made : (f g h : Face) (t : List ℕ) (d : ℕ) (drafted : Bool) → Walks f t d drafted → number_in f.knows t ≡ None → Drafts f g (words_to_end t) → h ≡ published_by g → Listed h.entries h.knows → d ≤ f.entries → Gives f h t d Made
+made f g h t d drafted walks new drafts is names few =
     let own_same : own_entry g ≡ own_entry f = (let a = drafts.same.first in let u = drafts.used in omega arith) in
     let text : bytes_of g.draft ≡ t = ap bytes_of drafts.draft ∙ ended_hold t walks.name in
     let pair : own_pair g ≡ record { text = t; number = record { number = FIRST_NUMBER + own_entry f } } = ap (λ (x : ℕ × List ℕ). own_known x) (let e : (own_entry g, bytes_of g.draft) ≡ (own_entry f, t) = cc in e) in
@@ -133,6 +133,7 @@ made f g h t d drafted walks new drafts is names =
       },
       used,
       entry_left f t d drafted walks new,
+      few,
     ) where
       own_known : ℕ × List ℕ → Known
       own_known x = record { text = x.1; number = record { number = FIRST_NUMBER + x.0 } }
@@ -198,6 +199,7 @@ compared_gives f m g t d drafted (Found e) kin told = (
   },
   told.1 ∙ kin.used,
   subst (λ m. e < m) kin.same.entries told.2,
+  subst (λ m. d ≤ m) kin.same.entries told.3,
 )
 compared_gives f m g t d drafted Made kin told = absurd told
 compared_gives f m g t d drafted (Other still) kin told = record {
@@ -231,19 +233,19 @@ drafted_walks f g h n i found t d drafted looks none walks accounts way drafts =
     let at_f : Drafts f h (words_to_end t) = subst (λ (x : Face). Drafts x h (words_to_end t)) free.same drafts in
     (walks_drafted f h t d drafted walks free.room at_f, at_f.same.entries ∙ accounts)
 
--- and with its text published
-pub published_walks : (f g h k : Face) (n i found at : ℕ) (t : List ℕ) (d : ℕ) (drafted : Bool) → Looks f g i found → found ≤ 0 → Walks f t d drafted → f.entries ≡ n → i ≡ further n t d → Drafts g h (words_to_end t)
-    → Publishes h k i at → at ≡ 0 → Gives f k t d Made
-published_walks f g h k n i found at t d drafted looks none walks accounts way drafts publishes free_yet =
-    let free = looked_free f g n i found t d drafted looks none walks accounts way in
-    let at_f : Drafts f h (words_to_end t) = subst (λ (x : Face). Drafts x h (words_to_end t)) free.same drafts in
-    let now = published_now h k i at publishes free_yet in
-    made f h k t d drafted walks free.new at_f now.0 now.1
-
 -- as few buckets were passed as there are entries
 pub looked_few : (f g : Face) (n i found : ℕ) (t : List ℕ) (d : ℕ) (drafted : Bool) → Looks f g i found → Walks f t d drafted → f.entries ≡ n → d ≤ 2 * n → d ≤ n
 looked_few f g n i found t d drafted looks walks accounts within =
     subst (λ m. d ≤ m) accounts (looks.few t d (subst (λ m. d ≤ 2 * m) (sym accounts) within) walks.passed)
+
+-- and with its text published
+pub published_walks : (f g h k : Face) (n i found at : ℕ) (t : List ℕ) (d : ℕ) (drafted : Bool) → Looks f g i found → found ≤ 0 → Walks f t d drafted → f.entries ≡ n → i ≡ further n t d → Drafts g h (words_to_end t)
+    → Publishes h k i at → at ≡ 0 → d ≤ 2 * n → Gives f k t d Made
+published_walks f g h k n i found at t d drafted looks none walks accounts way drafts publishes free_yet within =
+    let free = looked_free f g n i found t d drafted looks none walks accounts way in
+    let at_f : Drafts f h (words_to_end t) = subst (λ (x : Face). Drafts x h (words_to_end t)) free.same drafts in
+    let now = published_now h k i at publishes free_yet in
+    made f h k t d drafted walks free.new at_f now.0 now.1 (subst (λ m. d ≤ m) (sym accounts) (looked_few f g n i found t d drafted looks walks accounts within))
 
 -- a step further on the way
 pub further_on : (a b c : Me (Unit {0}) View) (t : List ℕ) (d : ℕ) (drafted still : Bool) → Steps a b (λ f g. OnTheWay f g t d drafted) → Steps b c (λ f g. GoesOn f g t (d + 1) still) → Steps a c (λ f g. OnTheWay f g t (d + 1) still)

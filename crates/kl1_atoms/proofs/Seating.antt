@@ -3,7 +3,6 @@ use Rattle.std.proofs.Common.{◌≡◌, ◌≢◌, ℕ, zero, suc, ◌+◌, ◌
 use mathlib.Core.Option.{some, some-injective, some-ne-none}
 use lib.ListN.{get_elem?}
 use Rattle.std.proofs.lemmas.Bool.{cases_order}
-use Rattle.kl1_model.specs.declared.limits.TheConstants.{MOST_ACCOUNTS, MOST_NAMES}
 use Rattle.atomic_table.specs.Table.{opening, Splits}
 use Rattle.atomic_table.proofs.Lists.{at_set}
 use Rattle.kl1_atoms.specs.Rule.{words_each, Overlap}
@@ -155,17 +154,6 @@ range_step n r first c a h le =
   where
     both : (first r p n : ℕ) → first + (r + p) ≤ n → (first + r ≤ n) × (first + r + p ≤ n)
     both first r p n le = (omega (arith, le), omega (arith, le))
-
--- a table has two entries or more, and no more than the most accounts can have
-pub some_entries : (a r : ℕ) → 0 < a → 1 < r → 1 < a * r
-some_entries zero r some more = absurd (omega arith)
-some_entries (suc a) r some more = omega arith
-
-pub few_entries : (a r : ℕ) → a ≤ MOST_ACCOUNTS → r ≤ MOST_NAMES → a * r ≤ MOST_ACCOUNTS * MOST_NAMES
-few_entries a r le few =
-    let e : MOST_ACCOUNTS ≡ a + (MOST_ACCOUNTS - a) = omega (arith, le) in
-    let k : a * r ≤ MOST_ACCOUNTS * r = subst (λ m. a * r ≤ m * r) (sym e) (omega arith) in
-    omega (arith, k, few)
 
 -- words of zeros
 pub zeros-length : (n : ℕ) → length {A = ℕ} (replicate n 0) ≡ n

@@ -1,5 +1,5 @@
 -- What a look-up does to a seat's own face, bucket by bucket.
-use Rattle.std.specs.Prelude.{◌≡◌, ℕ, ◌+◌, ◌*◌, ◌<◌, ◌≤◌, Bool, true, if◌then◌else◌, List, [], length, IsTrue, None}
+use Rattle.std.specs.Prelude.{◌≡◌, ℕ, ◌+◌, ◌<◌, ◌≤◌, Bool, true, if◌then◌else◌, List, [], length, IsTrue, None}
 use Rattle.kl1_model.specs.declared.limits.TheConstants.{FIRST_NUMBER}
 use Rattle.kl1_model.specs.Text.{is_text}
 use Rattle.kl1_text.specs.BuiltIns.{built_in_of}
@@ -71,14 +71,14 @@ pub record OnTheWay (f g : Face) (t : List ℕ) (d : ℕ) (drafted : Bool) : Typ
   pub knows : g.knows ≡ f.knows
   pub walks : Walks g t d drafted
 
--- what a comparison gives
+-- what a comparison gives; no more buckets were passed than there are entries
 abbrev pub Compares : Face → Face → List ℕ → ℕ → Bool → Round → Type 0
-Compares f g t d drafted (Found e) = Ends f g t (FIRST_NUMBER + e) × (g.used ≡ f.used) × (e < f.entries)
+Compares f g t d drafted (Found e) = Ends f g t (FIRST_NUMBER + e) × (g.used ≡ f.used) × (e < f.entries) × (d ≤ f.entries)
 Compares f g t d drafted Made = ⊥
 Compares f g t d drafted (Other still) = GoesOn f g t (d + 1) drafted × (still ≡ drafted)
 
 -- what a bucket gives
 abbrev pub Gives : Face → Face → List ℕ → ℕ → Round → Type 0
-Gives f g t d (Found e) = Ends f g t (FIRST_NUMBER + e) × (g.used ≡ f.used) × (e < f.entries)
-Gives f g t d Made = Ends f g t (FIRST_NUMBER + own_entry f) × (g.used ≡ f.used + 1) × (f.used < f.room)
+Gives f g t d (Found e) = Ends f g t (FIRST_NUMBER + e) × (g.used ≡ f.used) × (e < f.entries) × (d ≤ f.entries)
+Gives f g t d Made = Ends f g t (FIRST_NUMBER + own_entry f) × (g.used ≡ f.used + 1) × (f.used < f.room) × (d ≤ f.entries)
 Gives f g t d (Other drafted) = GoesOn f g t (d + 1) drafted

@@ -177,7 +177,7 @@ impl AtomTable {
         ensures of { seat.new.table_id ≡ seat.old.table_id }
         ensures ends { Steps seat.old.me seat.new.me (λ f g. Ends f g text.now result.number.number × (g.used ≡ f.used + result.more)) }
         ensures more { used + result.more ≤ (own seat.old.me.0).room }
-        ensures turns { turns.new + from ≤ turns.old + self.now.entries + 2 }
+        ensures turns { turns.new + from ≤ turns.old + self.now.entries + 1 }
         ensures grow { turns.old ≤ turns.new }
     {
         let start = self.first_bucket(text);

@@ -22,4 +22,4 @@ pub returns-then-has_text-clause-gives : goal.returns-then-has_text-clause-gives
 returns-then-has_text-clause-gives c =
     let seen = c.requires.seen in
     learned_ends c.args.seat.now.me c.has_text.new.seat.me c.learn.new.seat.me c.args.text.now c.args.self.now.entries c.args.passed c.args.bucket c.args.entry c.args.drafted seen.0 c.has_text.ensures.same c.learn.ensures.tells
-    c.requires.walks seen.1 seen.2 seen.3 ((c.has_text.ensures.is seen.0 seen.1 seen.3 seen.4).0 c.if-has_text.true) c.requires.entries c.requires.entry
+    c.requires.walks seen.1 seen.2 seen.3 ((c.has_text.ensures.is seen.0 seen.1 seen.3 seen.4).0 c.if-has_text.true) c.requires.entries c.requires.entry c.requires.small

@@ -1,4 +1,4 @@
-use Rattle.std.proofs.Common.{true}
+use Rattle.std.proofs.Common.{true, arith}
 use Rattle.kl1_text.specs.Words.{words_to_end}
 use Rattle.kl1_atoms.specs.Rounds.{Compares, Gives, Drafts}
 use Rattle.kl1_atoms.specs.declared.round.Round.TheVariants.{Made}
@@ -24,7 +24,7 @@ returns-then-value-eq0-clause-gives c =
     c.look-value.ensures.tells c.have_draft.ensures.tells c.publish-value.ensures.tells
     (published_walks (own c.args.seat.now.me.0) (own c.look-value.new.seat.me.0) (own c.have_draft.new.seat.me.0) (own c.publish-value.new.seat.me.0) c.args.self.now.entries c.args.bucket c.look-value.result
     c.publish-value.result c.args.text.now c.args.passed c.args.drafted c.look-value.ensures.tells.tells c.if-value-gt0.false c.requires.walks c.requires.entries c.requires.way
-    c.have_draft.ensures.tells.tells c.publish-value.ensures.tells.tells c.if-value-eq0.true)
+    c.have_draft.ensures.tells.tells c.publish-value.ensures.tells.tells c.if-value-eq0.true (let f = c.requires.few in omega arith))
 
 pub compare-requires-2-clause-walks : goal.compare-requires-2-clause-walks
 compare-requires-2-clause-walks c =

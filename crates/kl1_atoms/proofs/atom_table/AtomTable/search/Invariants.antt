@@ -1,4 +1,4 @@
-use Rattle.std.proofs.Common.{◌≡◌, ◌≤◌, ◌+◌, ◌*◌}
+use Rattle.std.proofs.Common.{◌≡◌, ◌≤◌, ◌+◌}
 use Rattle.kl1_atoms.specs.Plays.{Steps}
 use Rattle.kl1_atoms.specs.Rounds.{OnTheWay}
 use Rattle.kl1_atoms.proofs.atom_table.AtomTable.search.Given as goal

@@ -1,4 +1,4 @@
-use Rattle.std.proofs.Common.{◌≡◌, ◌≤◌, ◌+◌, ◌*◌}
+use Rattle.std.proofs.Common.{◌≡◌, ◌≤◌, ◌+◌}
 use Rattle.kl1_atoms.specs.Plays.{Steps, Passed}
 use Rattle.kl1_atoms.specs.Seeking.{Saw}
 use Rattle.kl1_atoms.proofs.atom_table.AtomTable.seek.Given as goal

@@ -24,6 +24,10 @@ not_known c = sym (rw (c.in_default-number_in.is, c.as_slice.ensures.value) at c
 room_left : (c : goal.After-learn) → length c.args.seat.now.known.items < MOST_NAMES
 room_left c = some_room c.args.seat.now.known.items c.args.text (not_built_in c) (not_known c) c.requires.room
 
+-- where the seat of an account is
+abbrev in_table : ℕ → (ℕ × ℕ) × ℕ
+in_table account = ((0, MOST_NAMES), account)
+
 -- the pair that is learned
 pair : (c : goal.After-learn) → Known
 pair c = record { text = c.args.text; number = record { number = FIRST_NUMBER + c.place_of-place.result } }
@@ -44,7 +48,7 @@ pub returns-clause-others : goal.returns-clause-others
 returns-clause-others c = λ other its differ.
     other_seat_after c.args.self.now.places.items c.place_of-place.new.self.places.items c.args.seat.now.account c.args.seat.now.used c.place_of-place.new.seat.used c.place_of-place.result
     c.args.text c.args.seat.now.known.items c.requires.of (room_left c) c.place_of-place.ensures.name (not_built_in c) c.place_of-place.ensures.held other.account other.used other.known.items
-    (λ same. differ (ap (λ account. (0, account)) same)) its
+    (λ same. differ (ap in_table same)) its
 
 pub returns-clause-adds : goal.returns-clause-adds
 unfolding pair
