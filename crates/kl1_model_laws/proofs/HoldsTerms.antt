@@ -1,31 +1,11 @@
 -- What holds of each variable of a term.
-use Rattle.std.proofs.Common.{◌≡◌, ◌≤◌, ◌<◌, ℕ, zero, suc, ◌-◌, ◌==◌, ◌&&◌, ◌||◌, Bool, true, false, if◌then◌else◌, List, [], ◌∷◌, ◌++◌, max, refl, sym, ap, ap₂, subst, arith}
-use Rattle.std.specs.Prelude.{nat_le, find, slice_get, codes, bytes_eq, Option, Some, None, option_map, option_and_then, ⊤}
+use Rattle.std.proofs.Common.{◌≡◌, ◌≤◌, ◌<◌, ℕ, suc, ◌==◌, ◌&&◌, true, if◌then◌else◌, List, [], ◌∷◌, ◌++◌, max, refl, ap, ap₂, subst, arith}
+use Rattle.std.specs.Prelude.{nat_le}
 use Rattle.std.specs.List.{AllByRecursion}
-use Rattle.std.proofs.lemmas.Bool.{and_parts, leb-true, cond_both, eqb-true, ne_eqb, false≢true}
+use Rattle.std.proofs.lemmas.Bool.{and_parts, leb-true, cond_both, ne_eqb}
 use Rattle.std.proofs.Math.Nat.{le-max_left, le-max_right}
-use Rattle.kl1_model.specs.declared.number.Number.{Number}
-use Rattle.kl1_model.specs.declared.number.Number.TheVariants.{Value, Overflow, ZeroDivisor}
-use Rattle.kl1_model.specs.Term.{Term, variable, integer, atom, structure, Terms, none, more, count_of, occurs, occurs_in, replace, replace_each, Replacement, substituted, each_substituted}
-use Rattle.kl1_model.specs.Meaning.{nil, variables_of, variables_in, highest, highest_in, numbered_after}
-use Rattle.kl1_model.specs.Arithmetic.{evaluated}
-use Rattle.kl1_model.specs.Unify.{Equation, argument_equations, replace_in_all, mgu}
-use Rattle.kl1_model.specs.Goal.{is_execute}
-use Rattle.kl1_model.specs.Module.{Clause, Module}
-use Rattle.kl1_model.specs.Match.{Answer, yes, no, wait, Match, with_answer, match_pattern, match_patterns, term_at, places_of, verdict, Call, call_of, clauses_of, is_no, Candidate, candidate_by, candidates_of, fails}
-use Rattle.kl1_model.specs.code.Sections.{candidates_within, candidates_from}
-use Rattle.kl1_model.proofs.SectionRuns.{candidates_walked}
-use Rattle.kl1_model.specs.Look.{spelling, ExecuteArguments, arguments_look}
-use Rattle.kl1_model.specs.declared.rules.Rules.{Rules}
-use Rattle.kl1_model.specs.State.{Origin, most_spelled}
-use Rattle.kl1_model.specs.Reduction.{Move, commits, raises, unifies, names, opens, goes, gives_way, failure, call_move, becomes, execute_arguments, execute_move, pair_move, built_in_move, term_move, equation, move_found}
-use Rattle.kl1_model.specs.code.Steps.{order_move, substitute_move, elements_in}
-use Rattle.kl1_model.specs.Asking.{elements_of}
-use Rattle.kl1_model.specs.Answering.{asked, asked_at}
-use Rattle.kl1_model.specs.Telling.{Asked}
-use Rattle.kl1_model.specs.Forgetting.{without_cells}
-use Rattle.kl1_model.proofs.UnifySound.{HoldsInEachCase, holds_of_solution}
-use Rattle.kl1_model.specs.Found.{Found, found, awaits, wrong}
+use Rattle.kl1_model.specs.Term.{Term, variable, integer, atom, structure, Terms, none, more, replace, replace_each, substituted, each_substituted}
+use Rattle.kl1_model.specs.Meaning.{variables_of, variables_in, highest, highest_in, numbered_after}
 
 -- ---- terms
 

@@ -1,7 +1,6 @@
 -- What holds of a fresh account, and is kept by what each event does, holds of each account that events make of a fresh one.
 use Rattle.std.proofs.Common.{◌≡◌, ℕ, suc, ◌-◌, ◌==◌, not, ◌&&◌, Bool, true, false, if◌then◌else◌, List, [], ◌∷◌, refl, subst}
 use Rattle.std.specs.Prelude.{nat_lt, nat_le, length, Option, Some, None, is_some, option_map}
-use Rattle.std.proofs.lemmas.Bool.{and_parts}
 use Rattle.std.proofs.lemmas.Option.{none-some, same_Some}
 use Rattle.kl1_model.specs.declared.rules.Rules.{Rules}
 use Rattle.kl1_model.specs.declared.limits.TheConstants.{MOST_MODULES, MOST_SESSIONS, MOST_SOURCE_BYTES}
@@ -9,7 +8,7 @@ use Rattle.kl1_model.specs.declared.message.Message.{Message}
 use Rattle.kl1_model.specs.Term.{Term}
 use Rattle.kl1_model.specs.Module.{Module, Reading, good, bad, read_module}
 use Rattle.kl1_model.specs.Match.{module_of, call_of}
-use Rattle.kl1_model.specs.State.{Task, monitor, reduces, substitutes, Goal, Origin, Shoen, State, fresh, fresh_with, goal_at, shoen_at, names_of, names_of_module, with_names, has_substitutes, has_forgetting, is_living}
+use Rattle.kl1_model.specs.State.{Task, monitor, reduces, substitutes, Goal, Origin, Shoen, State, fresh, fresh_with, goal_at, shoen_at, names_of, names_of_module, with_names, has_forgetting, is_living}
 use Rattle.kl1_model.specs.Event.{exists, shoen_ended, syntax, too_many_names, limit_passed, journal_full, sessions_refused, Query, value, status, reports, modules, is_quiet, Event, load, start, control, reduce, read, login, logout, reset, answer, forget, loaded, opened, sent, reduced, welcome, bye, Refusal, forgot, answer_refused, Transition, refuse, is_number, unless, are_too_many, is_full, needs_entry, with_entry, with_reduction}
 use Rattle.kl1_model.specs.Look.{goal_look}
 use Rattle.kl1_model.specs.Tree.{is_enabled}

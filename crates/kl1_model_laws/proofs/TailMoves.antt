@@ -1,44 +1,25 @@
 -- What goals do leaves the console's control tails unbound.
-use Rattle.std.proofs.Common.{◌≡◌, ◌≤◌, ◌<◌, ℕ, zero, suc, ◌+◌, ◌-◌, ◌==◌, not, ◌&&◌, ◌||◌, Bool, true, false, if◌then◌else◌, List, [], ◌∷◌, ◌++◌, refl, sym, ap, ◌∙◌, subst, arith}
-use Rattle.std.specs.Prelude.{nat_le, map, length, Option, Some, None, option_map}
+use Rattle.std.proofs.Common.{◌≡◌, ◌≤◌, ◌<◌, ℕ, suc, ◌+◌, ◌-◌, ◌==◌, not, ◌&&◌, Bool, true, false, if◌then◌else◌, List, [], ◌∷◌, refl, arith}
+use Rattle.std.specs.Prelude.{nat_le, map, Option, Some, None}
 use Rattle.std.specs.List.{AllByRecursion}
-use Rattle.std.proofs.lemmas.Bool.{and_parts, eqb-true, eqb-false, eq-eqb, ne_eqb, leb-false}
+use Rattle.std.proofs.lemmas.Bool.{leb-false}
 use Rattle.std.proofs.Math.Nat.{le-max_left, le-max_right}
-use Rattle.kl1_model.specs.declared.limits.TheConstants.{MOST_LINE_BYTES}
-use Rattle.kl1_model.specs.declared.message.Message.{Message}
-use Rattle.kl1_model.specs.declared.rules.Rules.{Rules}
-use Rattle.kl1_model.specs.Term.{Term, variable, atom, terms_of, occurs, replace, Replacement, substituted}
-use Rattle.kl1_model.specs.Meaning.{nil, cell, variables_of, highest, highest_in, is_numbered, is_writable}
-use Rattle.kl1_model.specs.Goal.{is_goal}
+use Rattle.kl1_model.specs.Term.{Term, variable, atom, terms_of, Replacement, substituted}
+use Rattle.kl1_model.specs.Meaning.{nil, highest, highest_in}
 use Rattle.kl1_model.specs.Unify.{mgu}
-use Rattle.kl1_model.specs.Module.{goals_of, is_among}
-use Rattle.kl1_model.specs.Match.{Candidate, call_of, term_at}
+use Rattle.kl1_model.specs.Module.{goals_of}
+use Rattle.kl1_model.specs.Match.{Candidate, term_at}
 use Rattle.kl1_model.specs.Instance.{head_variables, fresh_variables, body_variable, body_instance, body_priorities}
-use Rattle.kl1_model.specs.Look.{goal_look}
-use Rattle.kl1_model.specs.Control.{message_term, Control, control_of}
-use Rattle.kl1_model.specs.State.{Task, monitor, reduces, substitutes, Goal, Origin, Shoen, State, has_substitutes, has_told, is_living, goal_at, shoen_at, replace_in_task, replace_in_goal, replace_in_origin, replace_in_shoen, without_goal, with_name}
-use Rattle.kl1_model.specs.Tree.{charge, is_on_path}
-use Rattle.kl1_model.specs.Event.{is_number, is_range, are_too_many, with_entry, with_reduction}
+use Rattle.kl1_model.specs.State.{Task, reduces, substitutes, Goal, Shoen, State, has_substitutes, shoen_at, without_goal, with_name}
+use Rattle.kl1_model.specs.Tree.{charge}
+use Rattle.kl1_model.specs.Event.{are_too_many}
 use Rattle.kl1_model.specs.Report.{report, is_reported, exception, exception_with, failure, exhaustion, started_report, exhausted_report}
-use Rattle.kl1_model.specs.Opening.{start_line, may_start, with_shoen, open_shoen, with_next_variables, start_goal, has_room_for_child, child_shoen, open_child}
-use Rattle.kl1_model.specs.Reduction.{Move, commits, raises, unifies, names, opens, goes, gives_way, moves, reads, goals_from, has_room_for, committed, replaced_by, substituted_by, raised, unified, equation, or_exhaustion, moved, heard, acted, term_move}
-use Rattle.kl1_model.specs.Answering.{answer_line, may_answer, is_numbered_by, asked_at, given, answered}
-use Rattle.kl1_model.specs.Telling.{Asked, Given, stands_in, new_among, place_among, given_variable, given_told, is_told_term}
-use Rattle.kl1_model.specs.Forgetting.{without_reports, with_origin, empty_place, gone_below, gone}
-use Rattle.kl1_model.specs.Sending.{with_control_tail, sent_on}
-use Rattle.kl1_model.specs.code.Steps.{opening_goals, substitute_move, origin_with, priority_of, named_by}
-use Rattle.kl1_model.specs.laws.TreeLaws.{IsTree}
-use Rattle.kl1_model.proofs.TreeKeeps.{kept_tree}
-use Rattle.kl1_model.proofs.TreeGrows.{with_reduction_keeps}
-use Rattle.kl1_model_laws.specs.Reached.{reached}
-use Rattle.kl1_model_laws.specs.ControlLaws.{is_unbound, messages_then, ControlTailsAreUnbound, ControlStreamsAreMessages}
-use Rattle.kl1_model_laws.proofs.Allowances.{found_number}
-use Rattle.kl1_model_laws.proofs.Reaching.{Keeping, holds_reached}
-use Rattle.kl1_model_laws.proofs.Alike.{begun, begun_shoen}
-use Rattle.kl1_model_laws.proofs.GivenPlaces.{place_is_low, place_is_bound, each_given}
-use Rattle.kl1_model_laws.proofs.Holds.{Holds, holds_weaker, holds_unchanged, holds_substituted, holds_highest, holds_both, holds_positive, holds_solved, Places, InMove, in_move, in_substitute, holds_asked, holds_occurring, holds_without, holds_term_at, listed}
-use Rattle.kl1_model_laws.proofs.Each.{all_map, all_weaker, all_append, found_shoen, the_goal, Only, only}
-use Rattle.kl1_model_laws.proofs.Owners.{Free, IsFree, TaskFree, Console, ControlOf, Owned, Of, stream_replaced, stream_longer, term_raised, own_higher, own_replace, own_if, own_report, report_last, own_all, fewer, own_settle, own_settle_charged, own_heard}
+use Rattle.kl1_model.specs.Opening.{with_shoen, open_shoen, has_room_for_child, child_shoen, open_child}
+use Rattle.kl1_model.specs.Reduction.{Move, commits, raises, unifies, names, opens, goes, gives_way, moves, goals_from, has_room_for, committed, replaced_by, substituted_by, raised, unified, equation, or_exhaustion, moved, acted}
+use Rattle.kl1_model.specs.code.Steps.{opening_goals, priority_of, named_by}
+use Rattle.kl1_model_laws.proofs.Holds.{Holds, holds_substituted, holds_highest, holds_solved, Places, InMove, holds_term_at}
+use Rattle.kl1_model_laws.proofs.Each.{all_append}
+use Rattle.kl1_model_laws.proofs.Owners.{Free, IsFree, TaskFree, Owned, Of, term_raised, own_higher, own_if, own_report, report_last, own_all, fewer, own_settle_charged}
 
 -- ---- moves
 
