@@ -1,18 +1,20 @@
 -- What refuses a letting go, and the step of one that nothing refuses.
-use Rattle.kl1_user_account.proofs.Words.{◌≡◌, ℕ, zero, suc, ◌+◌, ◌-◌, ◌<◌, ◌≤◌, not, ◌&&◌, Bool, true, false, if◌then◌else◌, List, [], ◌∷◌, length, take, refl, sym, ap, subst, ◌∙◌, ◌⊎◌, inl, inr, arith, nat_le, nat_lt, Option, Some, None, option_map, option_and_then, unwrap_or, Rules, Term, State, shoen_at, is_living, Transition, refuse, unless, syntax, no_shoen, step, Reads, CellName, Held, Syntax, NoShoen, Goal, Origin, Shoen, shoen_in, lives_in, Reading, built, Means, meaning, origin_with, shoen_with, with_kept, found_in, kept_at, with_entry}
-use Rattle.std.specs.Prelude.{IfSome, MatchOption}
+use Rattle.kl1_user_account.proofs.Words.{◌≡◌, ℕ, zero, suc, ◌+◌, ◌-◌, ◌<◌, ◌≤◌, not, ◌&&◌, Bool, true, false, if◌then◌else◌, List, [], ◌∷◌, length, map, take, find, refl, sym, ap, ap₂, subst, eqb-true, cases_Bool, ◌∙◌, ◌⊎◌, inl, inr, arith, nat_le, nat_lt, Option, Some, None, option_map, option_and_then, unwrap_or, Rules, Term, State, shoen_at, is_living, Transition, refuse, unless, syntax, no_shoen, step, Reads, CellName, Held, Syntax, NoShoen, Goal, Origin, Shoen, shoen_in, lives_in, Reading, built, Means, meaning, origin_with, shoen_with, with_kept, found_in, kept_at, with_entry}
+use Rattle.std.specs.Prelude.{IfSome, MatchOption, ◌==◌}
 use Rattle.std.specs.List.{list_any}
-use Rattle.std.proofs.lemmas.Bool.{cases_lt, le-leb, le-ltb, lt-leb, lt-ltb}
+use Rattle.std.proofs.lemmas.Bool.{ne_eqb, cases_lt, le-leb, le-ltb, lt-leb, lt-ltb}
 use Rattle.kl1_model.specs.Asking.{elements_of}
 use Rattle.kl1_model.specs.Event.{forget, forgot, is_full, journal_full, answer_refused}
 use Rattle.kl1_model.specs.Forgetting.{waits, without_cells, without_reports, with_origin, without_shoen, gone, may_go, forget_by, forget_of, may_forget}
 use Rattle.kl1_model.specs.State.{has_forgetting, change_shoen}
 use Rattle.kl1_model.specs.State.{Origin as Tails}
+use Rattle.kl1_model.specs.State as model
 use Rattle.kl1_store.specs.declared.cell.Cell.{Cell}
 use Rattle.kl1_store.specs.Held.{IsIn}
+use Rattle.kl1_shoen.specs.Shoens.{AreNumbered, has_number}
 use Rattle.kl1_stream.specs.Letting.{may_leave, LeavesAfter}
 use Rattle.kl1_user_events.specs.declared.refusal.Refusal.TheVariants.{Answer as Unasked, Journal}
-use Rattle.kl1_user_account.specs.Forgetting.{may_leave_of, ForgetsAs, LeavesReports}
+use Rattle.kl1_user_account.specs.Forgetting.{may_leave_of, with_left, ForgetsAs, LeavesReports}
 use Rattle.kl1_user_account.specs.declared.forgettable.Forgetting.TheVariants.{Refused, Reports, Shoen as Whole}
 
 -- ---- whether reports may go
@@ -71,6 +73,49 @@ module _ (s : State) (n count : ℕ) (t : Means) where
       ∙ (ap (λ b. if b then refuse s journal_full else (if not (may_go count (shoen_with t h) O) then refuse s answer_refused else after O)) is
       ∙ ap (λ b. if full then refuse s journal_full else (if not b then refuse s answer_refused else after O)) (may_by h O lives count r ∙ can))
 
+-- ---- one shoen of a number
+
+-- shoens of which none has the number
+none_changed : (t : Means) (n : ℕ) (g : model.Shoen → model.Shoen) (last : ℕ) (ss : List (Shoen CellName)) → AreNumbered last ss → n ≤ last → map (λ (h : model.Shoen). if h.number == n then g h else h) (map (shoen_with t) ss) ≡ map (shoen_with t) ss
+none_changed t n g last [] a le = refl
+none_changed t n g last (s ∷ ss) a le =
+    let m = a.0 in
+    ap₂ (λ (x : model.Shoen) xs. x ∷ xs) (ap (λ b. if b then g (shoen_with t s) else shoen_with t s) (ne_eqb s.number n (λ x. omega (arith, m, le, x)))) (none_changed t n g (suc last) ss a.1 (omega (arith, le)))
+
+-- two changes that are the same of what the console keeps of a shoen are the same of the shoens
+changed_alike : (t : Means) (n : ℕ) (o : Origin CellName) (g k : model.Shoen → model.Shoen) → ((h : Shoen CellName) → h.origin ≡ Some o → g (shoen_with t h) ≡ k (shoen_with t h)) → (last : ℕ) (ss : List (Shoen CellName)) → AreNumbered last ss → kept_at n ss ≡ Some o →
+    map (λ (h : model.Shoen). if h.number == n then g h else h) (map (shoen_with t) ss) ≡ map (λ (h : model.Shoen). if h.number == n then k h else h) (map (shoen_with t) ss)
+changed_alike t n o g k e last [] a kept = refl
+changed_alike t n o g k e last (s ∷ ss) a kept = elim (cases_Bool (s.number == n)) [ inl p ↦ here p | inr p ↦ later p (changed_alike t n o g k e (suc last) ss a.1) ]
+  where
+    each : (model.Shoen → model.Shoen) → List model.Shoen
+    each j = map (λ (h : model.Shoen). if h.number == n then j h else h) (map (shoen_with t) ss)
+
+    kept_by : (b : Bool) → (s.number == n) ≡ b → option_and_then (λ (h : Shoen CellName). h.origin) (if b then Some s else find (has_number n) ss) ≡ Some o
+    kept_by b p = ap (λ c. option_and_then (λ (h : Shoen CellName). h.origin) (if c then Some s else find (has_number n) ss)) (sym p) ∙ kept
+
+    here : (s.number == n) ≡ true → ((if s.number == n then g (shoen_with t s) else shoen_with t s) ∷ each g) ≡ ((if s.number == n then k (shoen_with t s) else shoen_with t s) ∷ each k)
+    here p =
+        let same = eqb-true s.number n p in
+        let m = a.0 in
+        let le : n ≤ suc last = omega (arith, same, m) in
+        ap₂ (λ (x : model.Shoen) xs. x ∷ xs)
+        (ap (λ b. if b then g (shoen_with t s) else shoen_with t s) p ∙ (e s (kept_by true p) ∙ ap (λ b. if b then k (shoen_with t s) else shoen_with t s) (sym p)))
+        (none_changed t n g (suc last) ss a.1 le ∙ sym (none_changed t n k (suc last) ss a.1 le))
+
+    later : (s.number == n) ≡ false → (kept_at n ss ≡ Some o → each g ≡ each k) → ((if s.number == n then g (shoen_with t s) else shoen_with t s) ∷ each g) ≡ ((if s.number == n then k (shoen_with t s) else shoen_with t s) ∷ each k)
+    later p rest =
+        ap₂ (λ (x : model.Shoen) xs. x ∷ xs)
+        (ap (λ b. if b then g (shoen_with t s) else shoen_with t s) p ∙ ap (λ b. if b then k (shoen_with t s) else shoen_with t s) (sym p))
+        (rest (kept_by false p))
+
+-- the first reports of a shoen of which this is kept are let go
+left_alike : (t : Means) (o : Origin CellName) (count : ℕ) (r : Term) (h : Shoen CellName) → h.origin ≡ Some o →
+    with_origin (record { goal = t o.goal; forgotten = count; reports = r; control = t o.control }) (shoen_with t h) ≡ with_left count r (shoen_with t h)
+left_alike t o count r h e =
+    let H : Option (Origin CellName) → model.Shoen = λ x. with_left count r (record (shoen_with t h) { origin = option_map (origin_with t) x }) in
+    ap H (sym e)
+
 -- ---- what comes of it
 
 module _ (rules : Rules) (h : Held CellName) (ss : List (Shoen CellName)) (full : Bool) (n count : ℕ) where
@@ -120,30 +165,36 @@ module _ (rules : Rules) (h : Held CellName) (ss : List (Shoen CellName)) (full 
   refused_left o lives e kept is some lives_is leaves = refused_by o lives e kept lives_is is (λ f reads. may_go_is f h o lives count some ∙ leaves f reads)
 
   pub goes_whole : (o : Origin CellName) → (has_forgetting rules && may_forget n count) ≡ true → kept_at n ss ≡ Some o → full ≡ false → count ≡ 0 → lives_in ss n ≡ false → ForgetsAs rules h ss full n count Whole
-  goes_whole o e kept is none lives f reads s goals same fulls =
-      let S = with_kept f s h goals ss in
-      let O = origin_with (meaning f h) o in
-      by_kept o false true e kept lives f s goals same fulls (ap (λ k. may_go_by false k O) none)
-      ∙ (ap (λ b. if b then refuse S journal_full else (record { state = with_entry (gone n count O S); reply = forgot })) is
-      ∙ ap (λ k. let z : Transition = record { state = with_entry (gone n k O S); reply = forgot } in z) none)
+  goes_whole o e kept is none lives = record {
+    room = is;
+    none = none;
+    steps = λ f reads s goals same fulls.
+        let S = with_kept f s h goals ss in
+        let O = origin_with (meaning f h) o in
+        by_kept o false true e kept lives f s goals same fulls (ap (λ k. may_go_by false k O) none)
+        ∙ (ap (λ b. if b then refuse S journal_full else (record { state = with_entry (gone n count O S); reply = forgot })) is
+        ∙ ap (λ k. let z : Transition = record { state = with_entry (gone n k O S); reply = forgot } in z) none);
+  }
 
-  pub goes_in_part : (o : Origin CellName) (lives : Bool) (x : Cell CellName) → (has_forgetting rules && may_forget n count) ≡ true → kept_at n ss ≡ Some o → full ≡ false → 0 < count → lives_in ss n ≡ lives →
+  pub goes_in_part : (o : Origin CellName) (lives : Bool) (x : Cell CellName) → AreNumbered 0 ss → (has_forgetting rules && may_forget n count) ≡ true → kept_at n ss ≡ Some o → full ≡ false → 0 < count → lives_in ss n ≡ lives →
       LeavesReports h o lives count (Some x) → ForgetsAs rules h ss full n count (Reports x)
-  goes_in_part o lives x e kept is some lives_is leaves = (
-    leaves.0,
-    (
-      o,
-      λ f reads s goals same fulls.
-          let S = with_kept f s h goals ss in
-          let O = origin_with (meaning f h) o in
-          let left = leaves.1 f reads in
-          let may : may_go_by lives count O ≡ true = may_go_is f h o lives count some ∙ both_true (nat_lt o.forgotten count) (may_leave lives (count - o.forgotten) (meaning f h o.reports)) left.0 left.1.may in
-          let with : Term → Transition = λ r. record { state = with_entry (change_shoen n (with_origin (record { goal = O.goal; forgotten = count; reports = r; control = O.control })) S); reply = forgot } in
-          by_kept o lives true e kept lives_is f s goals same fulls may
-          ∙ (ap (λ b. if b then refuse S journal_full else (record { state = with_entry (gone n count O S); reply = forgot })) is
-          ∙ (some_gone S O count some ∙ ap with (sym left.1.left))),
-    ),
-  )
+  goes_in_part o lives x numbered e kept is some lives_is leaves = record {
+    inside = leaves.0;
+    room = is;
+    steps = λ f reads s goals same fulls.
+        let S = with_kept f s h goals ss in
+        let t = meaning f h in
+        let O = origin_with t o in
+        let left = leaves.1 f reads in
+        let may : may_go_by lives count O ≡ true = may_go_is f h o lives count some ∙ both_true (nat_lt o.forgotten count) (may_leave lives (count - o.forgotten) (t o.reports)) left.0 left.1.may in
+        let giving : Term → Transition = λ r. record { state = with_entry (change_shoen n (with_origin (record { goal = O.goal; forgotten = count; reports = r; control = O.control })) S); reply = forgot } in
+        let having : List model.Shoen → Transition = λ hs. record { state = with_entry (record S { shoens = hs }); reply = forgot } in
+        by_kept o lives true e kept lives_is f s goals same fulls may
+        ∙ (ap (λ b. if b then refuse S journal_full else (record { state = with_entry (gone n count O S); reply = forgot })) is
+        ∙ (some_gone S O count some
+        ∙ (ap giving (sym left.1.left)
+        ∙ ap having (changed_alike t n o (with_origin (record { goal = O.goal; forgotten = count; reports = t x; control = O.control })) (with_left count (t x)) (λ k q. left_alike t o count (t x) k q) 0 ss numbered kept))));
+  }
     where
       both_true : (a b : Bool) → a ≡ true → b ≡ true → (a && b) ≡ true
       both_true a b p q = ap (λ c. c && b) p ∙ q

@@ -20,11 +20,11 @@ untold a (m ∷ ms) = if stands_at a m then untold a ms else m ∷ untold a ms
 -- as many are new as aren't told
 pub count_new : (a : Option Asked) (ms : List ℕ) → new_in (map (tell a) ms) ≡ length (untold a ms)
 count_new a [] = refl
-count_new a (m ∷ ms) = by (stands_at a m)
+count_new a (m ∷ ms) = by (stands_at a m) (count_new a ms)
   where
-    by : (b : Bool) → new_in ((if b then Some m else None) ∷ map (tell a) ms) ≡ length (if b then untold a ms else m ∷ untold a ms)
-    by true = count_new a ms
-    by false = ap suc (count_new a ms)
+    by : (b : Bool) → new_in (map (tell a) ms) ≡ length (untold a ms) → new_in ((if b then Some m else None) ∷ map (tell a) ms) ≡ length (if b then untold a ms else m ∷ untold a ms)
+    by true rest = rest
+    by false rest = ap suc rest
 
 untold_more : (a : Option Asked) (ms : List ℕ) (n : ℕ) (b : Bool) → stands_at a n ≡ b → untold a (ms ++ n ∷ []) ≡ (if b then untold a ms else untold a ms ++ n ∷ [])
 untold_more a [] n true e = ap (λ b. if◌then◌else◌ {A = List ℕ} b [] (n ∷ [])) e
@@ -39,59 +39,58 @@ untold_more a (m ∷ ms) n false e = ap (λ xs. if stands_at a m then xs else m 
 -- one that isn't told is among those that aren't just if it is among all
 untold_among : (a : Option Asked) (ms : List ℕ) (n : ℕ) → stands_at a n ≡ false → is_among n (untold a ms) ≡ is_among n ms
 untold_among a [] n e = refl
-untold_among a (m ∷ ms) n e = by (stands_at a m) refl
+untold_among a (m ∷ ms) n e = by (stands_at a m) refl (untold_among a ms n e)
   where
-    by : (b : Bool) → stands_at a m ≡ b → is_among n (if b then untold a ms else m ∷ untold a ms) ≡ is_among n (m ∷ ms)
-    by true s = untold_among a ms n e ∙ sym (among_other m n ms (λ is. false≢true (sym e ∙ (ap (stands_at a) (sym is) ∙ s))))
-    by false s = ap (λ b. (n == m) || b) (untold_among a ms n e)
+    by : (b : Bool) → stands_at a m ≡ b → is_among n (untold a ms) ≡ is_among n ms → is_among n (if b then untold a ms else m ∷ untold a ms) ≡ is_among n (m ∷ ms)
+    by true s rest = rest ∙ sym (among_other m n ms (λ is. false≢true (sym e ∙ (ap (stands_at a) (sym is) ∙ s))))
+    by false s rest = ap (λ b. (n == m) || b) rest
 
 -- those that are new by the definitions are those of all that aren't told
 pub new_are : (a : Option Asked) (seen ns : List ℕ) → new_among a (untold a seen) ns ≡ untold a (new_among None seen ns)
 new_are a seen [] = refl
-new_are a seen (n ∷ ns) = by (stands_at a n) (is_among n seen) refl refl
+new_are a seen (n ∷ ns) = by (stands_at a n) (is_among n seen) refl refl (λ k. new_are a k ns)
   where
     Goal : Bool → Bool → Type 0
     Goal s w = (if s || is_among n (untold a seen) then new_among a (untold a seen) ns else new_among a (untold a seen ++ n ∷ []) ns)
         ≡ untold a (if w then new_among None seen ns else new_among None (seen ++ n ∷ []) ns)
 
-    by : (s w : Bool) → stands_at a n ≡ s → is_among n seen ≡ w → Goal s w
-    by true true st am = new_are a seen ns
-    by true false st am = ap (λ xs. new_among a xs ns) (sym (untold_more a seen n true st)) ∙ new_are a (seen ++ n ∷ []) ns
-    by false true st am =
-        ap (λ b. if◌then◌else◌ {A = List ℕ} b (new_among a (untold a seen) ns) (new_among a (untold a seen ++ n ∷ []) ns)) (untold_among a seen n st ∙ am) ∙ new_are a seen ns
-    by false false st am =
+    by : (s w : Bool) → stands_at a n ≡ s → is_among n seen ≡ w → ((k : List ℕ) → new_among a (untold a k) ns ≡ untold a (new_among None k ns)) → Goal s w
+    by true true st am rest = rest seen
+    by true false st am rest = ap (λ xs. new_among a xs ns) (sym (untold_more a seen n true st)) ∙ rest (seen ++ n ∷ [])
+    by false true st am rest = ap (λ b. if◌then◌else◌ {A = List ℕ} b (new_among a (untold a seen) ns) (new_among a (untold a seen ++ n ∷ []) ns)) (untold_among a seen n st ∙ am) ∙ rest seen
+    by false false st am rest =
         ap (λ b. if◌then◌else◌ {A = List ℕ} b (new_among a (untold a seen) ns) (new_among a (untold a seen ++ n ∷ []) ns)) (untold_among a seen n st ∙ am)
-        ∙ (ap (λ xs. new_among a xs ns) (sym (untold_more a seen n false st)) ∙ new_are a (seen ++ n ∷ []) ns)
+        ∙ (ap (λ xs. new_among a xs ns) (sym (untold_more a seen n false st)) ∙ rest (seen ++ n ∷ []))
 
 -- what stands for a number at its place among all
 stands_for : (a : Option Asked) (next : ℕ) (ms : List ℕ) (n : ℕ) → is_among n ms ≡ true →
     told_at next (map (tell a) ms) (place_among ms n - 1) ≡ (if stands_at a n then n else next + place_among (untold a ms) n - 1)
 stands_for a next [] n e = absurd (true≢false (sym e))
-stands_for a next (m ∷ ms) n e = by (cases_eq m n)
+stands_for a next (m ∷ ms) n e = by (cases_eq m n) (λ k f. stands_for a k ms n f)
   where
-    Want : ℕ → Bool → List ℕ → Type 0
-    Want k s rest = told_at next (tell a m ∷ map (tell a) ms) k ≡ (if s then n else next + place_among rest n - 1)
+    Rest : Type 0
+    Rest = (k : ℕ) → is_among n ms ≡ true → told_at k (map (tell a) ms) (place_among ms n - 1) ≡ (if stands_at a n then n else k + place_among (untold a ms) n - 1)
 
     first : (s : Bool) → stands_at a m ≡ s → m ≡ n → told_at next ((if s then Some m else None) ∷ map (tell a) ms) 0 ≡ (if s then n else next + place_among (if s then untold a ms else m ∷ untold a ms) n - 1)
     first true s is = is
     first false s is = let p = place_same m n (untold a ms) is in omega (arith, p)
 
-    later : (s : Bool) → (m ≡ n → ⊥) → told_at next ((if s then Some m else None) ∷ map (tell a) ms) (suc (place_among ms n - 1)) ≡ (if stands_at a n then n else next + place_among (if s then untold a ms else m ∷ untold a ms) n - 1)
-    later true d = stands_for a next ms n (sym (among_other m n ms d) ∙ e)
-    later false d =
+    later : (s : Bool) → Rest → (m ≡ n → ⊥) → told_at next ((if s then Some m else None) ∷ map (tell a) ms) (suc (place_among ms n - 1)) ≡ (if stands_at a n then n else next + place_among (if s then untold a ms else m ∷ untold a ms) n - 1)
+    later true rest d = rest next (sym (among_other m n ms d) ∙ e)
+    later false rest d =
         let p = place_other m n (untold a ms) d in
         let q : suc next + place_among (untold a ms) n - 1 ≡ next + place_among (m ∷ untold a ms) n - 1 = omega (arith, p, place_from (untold a ms) n) in
-        stands_for a (suc next) ms n (sym (among_other m n ms d) ∙ e) ∙ ap (λ k. if stands_at a n then n else k) q
+        rest (suc next) (sym (among_other m n ms d) ∙ e) ∙ ap (λ k. if stands_at a n then n else k) q
 
-    by : (m ≡ n) ⊎ (m ≡ n → ⊥) → told_at next (map (tell a) (m ∷ ms)) (place_among (m ∷ ms) n - 1) ≡ (if stands_at a n then n else next + place_among (untold a (m ∷ ms)) n - 1)
-    by (inl is) =
+    by : (m ≡ n) ⊎ (m ≡ n → ⊥) → Rest → told_at next (map (tell a) (m ∷ ms)) (place_among (m ∷ ms) n - 1) ≡ (if stands_at a n then n else next + place_among (untold a (m ∷ ms)) n - 1)
+    by (inl is) rest =
         let p = place_same m n ms is in
         let zero_is : place_among (m ∷ ms) n - 1 ≡ 0 = omega (arith, p) in
         ap (told_at next (map (tell a) (m ∷ ms))) zero_is ∙ (first (stands_at a m) refl is ∙ ap (λ s. if s then n else next + place_among (untold a (m ∷ ms)) n - 1) (ap (stands_at a) is))
-    by (inr d) =
+    by (inr d) rest =
         let p = place_other m n ms d in
         let at : place_among (m ∷ ms) n - 1 ≡ suc (place_among ms n - 1) = omega (arith, p, place_from ms n) in
-        ap (told_at next (map (tell a) (m ∷ ms))) at ∙ later (stands_at a m) d
+        ap (told_at next (map (tell a) (m ∷ ms))) at ∙ later (stands_at a m) rest d
 
 -- each of numbers is among those seen at the end
 abbrev pub Each : (ℕ → Type 0) → List ℕ → Type 0
@@ -100,11 +99,11 @@ Each P (n ∷ ns) = P n × Each P ns
 
 seen_each : (seen ns : List ℕ) → Each (λ n. is_among n (new_among None seen ns) ≡ true) ns
 seen_each seen [] = tt
-seen_each seen (n ∷ ns) = by (is_among n seen) refl
+seen_each seen (n ∷ ns) = by (is_among n seen) refl (λ k. seen_each k ns)
   where
-    by : (b : Bool) → is_among n seen ≡ b → Each (λ k. is_among k (if b then new_among None seen ns else new_among None (seen ++ n ∷ []) ns) ≡ true) (n ∷ ns)
-    by true e = let on = goes_on seen ns in (ap (is_among n) on.all_are ∙ among_kept seen on.rest n e, seen_each seen ns)
-    by false e = let on = goes_on (seen ++ n ∷ []) ns in (ap (is_among n) on.all_are ∙ among_kept (seen ++ n ∷ []) on.rest n (among_new seen n), seen_each (seen ++ n ∷ []) ns)
+    by : (b : Bool) → is_among n seen ≡ b → ((k : List ℕ) → Each (λ i. is_among i (new_among None k ns) ≡ true) ns) → Each (λ k. is_among k (if b then new_among None seen ns else new_among None (seen ++ n ∷ []) ns) ≡ true) (n ∷ ns)
+    by true e rest = let on = goes_on seen ns in (ap (is_among n) on.all_are ∙ among_kept seen on.rest n e, rest seen)
+    by false e rest = let on = goes_on (seen ++ n ∷ []) ns in (ap (is_among n) on.all_are ∙ among_kept (seen ++ n ∷ []) on.rest n (among_new seen n), rest (seen ++ n ∷ []))
 
 pub each_front : (P : ℕ → Type 0) (xs ys : List ℕ) → Each P (xs ++ ys) → Each P xs
 each_front P [] ys h = tt
@@ -133,15 +132,15 @@ mutual
 -- whether one is gone is asked of each number once
 any_among : (p : ℕ → Bool) (seen : List ℕ) (n : ℕ) → is_among n seen ≡ true → p n ≡ true → list_any p seen ≡ true
 any_among p [] n e q = absurd (true≢false (sym e))
-any_among p (m ∷ ms) n e q = by (cases_eq m n)
+any_among p (m ∷ ms) n e q = by (cases_eq m n) (any_among p ms n)
   where
     or_right : (b : Bool) → (b || true) ≡ true
     or_right true = refl
     or_right false = refl
 
-    by : (m ≡ n) ⊎ (m ≡ n → ⊥) → (p m || list_any p ms) ≡ true
-    by (inl is) = ap (λ b. b || list_any p ms) (ap p is ∙ q)
-    by (inr d) = ap (λ b. p m || b) (any_among p ms n (sym (among_other m n ms d) ∙ e) q) ∙ or_right (p m)
+    by : (m ≡ n) ⊎ (m ≡ n → ⊥) → (is_among n ms ≡ true → p n ≡ true → list_any p ms ≡ true) → (p m || list_any p ms) ≡ true
+    by (inl is) rest = ap (λ b. b || list_any p ms) (ap p is ∙ q)
+    by (inr d) rest = ap (λ b. p m || b) (rest (sym (among_other m n ms d) ∙ e) q) ∙ or_right (p m)
 
 any_more : (p : ℕ → Bool) (seen : List ℕ) (n : ℕ) (rest : Bool) → (list_any p (seen ++ n ∷ []) || rest) ≡ (list_any p seen || (p n || rest))
 any_more p [] n rest = ap (λ b. b || rest) (or_false (p n))
@@ -149,11 +148,11 @@ any_more p [] n rest = ap (λ b. b || rest) (or_false (p n))
     or_false : (b : Bool) → (b || false) ≡ b
     or_false true = refl
     or_false false = refl
-any_more p (m ∷ ms) n rest = by (p m)
+any_more p (m ∷ ms) n rest = by (p m) (any_more p ms n rest)
   where
-    by : (b : Bool) → ((b || list_any p (ms ++ n ∷ [])) || rest) ≡ ((b || list_any p ms) || (p n || rest))
-    by true = refl
-    by false = any_more p ms n rest
+    by : (b : Bool) → (list_any p (ms ++ n ∷ []) || rest) ≡ (list_any p ms || (p n || rest)) → ((b || list_any p (ms ++ n ∷ [])) || rest) ≡ ((b || list_any p ms) || (p n || rest))
+    by true others = refl
+    by false others = others
 
 pub any_once : (p : ℕ → Bool) (seen ns : List ℕ) → list_any p (new_among None seen ns) ≡ (list_any p seen || list_any p ns)
 any_once p seen [] = sym (or_false (list_any p seen))
@@ -161,16 +160,16 @@ any_once p seen [] = sym (or_false (list_any p seen))
     or_false : (b : Bool) → (b || false) ≡ b
     or_false true = refl
     or_false false = refl
-any_once p seen (n ∷ ns) = by (is_among n seen) refl
+any_once p seen (n ∷ ns) = by (is_among n seen) refl (λ k. any_once p k ns)
   where
     known : (l w r : Bool) → (w ≡ true → l ≡ true) → (l || r) ≡ (l || (w || r))
     known true w r h = refl
     known false true r h = absurd (false≢true (h refl))
     known false false r h = refl
 
-    by : (b : Bool) → is_among n seen ≡ b → list_any p (if b then new_among None seen ns else new_among None (seen ++ n ∷ []) ns) ≡ (list_any p seen || (p n || list_any p ns))
-    by true e = any_once p seen ns ∙ known (list_any p seen) (p n) (list_any p ns) (λ q. any_among p seen n e q)
-    by false e = any_once p (seen ++ n ∷ []) ns ∙ any_more p seen n (list_any p ns)
+    by : (b : Bool) → is_among n seen ≡ b → ((k : List ℕ) → list_any p (new_among None k ns) ≡ (list_any p k || list_any p ns)) → list_any p (if b then new_among None seen ns else new_among None (seen ++ n ∷ []) ns) ≡ (list_any p seen || (p n || list_any p ns))
+    by true e rest = rest seen ∙ known (list_any p seen) (p n) (list_any p ns) (λ q. any_among p seen n e q)
+    by false e rest = rest (seen ++ n ∷ []) ∙ any_more p seen n (list_any p ns)
 
 -- the goal that the definitions give, by the numbers of the goal's variables, once each by first occurrence
 pub given_is : (a : Option Asked) (last : ℕ) (t : Term) (seen : List ℕ) (told : List (Option ℕ)) (new : ℕ) (gone : Bool) → seen ≡ new_among None [] (variables_of t) → told ≡ map (tell a) seen → new ≡ new_in told → gone ≡ list_any (is_gone a last) seen →

@@ -36,3 +36,4 @@ mod Collected
 mod Lifting
 mod Labelling
 mod Shown
+mod LettingGo

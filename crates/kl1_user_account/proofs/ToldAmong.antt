@@ -104,7 +104,7 @@ new_push : (told : List (Option ℕ)) (r : Option ℕ) → new_in (told ++ r ∷
 new_push [] None = refl
 new_push [] (Some v) = refl
 new_push (Some w ∷ told) r = new_push told r
-new_push (None ∷ told) None = ap suc (new_push told None)
+new_push (None ∷ told) None = let e = new_push told None in omega (arith, e)
 new_push (None ∷ told) (Some v) = ap suc (new_push told (Some v))
 
 free_push : (h : Held CellName) (told : List (Option ℕ)) (r : Option ℕ) → AreTold h told → IfSome r (IsUnbound h) → AreTold h (told ++ r ∷ [])

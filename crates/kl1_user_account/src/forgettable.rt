@@ -56,6 +56,8 @@ pub(crate) fn forgetting_of(machine: &Machine, is_full: bool, number: u64, count
     if !may_forget(machine.rules, number, count) {
         return Forgetting::Refused(Refusal::Syntax);
     }
+    // Only for the proof: the shoens are numbered in order.
+    let _numbered = machine.shoens.len();
     let Some(origin) = machine.shoens.origin_at(number) else {
         return Forgetting::Refused(Refusal::NoShoen);
     };

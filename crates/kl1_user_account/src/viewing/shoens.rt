@@ -58,10 +58,11 @@ pub(crate) fn shoens_from(
             return Ok(views);
         };
         before += 1;
-        if !is_forgotten(shoen.life) {
-            views.push(view_of(shoens, goals, shoen))?;
-            left -= 1;
+        if is_forgotten(shoen.life) {
+            continue;
         }
+        views.push(view_of(shoens, goals, shoen))?;
+        left -= 1;
     }
     Ok(views)
 }

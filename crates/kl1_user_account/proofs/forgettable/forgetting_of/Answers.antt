@@ -43,5 +43,5 @@ returns-in-None-left_of c =
 pub returns-in-Some-left_of : goal.returns-in-Some-left_of
 returns-in-Some-left_of c =
     let m = c.args.machine.now in
-    goes_in_part m.rules m.store.held m.shoens.shoens c.args.is_full c.args.number c.args.count c.in-Some.origin c.lives-lives.result c.in-Some-left_of.left (sym c.may_forget.ensures ∙ c.if-not-may_forget.false) (sym c.origin_at.ensures ∙ c.in-Some.is) c.if-is_full.false
+    goes_in_part m.rules m.store.held m.shoens.shoens c.args.is_full c.args.number c.args.count c.in-Some.origin c.lives-lives.result c.in-Some-left_of.left c.len-_numbered.ensures.numbered (sym c.may_forget.ensures ∙ c.if-not-may_forget.false) (sym c.origin_at.ensures ∙ c.in-Some.is) c.if-is_full.false
     (omega (arith, c.if-count-eq0.false)) (sym c.lives-lives.ensures) (rw c.in-Some-left_of.is at c.left_of.ensures)
