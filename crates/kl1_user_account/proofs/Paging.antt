@@ -1,5 +1,5 @@
 -- What is shown of shoens and goals, one after another from a number on.
-use Rattle.kl1_user_account.proofs.Words.{◌≡◌, ◌⊎◌, inl, inr, ℕ, zero, suc, ◌+◌, ◌-◌, ◌<◌, ◌≤◌, nat_lt, ◌&&◌, Bool, true, false, if◌then◌else◌, List, [], ◌∷◌, ◌++◌, map, take, drop, refl, sym, ap, ap₂, subst, ◌∙◌, arith, append_assoc, append-nil, Some, None, filter, find, slice_get, is_some, AllByRecursion, cases_lt, lt-ltb, le-ltb, le-leb, lt-leb, take-map, drop_more, drop_all, slice_get_within, get_or_from_slice_get, nat_tests, State, CellName, Hook, Task, Monitor, Reduces, Substitutes, Goal, is_after, Ascend, Shoen, found_at, AreNumbered, ShoenView, TaskKind, GoalView, shoen_view, shoen_page, kind_of, goal_view, goal_page, Reading, Fits, Account, Means, meaning, task_with, goal_with, shoen_with, state_of, IsKept, shoen_shown, kind_shown, goal_shown, same_goal, none-some, slice_get_cases, cases_Bool, Life, Forgotten, is_forgotten}
+use Rattle.kl1_user_account.proofs.Words.{◌≡◌, ◌⊎◌, inl, inr, ℕ, zero, suc, ◌+◌, ◌-◌, ◌<◌, ◌≤◌, nat_lt, ◌&&◌, Bool, true, false, if◌then◌else◌, List, [], ◌∷◌, ◌++◌, map, take, drop, refl, sym, ap, ap₂, subst, ◌∙◌, arith, append_assoc, append-nil, Some, None, filter, find, slice_get, is_some, AllByRecursion, cases_lt, lt-ltb, le-ltb, le-leb, lt-leb, take-map, drop_more, drop_all, slice_get_within, get_or_from_slice_get, nat_tests, State, CellName, Hook, Task, Monitor, Reduces, Substitutes, Goal, is_after, Ascend, Shoen, found_at, AreNumbered, ShoenView, TaskKind, GoalView, shoen_view, shoen_page, kind_of, goal_view, goal_page, Reading, Fits, Account, Means, meaning, task_with, goal_with, shoen_with, local_state, IsKept, shoen_shown, kind_shown, goal_shown, same_goal, none-some, slice_get_cases, cases_Bool, Life, Forgotten, is_forgotten}
 use Rattle.std.proofs.Common.{nat_le}
 use Rattle.std.proofs.Math.Seq.{take-nil}
 use Rattle.std.proofs.lemmas.Simd.{map-map}
@@ -149,12 +149,12 @@ pub one_gone : (ss xs : List (Shoen CellName)) (h : Shoen CellName) → ss ≡ h
 one_gone ss xs h e gone = ap (filter is_kept_shoen) e ∙ ap (λ b. if b then h ∷ filter is_kept_shoen xs else filter is_kept_shoen xs) (gone_life h.life gone)
 
 -- a page of shoens is shown as they are kept
-pub shoens_shown : (f : Reading) (a : Account) (from count : ℕ) (views : List ShoenView) → AreNumbered 0 a.shoens → views ≡ map (shoen_shown a.shoens a.work a.goals) (take count (filter is_kept_shoen (drop (from - 1) a.shoens))) → views ≡ shoen_page (state_of f a) from count
+pub shoens_shown : (f : Reading) (a : Account) (from count : ℕ) (views : List ShoenView) → AreNumbered 0 a.shoens → views ≡ map (shoen_shown a.shoens a.work a.goals) (take count (filter is_kept_shoen (drop (from - 1) a.shoens))) → views ≡ shoen_page (local_state f a) from count
 shoens_shown f a from count views up e =
     let k = shoen_with (meaning f a.held) in
     let shown = shoen_shown a.shoens a.work a.goals in
     let page = filter is_kept_shoen (drop (from - 1) a.shoens) in
-    let view = shoen_view (state_of f a) in
+    let view = shoen_view (local_state f a) in
     let test = λ (h : model.Shoen). nat_le from h.number && is_kept h.life in
     let low = λ (h : Shoen CellName). nat_le from h.number in
     let all : from - 1 - 0 ≡ from - 1 = omega arith in
@@ -176,9 +176,9 @@ from_after : (from n : ℕ) → 0 < n → nat_le from n ≡ nat_lt (from - 1) n
 from_after from n some = grind (arith, nat_tests)
 
 -- a page of goals is shown as they are kept
-pub goals_shown : {hooks : List Hook} {known put : ℕ} (f : Reading) (a : Account) (from count : ℕ) (views : List GoalView) → IsKept a hooks known put → Fits a.names f → views ≡ map goal_shown (take count (filter (is_after (from - 1)) a.goals)) → views ≡ goal_page (state_of f a) from count
+pub goals_shown : {hooks : List Hook} {known put : ℕ} (f : Reading) (a : Account) (from count : ℕ) (views : List GoalView) → IsKept a hooks known put → Fits a.names f → views ≡ map goal_shown (take count (filter (is_after (from - 1)) a.goals)) → views ≡ goal_page (local_state f a) from count
 goals_shown f a from count views i fits e =
-    let s = state_of f a in
+    let s = local_state f a in
     let t = meaning f a.held in
     let test = λ (g : model.Goal). nat_le from g.number in
     let page = filter (is_after (from - 1)) a.goals in

@@ -61,7 +61,7 @@ pub record IsOf (s : Answer) (g : Given) (nodes : ℕ) : Type 0 where
   pub new : s.new ≡ g.new
   pub nodes : s.nodes ≡ nodes
 
-pub may_answer_it : (a : Account) (c : Counted) (n report : ℕ) (goal : Term) (texts : List (List ℕ)) (s : Answer) (g : Given) → {nodes : ℕ} → IsAnswerable a.rules a.held a.shoens a.names c n report goal g nodes s.variable → ((f : Reading) → HasNames (state_of f a) a.names c) →
+pub may_answer_it : (a : Account) (c : Counted) (n report : ℕ) (goal : Term) (texts : List (List ℕ)) (s : Answer) (g : Given) → {nodes : ℕ} → IsAnswerable a.rules a.held a.labels a.shoens a.names c n report goal g nodes s.variable → ((f : Reading) → HasNames (state_of f a) a.names c) →
     texts ≡ with_names [] (names_of g.code) → IsNameList texts → IsOf s g nodes → MayBring a texts (Answers s)
 may_answer_it a c n report goal texts s g {nodes} may counts are list of =
     let at = counts (λ x. []) in

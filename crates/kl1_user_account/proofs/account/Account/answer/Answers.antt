@@ -6,10 +6,10 @@ use Rattle.kl1_user_account.proofs.account.Account.answer.Goals.{In-Coded}
 use Rattle.kl1_user_account.proofs.account.Account.answer.Goals as goal
 
 pub code_of_answer-requires-clause-known : goal.code_of_answer-requires-clause-known
-code_of_answer-requires-clause-known g c = c.self.inside.labels
+code_of_answer-requires-clause-known g c = c.self.invariant.0.labels
 
 pub code_of_answer-requires-clause-some : goal.code_of_answer-requires-clause-some
-code_of_answer-requires-clause-some g c = c.self.inside.some
+code_of_answer-requires-clause-some g c = c.self.invariant.0.some
 
 pub returns-in-Refused-clause-step : goal.returns-in-Refused-clause-step
 returns-in-Refused-clause-step g c =
