@@ -29,6 +29,7 @@ pub mod Words
 pub mod Givings
 pub mod GivenShapes
 mod KnownAs
+mod KnownViews
 pub mod ToldAmong
 mod GivenGoals
 mod ForgetSteps

@@ -3,7 +3,7 @@ use Rattle.kl1_user_account.proofs.Words.{◌≡◌, ℕ, suc, ◌+◌, ◌≤�
 use Rattle.std.proofs.Common.{Option, Some, None}
 use Rattle.kl1_text.specs.declared.cell_name.CellName.{CellName}
 use Rattle.kl1_store.specs.Held.{Held}
-use Rattle.kl1_machine.specs.Effects.{Spelled}
+use Rattle.kl1_user_effects.specs.declared.spelled.Spelled.{Spelled}
 use Rattle.kl1_machine.specs.Naming.{IsBoundLast, Patches}
 use Rattle.kl1_machine.specs.Reducing.{Reduces}
 use Rattle.kl1_user_account.specs.Keeping.{AreLabels}
