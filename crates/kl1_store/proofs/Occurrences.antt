@@ -1,8 +1,9 @@
 -- Which variables are in a term.
-use Rattle.std.proofs.Common.{◌≡◌, ℕ, zero, suc, ◌<◌, ◌≤◌, Bool, true, false, List, [], ◌∷◌, refl, sym, ap, ◌∙◌, ◌⊎◌, inl, inr, arith}
+use Rattle.std.proofs.Common.{◌≡◌, ℕ, zero, suc, ◌<◌, ◌≤◌, Bool, true, false, List, [], ◌∷◌, ◌++◌, ◌-◌, map, length, take, drop, get_or, refl, sym, ap, ◌∙◌, ◌⊎◌, inl, inr, arith, append_assoc, append-nil}
+use Rattle.std.proofs.lemmas.List.{take_all}
 use Rattle.std.specs.Prelude.{nat_lt}
-use Rattle.std.proofs.lemmas.Bool.{either, cases_eq, ne_eqb, le-ltb, lt-ltb, false≢true}
-use Rattle.kl1_model.specs.Term.{Term, occurs, occurs_in, size, sizes}
+use Rattle.std.proofs.lemmas.Bool.{cases_eq, ne_eqb, le-ltb, lt-ltb, false≢true}
+use Rattle.kl1_model.specs.Term.{occurs, occurs_in, size, sizes}
 use Rattle.kl1_store.specs.declared.cell.Cell.{Cell}
 use Rattle.kl1_store.specs.declared.cell.Cell.TheVariants.{Variable, Integer, Atom, Structure}
 use Rattle.kl1_store.specs.declared.levels.Levels.{Levels}
@@ -14,7 +15,7 @@ use Rattle.kl1_store.specs.Tasks.{Lifted}
 use Rattle.kl1_store.proofs.Terms.{term_of-Structure, term_of-unbound, term_of-Integer, term_of-Atom, arguments_in}
 use Rattle.kl1_store.proofs.Meetings.{named}
 use Rattle.kl1_store.proofs.Lists.{found_unbound}
-use Rattle.kl1_store.proofs.Levelling.{stands, size-positive, or-both, free_above, lies_at_0}
+use Rattle.kl1_store.proofs.Levelling.{either, stands, size-positive, or-both, free_above, lies_at_0}
 
 -- ---- what is no variable that stands for itself is in no term
 
@@ -31,10 +32,10 @@ other_each f h n k (x ∷ xs) inside small each =
 
 other_walked : {N : Type 0} (f : N → List ℕ) (h : Held N) (n k : ℕ) (y : Cell N) → IsFormed h → IsNoVariable h n → IsIn h y → IsWalked h y → size (term_of f h y) ≤ suc k →
     ((x : Cell N) → IsIn h x → size (term_of f h x) ≤ k → occurs n (term_of f h x) ≡ false) → occurs n (term_of f h y) ≡ false
-other_walked f h n k (Variable w) p no inside walked small each = ap (occurs n) (term_of-unbound f h w walked) ∙ ne_eqb n w (no w (omega arith) walked)
-other_walked f h n k (Integer i) p no inside walked small each = ap (occurs n) (term_of-Integer f h i)
-other_walked f h n k (Atom a) p no inside walked small each = ap (occurs n) (term_of-Atom f h a)
-other_walked f h n k (Structure s) p no inside walked small each =
+other_walked f h n k (Variable w) p apart inside walked small each = ap (occurs n) (term_of-unbound f h w walked) ∙ ne_eqb n w (apart w (omega arith) walked)
+other_walked f h n k (Integer i) p apart inside walked small each = ap (occurs n) (term_of-Integer f h i)
+other_walked f h n k (Atom a) p apart inside walked small each = ap (occurs n) (term_of-Atom f h a)
+other_walked f h n k (Structure s) p apart inside walked small each =
     let r = named h s inside in
     let e = term_of-Structure f h s r.0 p r.1 in
     let big = ap size e in
@@ -44,14 +45,14 @@ at_0 : {N : Type 0} (h : Held N) → IsLevel h (λ v. 0) (λ s. 0)
 at_0 h = record { arguments = λ s i x got. lies_at_0 _ _ 0 x refl; values = λ v. lies_at_0 _ _ 0 (found v h.bindings) refl }
 
 other_within : {N : Type 0} (f : N → List ℕ) (h : Held N) (n k : ℕ) (x : Cell N) → IsFormed h → IsNoVariable h n → IsIn h x → size (term_of f h x) ≤ k → occurs n (term_of f h x) ≡ false
-other_within f h n zero x p no inside small = absurd (omega (arith, size-positive (term_of f h x)))
-other_within f h n (suc k) x p no inside small =
+other_within f h n zero x p apart inside small = absurd (omega (arith, size-positive (term_of f h x)))
+other_within f h n (suc k) x p apart inside small =
     let s = stands h (λ v. 0) (λ s. 0) 0 x p (at_0 h) inside (lies_at_0 _ _ 0 x refl) in
     ap (occurs n) (sym (s.means f))
-    ∙ other_walked f h n k s.cell p no s.inside s.walked (omega (arith, ap size (s.means f))) (λ y there less. other_within f h n k y p no there less)
+    ∙ other_walked f h n k s.cell p apart s.inside s.walked (omega (arith, ap size (s.means f))) (λ y there less. other_within f h n k y p apart there less)
 
 pub other_free : {N : Type 0} (f : N → List ℕ) (h : Held N) (n : ℕ) (x : Cell N) → IsFormed h → IsNoVariable h n → IsIn h x → false ≡ occurs n (term_of f h x)
-other_free f h n x p no inside = sym (other_within f h n (size (term_of f h x)) x p no inside (omega arith))
+other_free f h n x p apart inside = sym (other_within f h n (size (term_of f h x)) x p apart inside (omega arith))
 
 -- a number beyond the variables, and one of a variable that is bound
 pub beyond : {N : Type 0} (h : Held N) (n : ℕ) → h.variables ≤ n → IsNoVariable h n
@@ -91,3 +92,19 @@ sees_alone {N = N} h old new x none lifted = record { here = lifted.here; seen =
     by : (v : ℕ) → (level_at new.variables.items v ≡ level_at old.variables.items v) ⊎ ((f : N → List ℕ) → occurs v (term_of f h x) ≡ true) → (level_at new.variables.items v ≡ 0) ⊎ ((f : N → List ℕ) → occurs v (term_of f h x) ≡ true)
     by v (inl same) = inl (same ∙ ap (λ l. level_at l v) none)
     by v (inr q) = inr q
+
+-- ---- of numbers, one after another
+
+-- the first of those that are left is noted
+pub notes_first : (g : ℕ → Bool) (now after all : List Bool) (rest : List ℕ) → 1 ≤ length rest → after ≡ now ++ g (get_or rest 0 0) ∷ [] → now ++ map g rest ≡ all → after ++ map g (take (length rest - 1) (drop 1 rest)) ≡ all
+notes_first g now after all [] le pushed is = absurd (omega arith)
+notes_first g now after all (m ∷ more) le pushed is =
+    ap (λ (ns : List ℕ). after ++ map g ns) (take_all (length (m ∷ more) - 1) more (omega arith))
+    ∙ ap (λ (bs : List Bool). bs ++ map g more) pushed
+    ∙ append_assoc now (g m ∷ []) (map g more)
+    ∙ is
+
+-- none is left
+pub notes_all : (g : ℕ → Bool) (now all : List Bool) (rest : List ℕ) → length rest < 1 → now ++ map g rest ≡ all → now ≡ all
+notes_all g now all [] few is = sym (append-nil now) ∙ is
+notes_all g now all (m ∷ more) few is = absurd (omega arith)

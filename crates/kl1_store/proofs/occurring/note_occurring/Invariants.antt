@@ -7,7 +7,7 @@ use Rattle.kl1_store.proofs.occurring.note_occurring.Given as goal
 
 abbrev pub invariant-loop-rest : goal.invariant-loop-rest
 invariant-loop-rest g l = record {
-  found : (f : g.N → List ℕ) →
+  found : (f : g.row.N.Denot → List ℕ) →
       let in_term : ℕ → Bool = λ n. occurs n (term_of f l.cells.held l.cell) in
       l.found.items ++ map in_term l.rest ≡ l.fn.found.items ++ map in_term l.numbers;
   levels : AreLevels l.cells.held l.levels;
