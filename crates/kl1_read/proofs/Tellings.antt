@@ -26,21 +26,21 @@ a_number : (n k : ℕ) (b : Bool) → (if b then Some n else None) ≡ Some k �
 a_number n k true e = let same : k ≡ n = cc in record { value = same; low = refl }
 a_number n k false e = absurd (cc)
 
-first_no : (a b c : Bool) → a ≡ false → (a && (b && c)) ≡ false
+first_no : (a b c : Bool) → a ≡ false → ((a && b) && c) ≡ false
 first_no true b c e = absurd (cc)
 first_no false b c e = refl
 
-second_no : (a b c : Bool) → b ≡ false → (a && (b && c)) ≡ false
+second_no : (a b c : Bool) → b ≡ false → ((a && b) && c) ≡ false
 second_no true true c e = absurd (cc)
 second_no true false c e = refl
 second_no false b c e = refl
 
-third_no : (a b c : Bool) → c ≡ false → (a && (b && c)) ≡ false
+third_no : (a b c : Bool) → c ≡ false → ((a && b) && c) ≡ false
 third_no true true c e = e
 third_no true false c e = refl
 third_no false b c e = refl
 
-all_yes : (a b c : Bool) → a ≡ true → b ≡ true → c ≡ true → (a && (b && c)) ≡ true
+all_yes : (a b c : Bool) → a ≡ true → b ≡ true → c ≡ true → ((a && b) && c) ≡ true
 all_yes true true true p q r = refl
 all_yes true true false p q r = r
 all_yes true false c p q r = q
@@ -113,8 +113,8 @@ told_one numbers seen v n finds t = record {
 
 -- another one has its number among these
 pub untold_one : {S : Type 0} (numbers : HashMap (List ℕ) ℕ S) (seen now : List (List ℕ)) (v : List ℕ) (n : ℕ) → is_told v ≡ false → IsNumbered numbers seen now v n → IsTold numbers seen now v (FIRST_UNTOLD + (n - 1))
-untold_one numbers seen now v n no i = record {
+untold_one numbers seen now v n other i = record {
   finds = i.finds;
-  value = ap (λ m. FIRST_UNTOLD + (m - 1)) i.value ∙ sym (ap (λ b. if b then number_of (drop 1 v) else FIRST_UNTOLD + (variable_number seen v - 1)) no);
-  seen = i.seen ∙ sym (ap (λ (b : Bool). if b then seen else seen_after seen v) no);
+  value = ap (λ m. FIRST_UNTOLD + (m - 1)) i.value ∙ sym (ap (λ b. if b then number_of (drop 1 v) else FIRST_UNTOLD + (variable_number seen v - 1)) other);
+  seen = i.seen ∙ sym (ap (λ (b : Bool). if b then seen else seen_after seen v) other);
 }

@@ -1,25 +1,22 @@
-use Rattle.std.proofs.Common.{◌≡◌, drop, sym, ap, ◌∙◌}
+use Rattle.std.proofs.Common.{drop, sym, ap, ◌∙◌}
 use Rattle.std.specs.Prelude.{bytes_eq, codes, decimal, ◌++◌}
 use Rattle.kl1_read.proofs.Tellings.{too_great, is_zero, other_spelling, tells}
 use Rattle.kl1_read.proofs.telling.told_by.Goals as goal
 
-digits : (c : goal.After-decimal_up_to) → c.behind_first.result.now ≡ drop 1 c.args.text.now
-digits c = c.behind_first.ensures ∙ ap (drop 1) (c.as_slice.ensures ∙ c.unpacked-bytes.ensures.value)
-
 pub returns-in_default : goal.returns-in_default
 returns-in_default c =
-    too_great c.args.text.now c.behind_first.result.now c.decimal_up_to.result (digits (goal.at.returns-in_default c).After-decimal_up_to) c.decimal_up_to.ensures c.in_default.is
+    too_great c.args.text.now c.behind_first.result.now c.decimal_up_to.result (c.behind_first.ensures ∙ ap (drop 1) (c.as_slice.ensures ∙ c.unpacked-bytes.ensures.value)) c.decimal_up_to.ensures c.in_default.is
 
 pub returns-then-number-eq0 : goal.returns-then-number-eq0
 returns-then-number-eq0 c =
-    is_zero c.args.text.now c.behind_first.result.now c.decimal_up_to.result c.in-Some.number (digits (goal.at.returns-then-number-eq0 c).After-decimal_up_to) c.decimal_up_to.ensures c.in-Some.is c.if-number-eq0.true
+    is_zero c.args.text.now c.behind_first.result.now c.decimal_up_to.result c.in-Some.number (c.behind_first.ensures ∙ ap (drop 1) (c.as_slice.ensures ∙ c.unpacked-bytes.ensures.value)) c.decimal_up_to.ensures c.in-Some.is c.if-number-eq0.true
 
 pub returns-then-not-is_underscored : goal.returns-then-not-is_underscored
 returns-then-not-is_underscored c =
-    other_spelling c.args.text.now c.behind_first.result.now c.decimal_up_to.result c.in-Some.number (digits (goal.at.returns-then-not-is_underscored c).After-decimal_up_to) c.decimal_up_to.ensures c.in-Some.is
+    other_spelling c.args.text.now c.behind_first.result.now c.decimal_up_to.result c.in-Some.number (c.behind_first.ensures ∙ ap (drop 1) (c.as_slice.ensures ∙ c.unpacked-bytes.ensures.value)) c.decimal_up_to.ensures c.in-Some.is
     (ap (λ bs. bytes_eq bs (codes "_" ++ decimal c.in-Some.number)) (sym (c.as_slice-2.ensures ∙ c.unpacked-bytes.ensures.value)) ∙ sym c.is_underscored.ensures ∙ c.if-not-is_underscored.true)
 
 pub returns : goal.returns
 returns c =
-    tells c.args.text.now c.behind_first.result.now c.decimal_up_to.result c.in-Some.number (digits (goal.at.returns c).After-decimal_up_to) c.decimal_up_to.ensures c.in-Some.is c.if-number-eq0.false
+    tells c.args.text.now c.behind_first.result.now c.decimal_up_to.result c.in-Some.number (c.behind_first.ensures ∙ ap (drop 1) (c.as_slice.ensures ∙ c.unpacked-bytes.ensures.value)) c.decimal_up_to.ensures c.in-Some.is c.if-number-eq0.false
     (ap (λ bs. bytes_eq bs (codes "_" ++ decimal c.in-Some.number)) (sym (c.as_slice-2.ensures ∙ c.unpacked-bytes.ensures.value)) ∙ sym c.is_underscored.ensures ∙ c.if-not-is_underscored.false)
