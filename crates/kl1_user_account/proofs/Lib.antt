@@ -30,6 +30,7 @@ pub mod Givings
 pub mod GivenShapes
 mod KnownAs
 mod KnownViews
+mod KnownWaits
 pub mod ToldAmong
 mod GivenGoals
 mod ForgetSteps

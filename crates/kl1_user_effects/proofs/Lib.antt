@@ -22,3 +22,4 @@ pub mod Spares
 pub mod Messages
 pub mod Words
 pub mod Relabelling
+pub mod AwaitedRenamed
