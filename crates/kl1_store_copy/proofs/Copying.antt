@@ -1,8 +1,8 @@
 -- Cells that were copied stand for what they were copied from, one structure after another.
-use Rattle.std.proofs.Common.{◌≡◌, ℕ, zero, suc, ◌+◌, ◌<◌, ◌≤◌, ◌==◌, Bool, true, false, List, [], ◌∷◌, ◌++◌, length, take, get_or, set, refl, sym, ap, ◌∙◌, ◌⊎◌, inl, inr, arith, subst, ℤ, length-append}
+use Rattle.std.proofs.Common.{◌≡◌, ℕ, zero, suc, ◌+◌, ◌-◌, replicate, ◌<◌, ◌≤◌, ◌==◌, Bool, true, false, List, [], ◌∷◌, ◌++◌, length, take, get_or, set, refl, sym, ap, ◌∙◌, ◌⊎◌, inl, inr, arith, subst, ℤ, length-append}
 use Rattle.std.specs.Prelude.{Some, slice_get}
 use Rattle.std.proofs.lemmas.Bool.{cases_eq}
-use Rattle.std.proofs.lemmas.List.{get_or-set_same, get_or-set_other}
+use Rattle.std.proofs.lemmas.List.{length-replicate, get_or-set_same, get_or-set_other}
 use Rattle.kl1_model.specs.Term.{Term, variable, integer, atom, structure, Terms, none, more, each_substituted}
 use Rattle.kl1_store.specs.declared.cell.Cell.{Cell}
 use Rattle.kl1_store.specs.declared.cell.Cell.TheVariants.{Variable, Integer, Atom, Structure}
@@ -242,3 +242,20 @@ copied_none {N = N} old new back variables structures empty nothing no_variable 
       placed = λ w lt. absurd (omega (arith, lt));
       stand = λ s p e. absurd (no_structure s p e);
     }))
+
+-- zeros note nothing
+zeros : (n : ℕ) → HasNone (replicate n 0)
+zeros zero i p e = absurd (omega (arith, e))
+zeros (suc n) zero p e = absurd (omega (arith, e))
+zeros (suc n) (suc i) p e = zeros n i p e
+
+-- a list that was filled with 0 has noted nothing
+pub filled_none : (xs : List ℕ) (n k : ℕ) → xs ≡ [] → k ≡ 0 → HasNone (take n xs ++ replicate (n - k) 0)
+filled_none [] zero k e z = zeros (zero - k)
+filled_none [] (suc n) k e z = zeros (suc n - k)
+filled_none (y ∷ xs) n k e z = absurd (cc)
+
+pub filled_length : (xs : List ℕ) (n k : ℕ) → xs ≡ [] → k ≡ 0 → length (take n xs ++ replicate (n - k) 0) ≡ n
+filled_length [] zero k e z = length-replicate (zero - k) 0 ∙ omega arith
+filled_length [] (suc n) k e z = length-replicate (suc n - k) 0 ∙ omega (arith, z)
+filled_length (y ∷ xs) n k e z = absurd (cc)
