@@ -1,8 +1,8 @@
 -- Cells that were copied stand for what they were copied from, one structure after another.
-use Rattle.std.proofs.Common.{◌≡◌, ℕ, zero, suc, ◌+◌, ◌-◌, replicate, ◌<◌, ◌≤◌, ◌==◌, Bool, true, false, List, [], ◌∷◌, ◌++◌, length, take, get_or, set, refl, sym, ap, ◌∙◌, ◌⊎◌, inl, inr, arith, subst, ℤ, length-append}
+use Rattle.std.proofs.Common.{◌≡◌, ℕ, zero, suc, ◌+◌, ◌-◌, replicate, drop, ◌<◌, ◌≤◌, ◌==◌, Bool, true, false, List, [], ◌∷◌, ◌++◌, length, take, get_or, set, refl, sym, ap, ◌∙◌, ◌⊎◌, inl, inr, arith, subst, ℤ, length-append}
 use Rattle.std.specs.Prelude.{Some, slice_get}
 use Rattle.std.proofs.lemmas.Bool.{cases_eq}
-use Rattle.std.proofs.lemmas.List.{length-replicate, get_or-set_same, get_or-set_other}
+use Rattle.std.proofs.lemmas.List.{length-replicate, take_all, get_or-set_same, get_or-set_other}
 use Rattle.kl1_model.specs.Term.{Term, variable, integer, atom, structure, Terms, none, more, each_substituted}
 use Rattle.kl1_store.specs.declared.cell.Cell.{Cell}
 use Rattle.kl1_store.specs.declared.cell.Cell.TheVariants.{Variable, Integer, Atom, Structure}
@@ -259,3 +259,13 @@ pub filled_length : (xs : List ℕ) (n k : ℕ) → xs ≡ [] → k ≡ 0 → le
 filled_length [] zero k e z = length-replicate (zero - k) 0 ∙ omega arith
 filled_length [] (suc n) k e z = length-replicate (suc n - k) 0 ∙ omega (arith, z)
 filled_length (y ∷ xs) n k e z = absurd (cc)
+
+-- ---- cells one after another
+
+pub first_in : {N : Type 0} (h : Held N) (x : Cell N) (xs : List (Cell N)) → 1 ≤ length xs → x ≡ get_or xs 0 x → AreIn h xs → IsIn h x
+first_in h x [] le e a = absurd (omega (arith, le))
+first_in {N = N} h x (y ∷ xs) le e a = let P : Cell N → Type 0 = λ z. IsIn h z in subst P (sym e) a.0
+
+pub rest_in : {N : Type 0} (h : Held N) (xs : List (Cell N)) → 1 ≤ length xs → AreIn h xs → AreIn h (take (length xs - 1) (drop 1 xs))
+rest_in h [] le a = absurd (omega (arith, le))
+rest_in {N = N} h (x ∷ xs) le a = let P : List (Cell N) → Type 0 = λ l. AreIn h l in subst P (sym (take_all (length (x ∷ xs) - 1) xs (omega arith))) a.1
