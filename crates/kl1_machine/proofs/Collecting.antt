@@ -61,14 +61,14 @@ aim_moved f old new back (Some m) x y s =
     ap₂ pair (ap (renamed (numbered back)) (term_of-Atom f new m) ∙ sym (term_of-Atom f old m)) (s.means f)
 
 -- a task with the cell at a place
-task_moved : (f : Reading) (old new : Held CellName) (back : List ℕ) (t : Task CellName) (xs ys : List (Cell CellName)) (at : ℕ) →
+pub task_moved : (f : Reading) (old new : Held CellName) (back : List ℕ) (t : Task CellName) (xs ys : List (Cell CellName)) (at : ℕ) →
     StandEach old new back (goals.cell_of t ++ xs) (drop at ys) → task_renamed (numbered back) (task_with (meaning f new) (goals.task_at ys at t)) ≡ task_with (meaning f old) t
 task_moved f old new back Monitor xs ys at s = refl
 task_moved f old new back (Reduces q) xs ys at s = ap reduces (aim_moved f old new back q.module_name q.cell (get_or ys at q.cell) (first_stands old new back q.cell xs ys at q.cell s))
 task_moved f old new back (Substitutes x) xs ys at s = ap substitutes ((first_stands old new back x xs ys at x s).means f)
 
 -- the cells after those of a task
-after_task : (old new : Held CellName) (back : List ℕ) (t : Task CellName) (xs ys : List (Cell CellName)) (at : ℕ) →
+pub after_task : (old new : Held CellName) (back : List ℕ) (t : Task CellName) (xs ys : List (Cell CellName)) (at : ℕ) →
     StandEach old new back (goals.cell_of t ++ xs) (drop at ys) → StandEach old new back xs (drop (at + length (goals.cell_of t)) ys)
 after_task old new back Monitor xs ys at s = let P : ℕ → Type 0 = λ n. StandEach old new back xs (drop n ys) in subst P (omega arith) s
 after_task old new back (Reduces q) xs ys at s = others_stand old new back q.cell xs ys at (at + 1) refl s
@@ -83,7 +83,7 @@ goals_moved f old new back (g ∷ gs) ys at s =
     ap₂ (λ (k : model.Goal) (ks : List model.Goal). k ∷ ks) (ap goal (task_moved f old new back g.task (goals.cells_of gs) ys at s))
     (goals_moved f old new back gs ys (at + length (goals.cell_of g.task)) (after_task old new back g.task (goals.cells_of gs) ys at s))
 
-task_inside : (old new : Held CellName) (back : List ℕ) (t : Task CellName) (xs ys : List (Cell CellName)) (at : ℕ) →
+pub task_inside : (old new : Held CellName) (back : List ℕ) (t : Task CellName) (xs ys : List (Cell CellName)) (at : ℕ) →
     StandEach old new back (goals.cell_of t ++ xs) (drop at ys) → IsTaskIn new (goals.task_at ys at t)
 task_inside old new back Monitor xs ys at s = tt
 task_inside old new back (Reduces q) xs ys at s = (first_stands old new back q.cell xs ys at q.cell s).inside
@@ -150,7 +150,7 @@ pub record ShoenStands (old new : Held CellName) (back : List ℕ) (h : Shoen Ce
   pub kept : StandEach old new back (shoens.cells_kept h.origin ++ xs) (drop (at + 2) ys)
   pub rest : StandEach old new back xs (drop (at + length (shoens.cells_in h)) ys)
 
-shoen_stands : (old new : Held CellName) (back : List ℕ) (h : Shoen CellName) (xs ys : List (Cell CellName)) (at : ℕ) →
+pub shoen_stands : (old new : Held CellName) (back : List ℕ) (h : Shoen CellName) (xs ys : List (Cell CellName)) (at : ℕ) →
     StandEach old new back (shoens.cells_in h ++ xs) (drop at ys) → ShoenStands old new back h xs ys at
 shoen_stands old new back h xs ys at s =
     let more = shoens.cells_kept h.origin ++ xs in

@@ -34,3 +34,4 @@ pub mod Calm
 pub mod Words
 mod Collecting
 mod Rehanging
+mod Settling

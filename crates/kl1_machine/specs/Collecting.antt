@@ -1,7 +1,8 @@
 -- A machine whose store was exchanged for a copy of what its goals and shoens reach.
-use Rattle.std.specs.Prelude.{◌≡◌, ℕ, List, length, find, Option, Some, Contains}
+use Rattle.std.specs.Prelude.{◌≡◌, ℕ, List, [], length, find, Option, Some, Contains}
 use Rattle.kl1_model.specs.State.{State}
 use Rattle.kl1_store.specs.Hooks.{Hook}
+use Rattle.kl1_store.specs.Sound.{IsFormed}
 use Rattle.kl1_store_copy.specs.Numbers.{AreRising, numbered}
 use Rattle.kl1_store_copy.specs.Copies.{StandEach, HasEnds, HangsIn}
 use Rattle.kl1_text.specs.declared.cell_name.CellName.{CellName}
@@ -22,11 +23,13 @@ use Rattle.kl1_machine.specs.Rested.{IsRested}
 abbrev pub HangsForEach : List Hook → List (Goal CellName) → List ℕ → List Hook → Type 0
 HangsForEach hooks goals back copied = (k : Hook) (g : Goal CellName) → Contains hooks k → find (has_number k.number) goals ≡ Some g → HangsIn back copied k.variable k.number
 
--- a copy of what a machine reaches: the cells of its goals and its shoens stand in it
+-- a copy of what a machine reaches: the cells of its goals and its shoens stand in it, and no variable of it is bound
 pub record IsCopyFor (m : Machine) (c : MachineCopy) : Type 0 where
   pub goals : StandEach m.store.held c.store.held c.back.items (goals.cells_of m.goals.goals) c.goals.items
   pub shoens : StandEach m.store.held c.store.held c.back.items (shoens.cells_of m.shoens.shoens) c.shoens.items
   pub hung : HangsForEach m.store.hooks m.goals.goals c.back.items c.store.hooks
+  pub formed : IsFormed c.store.held
+  pub bare : c.store.held.bindings ≡ []
   pub count : length c.back.items ≡ c.store.held.variables
   pub rising : AreRising 0 c.back.items
   pub ends : HasEnds m.store.held.variables c.back.items

@@ -23,3 +23,4 @@ pub mod Messages
 pub mod Words
 pub mod Relabelling
 pub mod AwaitedRenamed
+pub mod Unrenamed

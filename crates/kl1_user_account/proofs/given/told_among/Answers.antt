@@ -24,7 +24,7 @@ loop-label-preserved c =
     let flag : c.flag_at-stands.result ≡ get_or found i false = c.flag_at-stands.ensures ∙ ap (λ (k : ℕ). get_or found k false) so.place in
     let by : IsToldBy c.args.asked (get_or vs i 0) (get_or found i false) c.is_variable_of-held.result r = subst (λ b. IsToldBy c.args.asked (get_or vs i 0) b c.is_variable_of-held.result r) flag c.told_by-variable.ensures in
     let on = told_on h labels c.args.asked ns vs found i c.loop-label.told.items c.loop-label.new c.loop-label.tells_gone _ c.is_variable_of-held.result r c.requires.known.rising c.mark-held.ensures.formed c.requires.inside c.requires.found c.requires.numbers
-        c.loop-label-test.true c.is_variable_of-held.ensures.value c.is_variable_of-held.ensures.small refl by so.so in
+    c.loop-label-test.true c.is_variable_of-held.ensures.value c.is_variable_of-held.ensures.small refl by so.so in
     record {
       place = (let p = so.place in omega (arith, p));
       few = (let f = so.few in let m = new_few c.loop-label.new r in let e = c.new_with.ensures in omega (arith, f, m, e));
