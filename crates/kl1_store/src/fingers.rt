@@ -104,7 +104,7 @@ impl<N: NameValue> Fingers<N> {
     pub(crate) fn all(&self) -> &[Finger<N>]
         ensures { (h : Held N) → AreFingers N.built h self.now → All (IsFinger N.built h) result.now }
     {
-        &self.places
+        self.places.as_slice()
     }
 
     /// Takes in a place that is right now, when this much is held. If memory is refused, it doesn't.

@@ -32,7 +32,7 @@ pub struct Copied<N: NameValue> {
 impl<N: NameValue> Copied<N> {
     /// Copies what was found of a store. If more is needed than was found, or it was found in another order, nothing comes of it.
     pub fn of(alloc: Global, old: &Store<N>, survey: Survey) -> Result<Option<Self>, AllocError>
-        ensures { IfOk result (IfSome (λ copied. IsCopyOf old.now.held copied × (copied.store.hooks ≡ []))) }
+        ensures { IfOk result (λ found. IfSome found (λ copied. IsCopyOf old.now.held copied × (copied.store.hooks ≡ []))) }
     {
         let mut copied = Copied::blank(alloc, old, survey.order.len())?;
         copied.put_variables(old, &survey.variables)?;

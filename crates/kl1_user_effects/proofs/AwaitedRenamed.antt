@@ -187,5 +187,5 @@ term_waits g rules modules t up =
     let head = awaited_at_head t in
     let call = awaited_by_call modules (call_of t) in
     let built = awaited_by_built_in rules t in
-    ap₂ (λ (x y : List ℕ). x ++ y) (head_waits g t) (ap₂ (λ (x y : List ℕ). x ++ y) (call_waits g modules t up) (built_in_waits g rules t) ∙ sym (map-append g call built))
-    ∙ sym (map-append g head (call ++ built))
+    ap₂ (λ (x y : List ℕ). x ++ y) (ap₂ (λ (x y : List ℕ). x ++ y) (head_waits g t) (call_waits g modules t up) ∙ sym (map-append g head call)) (built_in_waits g rules t)
+    ∙ sym (map-append g (head ++ call) built)

@@ -1,5 +1,5 @@
 -- What a term is by what it is with other numbers for its variables, which are in the same order.
-use Rattle.std.proofs.Common.{◌≡◌, ℕ, Bool, true, false, List, [], ◌∷◌, refl, sym, ap, ap₂, ◌∙◌}
+use Rattle.std.proofs.Common.{◌≡◌, ℕ, Bool, true, false, if◌then◌else◌, List, [], ◌∷◌, refl, sym, ap, ap₂, ◌∙◌}
 use Rattle.std.specs.Prelude.{codes, map, find, Option, Some, None, option_map, is_some, ⊤}
 use Rattle.kl1_model.specs.declared.rules.Rules.{Rules}
 use Rattle.kl1_model.specs.declared.number.Number.{Number}
@@ -137,6 +137,7 @@ pub record IsMade (g : ℕ → ℕ) (t : Term) (f : List ℕ) (us : Terms) : Typ
   pub are : each_renamed g arguments ≡ us
 
 pub structure_from : (g : ℕ → ℕ) (t : Term) (f : List ℕ) (us : Terms) → renamed g t ≡ structure f us → IsMade g t f us
+unfolding name_in arguments_in
 structure_from g (variable v) f us e = absurd (cc)
 structure_from g (integer i) f us e = absurd (cc)
 structure_from g (atom a) f us e = absurd (cc)
@@ -151,6 +152,7 @@ pub record AreMade (g : ℕ → ℕ) (ts : Terms) (u : Term) (us : Terms) : Type
   pub rest_is : each_renamed g rest ≡ us
 
 pub more_from : (g : ℕ → ℕ) (ts : Terms) (u : Term) (us : Terms) → each_renamed g ts ≡ more u us → AreMade g ts u us
+unfolding first_in others_in
 more_from g none u us e = absurd (cc)
 more_from g (more t ts) u us e = record { first = t; rest = ts; is = refl; first_is = ap first_in e; rest_is = ap others_in e }
 
@@ -198,15 +200,23 @@ six_from g ts o e =
     let four = more_from g three.rest o.allowance _ three.rest_is in
     let five = more_from g four.rest o.control _ four.rest_is in
     let last = more_from g five.rest o.reports none five.rest_is in
-    let O : Term → Term → Term → Term → Term → Term → ExecuteArguments = λ a b c d x y. record { goal = a; low = b; high = c; allowance = d; control = x; reports = y } in
+    let end : last.rest ≡ none = none_from g last.rest last.rest_is in
+    let sixth : five.rest ≡ more last.first none = last.is ∙ ap (more last.first) end in
+    let fifth : four.rest ≡ more five.first (more last.first none) = five.is ∙ ap (more five.first) sixth in
+    let fourth : three.rest ≡ more four.first (more five.first (more last.first none)) = four.is ∙ ap (more four.first) fifth in
+    let third : two.rest ≡ more three.first (more four.first (more five.first (more last.first none))) = three.is ∙ ap (more three.first) fourth in
+    let second : one.rest ≡ more two.first (more three.first (more four.first (more five.first (more last.first none)))) = two.is ∙ ap (more two.first) third in
+    let own : ExecuteArguments = record { goal = one.first; low = two.first; high = three.first; allowance = four.first; control = five.first; reports = last.first } in
     record {
-      order = O one.first two.first three.first four.first five.first last.first;
-      is = one.is ∙ ap (more one.first) (two.is ∙ ap (more two.first) (three.is ∙ ap (more three.first) (four.is ∙ ap (more four.first) (five.is ∙ ap (more five.first) (last.is ∙ ap (more last.first) (none_from g last.rest last.rest_is))))));
-      order_is =
-          ap₂ (λ a b. O a b (renamed g three.first) (renamed g four.first) (renamed g five.first) (renamed g last.first)) one.first_is two.first_is
-          ∙ (ap₂ (λ c d. O o.goal o.low c d (renamed g five.first) (renamed g last.first)) three.first_is four.first_is
-          ∙ ap₂ (λ x y. O o.goal o.low o.high o.allowance x y) five.first_is last.first_is);
+      order = own;
+      is = one.is ∙ ap (more one.first) second;
+      order_is = orders_same (order_renamed g own) o one.first_is two.first_is three.first_is four.first_is five.first_is last.first_is;
     }
+  where
+    orders_same : (p q : ExecuteArguments) → p.goal ≡ q.goal → p.low ≡ q.low → p.high ≡ q.high → p.allowance ≡ q.allowance → p.control ≡ q.control → p.reports ≡ q.reports → p ≡ q
+    orders_same p q a b c d x y =
+        let O : Term → Term → Term → Term → Term → Term → ExecuteArguments = λ g l h n k r. record { goal = g; low = l; high = h; allowance = n; control = k; reports = r } in
+        ap₂ (λ g l. O g l p.high p.allowance p.control p.reports) a b ∙ (ap₂ (λ h n. O q.goal q.low h n p.control p.reports) c d ∙ ap₂ (λ k r. O q.goal q.low q.high q.allowance k r) x y)
 
 -- ---- misuses
 

@@ -26,7 +26,7 @@ impl Machine {
     /// A copy of what the goals and the shoens reach; `None` if the search left something out.
     pub fn copied(&self, alloc: Global) -> Result<Option<MachineCopy>, AllocError>
         requires { IsMachine self.now }
-        ensures { IfOk result (IfSome (IsCopyFor self.now)) }
+        ensures { IfOk result (λ found. IfSome found (IsCopyFor self.now)) }
     {
         let mut goals = Vec::new(alloc);
         self.goals.add_cells(&mut goals)?;

@@ -3,6 +3,12 @@ use Rattle.kl1_store.specs.Slots.{Trail}
 use Rattle.kl1_store.proofs.Placed.{length-bindings_in}
 use Rattle.kl1_store.proofs.bindings.Bindings.bytes.Goals as goal
 
+pub overflow_mul-bound : goal.overflow_mul-bound
+overflow_mul-bound g c = let s = c.self.inside in omega (arith, c.len-2.ensures, s.variables.ok.0, c.self.invariant.paired, s.values.few)
+
+pub overflow_add-result : goal.overflow_add-result
+overflow_add-result g c = let s = c.self.inside in omega (arith, c.len.ensures, s.places.ok.0, c.self.invariant.few, c.len-2.ensures, s.variables.ok.0, c.self.invariant.paired, s.values.few)
+
 pub returns-clause-least : goal.returns-clause-least
 returns-clause-least g c =
     let s = c.self.inside in
@@ -18,11 +24,6 @@ returns-clause-most g c =
     let bindings = ap (λ (v : Trail g.row.N.Denot). length v.bindings) c.self.view_is in
     let many = length-bindings_in s.variables.items s.values.cells c.self.invariant.paired in
     omega (arith, variables, bindings, many, c.self.invariant.paired, c.len.ensures, s.places.ok.0, c.len-2.ensures, s.variables.ok.0, c.bytes.ensures.most)
-
-pub returns-clause-few : goal.returns-clause-few
-returns-clause-few g c =
-    let variables = ap (λ (v : Trail g.row.N.Denot). v.variables) c.self.view_is in
-    omega (arith, variables, c.self.invariant.few)
 
 pub returns-clause-few_bindings : goal.returns-clause-few_bindings
 returns-clause-few_bindings g c =

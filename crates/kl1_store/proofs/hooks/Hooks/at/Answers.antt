@@ -4,8 +4,8 @@ use Rattle.kl1_store.specs.Chains.{Hung}
 use Rattle.kl1_store.proofs.Chaining.{hook_there, length-hooks_in}
 use Rattle.kl1_store.proofs.hooks.Hooks.at.Goals as goal
 
-pub link_at-requires : goal.link_at-requires
-link_at-requires c =
+pub link_at-link-requires : goal.link_at-link-requires
+link_at-link-requires c =
     let e = ap (λ (k : Hung). length k.hooks) c.self.view_is in
     omega (arith, e, c.requires, length-hooks_in c.self.inside.links.items)
 
