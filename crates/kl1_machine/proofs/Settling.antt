@@ -172,9 +172,11 @@ lift_from : ℕ → ℕ → ℕ
 lift_from n v = if nat_lt v n then v else suc v
 
 low_stays : (n v : ℕ) → v < n → lift_from n v ≡ v
+unfolding lift_from
 low_stays n v lt = ap (λ b. if b then v else suc v) (lt-ltb v n lt)
 
 high_rises : (n v : ℕ) → n ≤ v → lift_from n v ≡ suc v
+unfolding lift_from
 high_rises n v le = ap (λ b. if b then v else suc v) (le-ltb v n le)
 
 lifts_rise : (n : ℕ) → IsIncreasing (lift_from n)
@@ -187,7 +189,7 @@ lifts_rise n v w lt = by (cases_lt v n) (cases_lt w n)
     by (inr a) (inr b) = omega (arith, high_rises n v a, high_rises n w b, lt)
 
 -- those that stay are below
-AreBelow : ℕ → List ℕ → Type 0
+abbrev AreBelow : ℕ → List ℕ → Type 0
 AreBelow n ws = AllByRecursion (λ w. w < n) ws
 
 first_same : (v w : ℕ) (vs ws : List ℕ) → v ∷ vs ≡ w ∷ ws → v ≡ w
