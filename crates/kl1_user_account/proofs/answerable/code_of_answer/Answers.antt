@@ -1,4 +1,4 @@
-use Rattle.kl1_user_account.proofs.Words.{◌≡◌, true, [], sym, ap, ap₂, ◌∙◌, Option, Some, None, may_answer, State, Transition, unless, Refusal, Asking, origin_in, refusals_of, refused_or, has_room_to_answer_beside}
+use Rattle.kl1_user_account.proofs.Words.{◌≡◌, true, false, [], sym, ap, ap₂, ◌∙◌, Option, Some, None, may_answer, State, Transition, unless, Refusal, Asking, origin_in, refusals_of, refused_or, has_room_to_answer_beside}
 use Rattle.kl1_user_account.proofs.AnswerSteps.{IsJudged, by_right, refused_nowhere, refused_ended, refused_unasked, refused_gone, answer_steps, answerable}
 use Rattle.kl1_user_account.proofs.StartChecks.{may_answer_is}
 use Rattle.kl1_user_account.proofs.answerable.code_of_answer.Goals.{After-origin_at, After-refusal_of}
@@ -60,15 +60,15 @@ returns-in-None-clause-answers c =
     refused_unasked m.rules m.store.held c.args.labels.now m.shoens.shoens m.names.names c.args.counted c.args.number c.args.report c.args.goal.now c.in-Some.origin c.in_ok-given.given c.structures_of-nodes.result c.names.result.now c.has_room_to_answer-has_room.result
     (rw c.in-None.is at (judged (goal.at.returns-in-None-clause-answers c).After-refusal_of None (rw c.in_default-refusal_of.is at c.refusal_of.ensures.refuses)))
 
-pub returns-then-tells_gone-clause-answers : goal.returns-then-tells_gone-clause-answers
-returns-then-tells_gone-clause-answers c =
+pub returns-then-given-clause-answers : goal.returns-then-given-clause-answers
+returns-then-given-clause-answers c =
     let m = c.args.machine.now in
     refused_gone m.rules m.store.held c.args.labels.now m.shoens.shoens m.names.names c.args.counted c.args.number c.args.report c.args.goal.now c.in-Some.origin c.in-Some-asked.asked c.in_ok-given.given c.structures_of-nodes.result c.names.result.now c.has_room_to_answer-has_room.result
-    (rw c.in-Some-asked.is at (judged (goal.at.returns-then-tells_gone-clause-answers c).After-refusal_of None (rw c.in_default-refusal_of.is at c.refusal_of.ensures.refuses))) c.if-tells_gone.true
+    (rw c.in-Some-asked.is at (judged (goal.at.returns-then-given-clause-answers c).After-refusal_of None (rw c.in_default-refusal_of.is at c.refusal_of.ensures.refuses))) c.if-given.true
 
-pub returns-clause-answers : goal.returns-clause-answers
-returns-clause-answers c =
+pub returns-else-given-clause-answers : goal.returns-else-given-clause-answers
+returns-else-given-clause-answers c =
     let m = c.args.machine.now in
     answerable m.rules m.store.held c.args.labels.now m.shoens.shoens m.names.names c.args.counted c.args.number c.args.report c.args.goal.now c.in-Some.origin c.in-Some-asked.asked c.in_ok-given.given c.structures_of-nodes.result c.names.result.now c.has_room_to_answer-has_room.result
-    (rw c.in-Some-asked.is at (judged (goal.at.returns-clause-answers c).After-refusal_of None (rw c.in_default-refusal_of.is at c.refusal_of.ensures.refuses))) (c.refusal_of.ensures.free c.in_default-refusal_of.is)
-    (may_answer_is m.rules c.args.number c.args.report c.args.goal.now (sym c.in_ok-may_answer.ensures ∙ c.if-not-branch.false)).0 (rw c.in-Some-asked.is at c.asked_at-asked.ensures.inside).new c.if-tells_gone.false
+    (rw c.in-Some-asked.is at (judged (goal.at.returns-else-given-clause-answers c).After-refusal_of None (rw c.in_default-refusal_of.is at c.refusal_of.ensures.refuses))) (c.refusal_of.ensures.free c.in_default-refusal_of.is)
+    (may_answer_is m.rules c.args.number c.args.report c.args.goal.now (sym c.in_ok-may_answer.ensures ∙ c.if-not-branch.false)).0 (rw c.in-Some-asked.is at c.asked_at-asked.ensures.inside).new c.if-given.false

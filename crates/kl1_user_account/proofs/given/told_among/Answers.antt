@@ -27,8 +27,8 @@ loop-label-preserved c =
     c.loop-label-test.true c.is_variable_of-held.ensures.value c.is_variable_of-held.ensures.small refl by so.so in
     record {
       place = (let p = so.place in omega (arith, p));
-      few = (let f = so.few in let m = new_few c.loop-label.new r in let e = c.new_with.ensures in omega (arith, f, m, e));
-      so = told_moved h labels c.args.asked (take (i + 1) ns) _ _ _ _ _ _ c.in_ok-push.ensures.ok c.new_with.ensures c.gone_with.ensures on;
+      few = (let f = so.few in let m = new_few c.loop-label.new r in let e = c.new_with-new.ensures in omega (arith, f, m, e));
+      so = told_moved h labels c.args.asked (take (i + 1) ns) _ _ _ _ _ _ c.in_ok-push.ensures.items c.new_with-new.ensures c.gone_with-tells_gone.ensures on;
     }
 
 pub returns : goal.returns

@@ -24,10 +24,10 @@ pub returns-in_default-clause-step : goal.returns-in_default-clause-step
 returns-in_default-clause-step g c = rw (← c.self.view_is) (λ f fits.
     reports_read f (kept_in c.self.inside) c.args.number c.args.from None (sym c.are_numbers.ensures ∙ c.if-not-are_numbers.false) (let le = c.if-from-lt1.false in omega (arith, le)) (sym c.origin_at.ensures ∙ c.in_default.is))
 
-pub returns-then-from-le-origin-clause-step : goal.returns-then-from-le-origin-clause-step
-returns-then-from-le-origin-clause-step g c = rw (← c.self.view_is) (λ f fits.
+pub returns-then-from-origin-clause-step : goal.returns-then-from-origin-clause-step
+returns-then-from-origin-clause-step g c = rw (← c.self.view_is) (λ f fits.
     reports_gone f (kept_in c.self.inside) c.args.number c.args.from c.in-Some.origin (sym c.are_numbers.ensures ∙ c.if-not-are_numbers.false) (let le = c.if-from-lt1.false in omega (arith, le)) (sym c.origin_at.ensures ∙ c.in-Some.is)
-    (let le = c.if-from-le-origin.true in omega (arith, le)))
+    (let le = c.if-from-origin.true in omega (arith, le)))
 
 pub returns-clause-step : goal.returns-clause-step
 returns-clause-step g c =
@@ -35,6 +35,6 @@ returns-clause-step g c =
     rw (← c.self.view_is) (λ f fits.
     let R : List (List ℕ) → Transition = λ ts. record { state = state_of f (kept_in c.self.inside); reply = listed ts } in
     reports_there f (kept_in c.self.inside) c.args.number c.args.from c.in-Some.origin (sym c.are_numbers.ensures ∙ c.if-not-are_numbers.false) (let le = c.if-from-lt1.false in omega (arith, le)) (sym c.origin_at.ensures ∙ c.in-Some.is)
-    (let lt = c.if-from-le-origin.false in omega (arith, lt))
+    (let lt = c.if-from-origin.false in omega (arith, lt))
     ∙ ap (λ (ts : List Term). R (map cut_print (take MOST_LISTED ts))) (sym (told_from f (kept_in c.self.inside) c.in-Some.origin (c.args.from - 1 - c.in-Some.origin.forgotten) c.nth_cell-first.result (c.nth_cell-first.ensures.elements f fits.reads)))
     ∙ ap R (sym (texts f fits)))
