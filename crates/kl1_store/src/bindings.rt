@@ -80,9 +80,10 @@ impl<N: NameValue> Bindings<N> {
         ensures few { self.now.variables ≤ most }
         ensures few_bindings { length self.now.bindings ≤ most }
     {
+        let values = self.values.bytes();
         let variables = self.places.len() as u64 * 4;
         let bound = self.variables.len() as u64 * 4;
-        variables + bound + self.values.bytes()
+        values + variables + bound
     }
 
     /// A new variable, unbound.

@@ -136,7 +136,7 @@ reports_gone e n count x u goes room g rested keeps =
       name = refl;
       work = refl;
       steps = λ f reads.
-          let R : Held CellName → Transition = λ h. record { state = with_entry (change_shoen n (with_left count (meaning f h x)) (state_of f e.account)); reply = forgot } in
+          let R : Held CellName → Transition = λ h. record { state = with_entry (change_shoen n (with_left count (meaning f h x)) (local_state f e.account)); reply = forgot } in
           goes f reads ∙ ap R held;
       changes = λ f reads s. reports_go f s m n count x;
       looks = g.reschedules;

@@ -21,9 +21,10 @@ impl<N: NameValue> Store<N> {
     pub fn bytes(&self) -> u64
         ensures { IsBytes self.now result }
     {
+        let cells = self.cells.bytes();
         let heads = self.cells.variables() as u64 * 4;
         let hooks = self.hooks.len() as u64 * 16;
-        self.cells.bytes() + heads + hooks
+        cells + heads + hooks
     }
 
     /// A variable and the number that was hung on it, by the place of this hook, from 0: the oldest stands first.
