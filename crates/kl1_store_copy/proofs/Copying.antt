@@ -2,12 +2,13 @@
 use Rattle.std.proofs.Common.{◌≡◌, ℕ, zero, suc, ◌+◌, ◌-◌, replicate, drop, ◌<◌, ◌≤◌, ◌==◌, Bool, true, false, List, [], ◌∷◌, ◌++◌, length, take, get_or, set, refl, sym, ap, ◌∙◌, ◌⊎◌, inl, inr, arith, subst, ℤ, length-append}
 use Rattle.std.specs.Prelude.{Some, slice_get}
 use Rattle.std.proofs.lemmas.Bool.{cases_eq}
-use Rattle.std.proofs.lemmas.List.{length-replicate, take_all, get_or-set_same, get_or-set_other}
+use Rattle.std.proofs.lemmas.List.{length-replicate, take_all, take_more_set, drop-set-lt, length-set, get_or-set_same, get_or-set_other}
 use Rattle.kl1_model.specs.Term.{Term, variable, integer, atom, structure, Terms, none, more, each_substituted}
 use Rattle.kl1_store.specs.declared.cell.Cell.{Cell}
 use Rattle.kl1_store.specs.declared.cell.Cell.TheVariants.{Variable, Integer, Atom, Structure}
-use Rattle.kl1_store.specs.Held.{Shape, Held, nothing_held, with_variable, with_structure, is_bound, IsWalked, IsIn, AreIn, AreWithin, arguments_of, shape_arguments}
+use Rattle.kl1_store.specs.Held.{Shape, Held, nothing_held, with_variable, with_structure, is_bound, IsWalked, IsIn, AreIn, AreWithin, arguments_of, shape_arguments, arguments_held}
 use Rattle.kl1_store.specs.Meaning.{term_of, terms_of}
+use Rattle.kl1_store.specs.Places.{arguments_among}
 use Rattle.kl1_store.specs.Sound.{IsFormed}
 use Rattle.kl1_store.proofs.Meanings.{some-same}
 use Rattle.kl1_store.proofs.Growing.{IsWithin-more, IsFormed-structure, IsFormed-variable}
@@ -269,3 +270,56 @@ first_in {N = N} h x (y ∷ xs) le e a = let P : Cell N → Type 0 = λ z. IsIn 
 pub rest_in : {N : Type 0} (h : Held N) (xs : List (Cell N)) → 1 ≤ length xs → AreIn h xs → AreIn h (take (length xs - 1) (drop 1 xs))
 rest_in h [] le a = absurd (omega (arith, le))
 rest_in {N = N} h (x ∷ xs) le a = let P : List (Cell N) → Type 0 = λ l. AreIn h l in subst P (sym (take_all (length (x ∷ xs) - 1) xs (omega arith))) a.1
+
+-- ---- cells in whose place others are put
+
+-- all but the first of what is left
+rest_dropped : {X : Type 0} (xs : List X) (k : ℕ) → drop (suc k) xs ≡ drop 1 (drop k xs)
+rest_dropped [] zero = refl
+rest_dropped [] (suc k) = refl
+rest_dropped (x ∷ xs) zero = refl
+rest_dropped (x ∷ xs) (suc k) = rest_dropped xs k
+
+same_rest : {X : Type 0} (xs now : List X) (k : ℕ) → drop k now ≡ drop k xs → drop (k + 1) now ≡ drop (k + 1) xs
+same_rest xs now k e =
+    let n : k + 1 ≡ suc k = omega arith in
+    ap (λ m. drop m now) n ∙ (rest_dropped now k ∙ (ap (drop 1) e ∙ (sym (rest_dropped xs k) ∙ ap (λ m. drop m xs) (sym n))))
+
+first_left : {X : Type 0} (xs : List X) (k : ℕ) (x : X) → k < length xs → drop k xs ≡ get_or xs k x ∷ drop (suc k) xs
+first_left [] k x lt = absurd (omega (arith, lt))
+first_left (y ∷ xs) zero x lt = refl
+first_left (y ∷ xs) (suc k) x lt = first_left xs k x (omega (arith, lt))
+
+head_same : {X : Type 0} (x y : X) (xs ys : List X) → x ∷ xs ≡ y ∷ ys → x ≡ y
+head_same x y xs ys e = cc
+
+there : {X : Type 0} (xs : List X) (k : ℕ) (x d : X) → k < length xs → x ≡ get_or xs k d → slice_get xs k ≡ Some x
+there [] k x d lt e = absurd (omega (arith, lt))
+there (y ∷ xs) zero x d lt e = ap Some (sym e)
+there (y ∷ xs) (suc k) x d lt e = there xs k x d (omega (arith, lt)) e
+
+-- a cell that wasn't exchanged is the one that was there
+pub still_there : {X : Type 0} (xs now : List X) (k : ℕ) (x : X) → k < length now → length now ≡ length xs → drop k now ≡ drop k xs → x ≡ get_or now k x → slice_get xs k ≡ Some x
+still_there xs now k x lt long left is =
+    let low : k < length xs = omega (arith, lt, long) in
+    let same : get_or now k x ≡ get_or xs k x = head_same (get_or now k x) (get_or xs k x) (drop (suc k) now) (drop (suc k) xs) (sym (first_left now k x lt) ∙ (left ∙ first_left xs k x low)) in
+    there xs k x x low (is ∙ same)
+
+-- the cells so far were moved, and the others are left
+pub record AreMoved {N : Type 0} (old new : Held N) (back : List ℕ) (xs now : List (Cell N)) (k : ℕ) : Type 0 where
+  pub moved : StandEach old new back (take k xs) (take k now)
+  pub left : drop k now ≡ drop k xs
+  pub length : length now ≡ length xs
+
+pub moved_more : {N : Type 0} (old new : Held N) (back : List ℕ) (xs now : List (Cell N)) (k : ℕ) (x y : Cell N) → k < length now → x ≡ get_or now k x → StandsFor old new back x y → AreMoved old new back xs now k →
+    AreMoved old new back xs (set now k y) (k + 1)
+moved_more old new back xs now k x y lt is stands so = record {
+  moved = stand_next old new back xs (take k now) (take (k + 1) (set now k y)) k x y (still_there xs now k x lt so.length so.left is) so.moved stands (take_more_set now k y lt);
+  left = drop-set-lt (k + 1) now k y (omega arith) ∙ same_rest xs now k so.left;
+  length = length-set now k y ∙ so.length;
+}
+
+-- as many arguments stand one after another as structures have
+pub many_among : {N : Type 0} (ss : List (Shape N)) → length (arguments_among ss) ≡ arguments_held ss
+many_among [] = refl
+many_among (s ∷ ss) = length-append s.arguments (arguments_among ss) ∙ ap (λ n. length s.arguments + n) (many_among ss)

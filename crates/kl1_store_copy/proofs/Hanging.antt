@@ -1,7 +1,9 @@
 -- What hangs on the variables of a copy.
-use Rattle.std.proofs.Common.{◌≡◌, ℕ, suc, ◌<◌, List, length, get_or, sym, ap, ◌∙◌, arith, subst}
-use Rattle.std.specs.Prelude.{Contains}
+use Rattle.std.proofs.Common.{◌≡◌, ℕ, suc, ◌<◌, List, [], ◌∷◌, ◌++◌, length, get_or, sym, ap, ◌∙◌, arith, subst}
+use Rattle.std.specs.Prelude.{Contains, Result, Ok, Err, OnOk, OnErr}
+use Rattle.std.proofs.lemmas.List.Elements.{Contains-append_left}
 use Rattle.kl1_store.specs.Hooks.{Hook}
+use Rattle.kl1_store_hooks.specs.Hanging.{AreAmong}
 use Rattle.kl1_store_copy.specs.Numbers.{numbered}
 use Rattle.kl1_store_copy.specs.Copies.{HangsIn}
 
@@ -22,3 +24,8 @@ hangs_there back variables hooks v number place placed at hung =
     let P : ℕ → Type 0 = λ k. Contains hooks (record { variable = k; number = number }) in
     let here : suc place ≡ suc w = sym at ∙ ap (λ k. get_or variables k 0) (sym is) ∙ placed w lt in
     subst P (omega (arith, here)) hung
+
+-- what hung hangs still, whether one more was hung or that was refused
+pub among_hung : {X E : Type 0} (r : Result X E) (old new : List Hook) (k : Hook) → OnOk r (new ≡ old ++ k ∷ []) → OnErr r (new ≡ old) → AreAmong old new
+among_hung (Ok u) old new k ok err = λ h c. let P : List Hook → Type 0 = λ l. Contains l h in subst P (sym ok) (Contains-append_left old (k ∷ []) h c)
+among_hung (Err e) old new k ok err = λ h c. let P : List Hook → Type 0 = λ l. Contains l h in subst P (sym err) c

@@ -18,29 +18,29 @@ each_renumbered back ts = each_substituted (λ w. variable (numbered back w)) ts
 
 -- ---- terms that get the same numbers are the same
 
-variable_in : Term → ℕ
+abbrev variable_in : Term → ℕ
 variable_in (variable v) = v
 variable_in (integer i) = 0
 variable_in (atom f) = 0
 variable_in (structure f ts) = 0
 
-name_in : Term → List ℕ
+abbrev name_in : Term → List ℕ
 name_in (variable v) = []
 name_in (integer i) = []
 name_in (atom f) = []
 name_in (structure f ts) = f
 
-arguments_in : Term → Terms
+abbrev arguments_in : Term → Terms
 arguments_in (variable v) = none
 arguments_in (integer i) = none
 arguments_in (atom f) = none
 arguments_in (structure f ts) = ts
 
-first_in : Terms → Term
+abbrev first_in : Terms → Term
 first_in none = atom []
 first_in (more t ts) = t
 
-others_in : Terms → Terms
+abbrev others_in : Terms → Terms
 others_in none = none
 others_in (more t ts) = ts
 

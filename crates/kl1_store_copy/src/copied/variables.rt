@@ -2,8 +2,8 @@
 
 ghost use Rattle.std.specs.Prelude.{◌≡◌, ◌+◌, ◌<◌, ◌≤◌, [], ◌∷◌, ◌++◌, true, length, IfOk, OnOk};
 ghost use Rattle.kl1_store.specs.Held.{Held};
-ghost use Rattle.kl1_store_copy.specs.Copies.{IsSoFar, HasNone, HasEnds};
-ghost use Rattle.kl1_store_copy.specs.Numbers.{after};
+ghost use Rattle.kl1_store_copy.specs.Copies.{IsSoFar, HasNone, HasEnds, AreUpTo};
+ghost use Rattle.kl1_store_copy.specs.Numbers.{after, AreRising};
 
 use crate::copied::{Copied, LEAST};
 use kl1_store::Store;
@@ -56,10 +56,34 @@ impl<N: NameValue> Copied<N> {
     {
         let count = old.mark().sizes.variables;
         for variable in 0..count {
-            if is_copied(found, variable, count) {
-                self.put_variable(variable)?;
-            }
+            self.put_if_found(found, variable, count)?;
         }
+        Ok(())
+    }
+
+    /// Copies a variable of `count` if it was found, or is the first or the last, into a copy in which those before it were gone over. After
+    /// an error the copy is of no use.
+    fn put_if_found(
+        &mut self,
+        found: &Vec<bool>,
+        variable: u32,
+        count: u32,
+    ) -> Result<(), AllocError>
+        requires none { HasNone self.old.structures.items }
+        requires within { variable < count }
+        requires rising { AreRising 0 self.old.back.items }
+        requires upto { AreUpTo variable count self.old.back.items }
+        requires fits { variable < length self.old.variables.items }
+        ensures copy { OnOk result ((old : Held N) → IsSoFar old self.old → IsSoFar old self.new) }
+        ensures upto { OnOk result (AreUpTo (variable + 1) count self.new.back.items) }
+        ensures fits { length self.new.variables.items ≡ length self.old.variables.items }
+        ensures structures { self.new.structures ≡ self.old.structures }
+        ensures hooks { self.new.store.hooks ≡ self.old.store.hooks }
+    {
+        if !is_copied(found, variable, count) {
+            return Ok(());
+        }
+        self.put_variable(variable)?;
         Ok(())
     }
 

@@ -1,7 +1,7 @@
-use Rattle.std.proofs.Common.{◌≡◌, List, ℕ, refl, sym, ap, ◌∙◌, subst, arith, false≢true}
+use Rattle.std.proofs.Common.{◌≡◌, ◌+◌, List, ℕ, refl, sym, ap, ◌∙◌, subst, arith}
 use Rattle.kl1_store.specs.declared.point.Point.{Point}
-use Rattle.kl1_store_copy.specs.Copies.{HasNone, AreUpTo}
-use Rattle.kl1_store_copy.proofs.Rising.{upto_none, upto_push, upto_skip, upto_all}
+use Rattle.kl1_store_copy.specs.Copies.{HasNone, HasEnds, AreUpTo}
+use Rattle.kl1_store_copy.proofs.Rising.{upto_none, upto_all}
 use Rattle.kl1_store_copy.proofs.copied.Copied.put_variables.Goals as goal
 
 pub loop-variable-init : goal.loop-variable-init
@@ -10,50 +10,42 @@ loop-variable-init g c = record {
   none = c.requires.none;
   upto = upto_none _ c.args.self.now.back.items c.requires.back;
   fits = c.requires.fits;
-  count = ap (λ (p : Point). p.sizes.variables) c.mark.ensures.point;
+  count = ap (λ (p : Point). p.sizes.variables) c.mark-count.ensures.point;
   structures = refl;
   hooks = refl;
 }
 
-pub put_variable-requires-clause-none : goal.put_variable-requires-clause-none
-put_variable-requires-clause-none g c = c.loop-variable.invariant.none
+pub put_if_found-requires-clause-none : goal.put_if_found-requires-clause-none
+put_if_found-requires-clause-none g c = c.loop-variable.invariant.none
 
-pub put_variable-requires-clause-above : goal.put_variable-requires-clause-above
-put_variable-requires-clause-above g c = c.loop-variable.invariant.upto.below
+pub put_if_found-requires-clause-rising : goal.put_if_found-requires-clause-rising
+put_if_found-requires-clause-rising g c = c.loop-variable.invariant.copy.rising
 
-pub put_variable-requires-clause-fits : goal.put_variable-requires-clause-fits
-put_variable-requires-clause-fits g c = let i = c.loop-variable.invariant in omega (arith, i.fits, i.count, c.loop-variable-test.true)
+pub put_if_found-requires-clause-upto : goal.put_if_found-requires-clause-upto
+put_if_found-requires-clause-upto g c = c.loop-variable.invariant.upto
 
-pub loop-variable-preserved-then-is_copied : goal.loop-variable-preserved-then-is_copied
-loop-variable-preserved-then-is_copied g c =
-    let i = c.loop-variable.invariant in
-    let v = c.loop-variable.variable in
-    let old = c.args.old.now.held in
-    record {
-      copy = c.in_ok-put_variable.ensures.copy old i.copy;
-      none = rw c.put_variable.ensures.structures i.none;
-      upto = subst (λ (l : List ℕ). AreUpTo (v + 1) _ l) (sym c.in_ok-put_variable.ensures.back) (upto_push v _ c.loop-variable.self.back.items i.copy.rising i.upto);
-      fits = c.put_variable.ensures.fits ∙ i.fits;
-      count = i.count;
-      structures = c.put_variable.ensures.structures ∙ i.structures;
-      hooks = c.put_variable.ensures.hooks ∙ i.hooks;
-    }
+pub put_if_found-requires-clause-fits : goal.put_if_found-requires-clause-fits
+put_if_found-requires-clause-fits g c = let i = c.loop-variable.invariant in omega (arith, i.fits, i.count, c.loop-variable-test.true)
 
 pub loop-variable-preserved : goal.loop-variable-preserved
 loop-variable-preserved g c =
     let i = c.loop-variable.invariant in
-    let v = c.loop-variable.variable in
+    let old = c.args.old.now.held in
     record {
-      copy = i.copy;
-      none = i.none;
-      upto = upto_skip v _ c.loop-variable.self.back.items (λ e. false≢true (sym c.if-is_copied.false ∙ c.is_copied.ensures.first e)) (λ e. false≢true (sym c.if-is_copied.false ∙ c.is_copied.ensures.last e)) i.upto;
-      fits = i.fits;
+      copy = c.in_ok-put_if_found.ensures.copy old i.copy;
+      none = rw c.put_if_found.ensures.structures i.none;
+      upto = c.in_ok-put_if_found.ensures.upto;
+      fits = c.put_if_found.ensures.fits ∙ i.fits;
       count = i.count;
-      structures = i.structures;
-      hooks = i.hooks;
+      structures = c.put_if_found.ensures.structures ∙ i.structures;
+      hooks = c.put_if_found.ensures.hooks ∙ i.hooks;
     }
 
 pub returns-clause-ends : goal.returns-clause-ends
 returns-clause-ends g c =
     let i = c.loop-variable.invariant in
-    upto_all c.args.old.now.held.variables c.loop-variable.self.back.items i.copy.rising (rw i.count i.upto)
+    let back = c.loop-variable.self.back.items in
+    let count = c.mark-count.result.sizes.variables in
+    let at : c.loop-variable.variable ≡ count = omega (arith, c.loop-variable-test.false, i.upto.below) in
+    let all : AreUpTo count count back = subst (λ (n : ℕ). AreUpTo n count back) at i.upto in
+    subst (λ (n : ℕ). HasEnds n back) i.count (upto_all count back i.copy.rising all)
