@@ -13,7 +13,7 @@ use Rattle.kl1_store_copy.specs.Copies.{renumbered, StandsFor}
 use Rattle.kl1_store_copy.proofs.Rising.{one_place}
 
 -- arguments of the copy with the store's numbers for their variables
-each_renumbered : List ℕ → Terms → Terms
+abbrev each_renumbered : List ℕ → Terms → Terms
 each_renumbered back ts = each_substituted (λ w. variable (numbered back w)) ts
 
 -- ---- terms that get the same numbers are the same
