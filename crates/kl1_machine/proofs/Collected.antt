@@ -56,6 +56,10 @@ pub shoens_in : (h : Held CellName) (ss : List (Shoen CellName)) → AreShoensIn
 shoens_in h [] i = tt
 shoens_in h (s ∷ ss) i = AreWithin-append h.variables (length h.structures) (shoens.cells_in s) (shoens.cells_of ss) (shoen_in h s i.0) (shoens_in h ss i.1)
 
+-- a list that began as none, and to which these were added
+pub started : (xs ys zs : List (Cell CellName)) → xs ≡ [] → zs ≡ xs ++ ys → zs ≡ ys
+started xs ys zs empty added = added ∙ ap (λ ws. ws ++ ys) empty
+
 -- ---- as many cells as there were
 
 pub as_many : (old new : Held CellName) (back : List ℕ) (xs ys : List (Cell CellName)) → StandEach old new back xs ys → length ys ≡ length xs
