@@ -1,9 +1,8 @@
 -- A machine with a copy in place of its store: it is one still, it is what it was, and it stands as it should.
-use Rattle.std.proofs.Common.{◌≡◌, ℕ, suc, ◌≤◌, ◌<◌, List, [], ◌∷◌, ◌++◌, length, refl, sym, ap, ◌∙◌, subst, arith}
+use Rattle.std.proofs.Common.{◌≡◌, ℕ, suc, ◌≤◌, ◌<◌, List, [], ◌∷◌, ◌++◌, length, refl, sym, ap, ◌∙◌, subst}
 use Rattle.std.specs.Global.{Vec}
 use Rattle.std.specs.List.{AllByRecursion}
 use Rattle.std.specs.Prelude.{Option, Some, None}
-use Rattle.kl1_model.specs.State.{State}
 use Rattle.kl1_text.specs.declared.cell_name.CellName.{CellName}
 use Rattle.kl1_store.specs.declared.cell.Cell.{Cell}
 use Rattle.kl1_store.specs.declared.point.Point.{Point}
@@ -29,7 +28,6 @@ use Rattle.kl1_store_copy.specs.Numbers.{numbered}
 use Rattle.kl1_machine.specs.declared.machine.Machine.{Machine}
 use Rattle.kl1_machine.specs.declared.machine.collecting.MachineCopy.{MachineCopy}
 use Rattle.kl1_machine.specs.Machines.{made, IsMachine}
-use Rattle.kl1_machine.specs.Rested.{IsRested}
 use Rattle.kl1_machine.specs.Collecting.{IsCopyFor, IsCollected, HangsForEach}
 use Rattle.kl1_machine.proofs.Collecting.{worked_moved, made_moved, upto_with, first_with, may_step_with}
 use Rattle.kl1_machine.proofs.Settling.{settled_moved}

@@ -182,6 +182,8 @@ fn put_each<N: NameValue>(shoens: &mut TrackedList<Shoen<N>>, cells: &[Cell<N>])
     ensures room { shoens.new.room ≡ shoens.old.room }
     ensures changes { shoens.old.changes ≤ shoens.new.changes }
 {
+    // Only for the proof: the cells are no more than a word counts.
+    let _count = cells.len();
     let mut at = 0;
     for place in 0..shoens.items().len() {
         let shoen = item_at(shoens.items(), place);

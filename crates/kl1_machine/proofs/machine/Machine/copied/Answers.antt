@@ -1,4 +1,3 @@
-use Rattle.kl1_machine.proofs.Words.{◌≡◌, List, Cell, CellName, sym, ap, ◌∙◌, ◌++◌, [], Machine}
 use Rattle.kl1_goals.specs.Cells as goals
 use Rattle.kl1_shoen.specs.Cells as shoens
 use Rattle.kl1_machine.proofs.Collected.{started, goals_in, shoens_in, found_copy}
@@ -17,7 +16,7 @@ reach_each-requires-2 c =
     rw (c.deref-2.ensures.value, all) (shoens_in m.store.held m.shoens.shoens c.requires.inside.shoens)
 
 pub move_each-requires-clause-copy : goal.move_each-requires-clause-copy
-move_each-requires-clause-copy c = let found = rw c.in-Some.is at c.in_ok-of.ensures in found.0.copied
+move_each-requires-clause-copy c = let found = rw c.in-Some.is at c.in_ok-copied.ensures in found.0.copied
 
 pub move_each-requires-clause-inside : goal.move_each-requires-clause-inside
 move_each-requires-clause-inside c =
@@ -26,7 +25,7 @@ move_each-requires-clause-inside c =
     rw all (goals_in m.store.held m.goals.goals c.requires.inside.goals)
 
 pub move_each-requires-2-clause-copy : goal.move_each-requires-2-clause-copy
-move_each-requires-2-clause-copy c = let found = rw c.in-Some.is at c.in_ok-of.ensures in found.0.copied
+move_each-requires-2-clause-copy c = let found = rw c.in-Some.is at c.in_ok-copied.ensures in found.0.copied
 
 pub move_each-requires-2-clause-inside : goal.move_each-requires-2-clause-inside
 move_each-requires-2-clause-inside c =
@@ -35,7 +34,7 @@ move_each-requires-2-clause-inside c =
     rw all (shoens_in m.store.held m.shoens.shoens c.requires.inside.shoens)
 
 pub hang_each-requires : goal.hang_each-requires
-hang_each-requires c = let found = rw c.in-Some.is at c.in_ok-of.ensures in found.0
+hang_each-requires c = let found = rw c.in-Some.is at c.in_ok-copied.ensures in found.0
 
 pub returns : goal.returns
 returns c =
@@ -43,7 +42,7 @@ returns c =
     let gs = started c.new-goals.result.items (goals.cells_of m.goals.goals) c.add_cells.new.cells.items c.new-goals.ensures.items c.in_ok-add_cells.ensures in
     let hs = started c.new-shoens.result.items (shoens.cells_of m.shoens.shoens) c.add_cells-2.new.cells.items c.new-shoens.ensures.items c.in_ok-add_cells-2.ensures in
     let h = c.in_ok-hang_each.ensures in
-    rw (c.into_parts.ensures.store, c.into_parts.ensures.back)
+    rw (c.into_parts-store.ensures.store, c.into_parts-store.ensures.back)
     (found_copy m c.in-Some.copied c.hang_each.new.copied c.move_each.new.cells c.move_each-2.new.cells
     (record {
       goals = rw gs at (c.move_each.ensures c.if-not-move_each.false);

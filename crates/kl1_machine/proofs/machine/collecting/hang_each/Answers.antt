@@ -6,7 +6,7 @@ pub loop-place-init : goal.loop-place-init
 loop-place-init c = record { copy = c.requires; back = refl; held = refl; hung = hung_none c.args.goals.now.goals c.args.copied.now.back.items c.args.copied.now.store.hooks }
 
 pub hang_at-requires-clause-place : goal.hang_at-requires-clause-place
-hang_at-requires-clause-place c = omega (arith, c.loop-place-test.true, ap (λ (p : Point). p.hooks) c.mark.ensures.point)
+hang_at-requires-clause-place c = omega (arith, c.loop-place-test.true, ap (λ (p : Point). p.hooks) c.mark-place-end.ensures.point)
 
 pub loop-place-preserved : goal.loop-place-preserved
 loop-place-preserved c =
@@ -17,7 +17,7 @@ loop-place-preserved c =
 pub returns-clause-hung : goal.returns-clause-hung
 returns-clause-hung c =
     hung_all c.args.store.now.hooks c.loop-place.place c.args.goals.now.goals c.loop-place.copied.back.items c.loop-place.copied.store.hooks
-    (omega (arith, c.loop-place-test.false, ap (λ (p : Point). p.hooks) c.mark.ensures.point)) c.loop-place.invariant.hung
+    (omega (arith, c.loop-place-test.false, ap (λ (p : Point). p.hooks) c.mark-place-end.ensures.point)) c.loop-place.invariant.hung
 
 pub returns-clause-back : goal.returns-clause-back
 returns-clause-back c = c.loop-place.invariant.back
