@@ -10,7 +10,8 @@ use Rattle.kl1_model.specs.Tree.{path_within}
 use Rattle.kl1_model.specs.laws.TreeLaws.{ParentsAreLower}
 use Rattle.kl1_store.specs.declared.cell.Cell.{Cell}
 use Rattle.kl1_shoen_paths.specs.declared.shoen.Shoen.{Shoen}
-use Rattle.kl1_shoen.specs.Shoens.{AreNumbered, AreLower, AreCounted, has_number, parents_in, path_in, charged_in, is_blocking_in, is_blocking_at, is_enabled_at, is_living_child_of}
+use Rattle.kl1_shoen_paths.specs.Below.{Links}
+use Rattle.kl1_shoen.specs.Shoens.{AreLinkedSince, AreNumbered, AreLower, AreCounted, has_number, parents_in, path_in, charged_in, is_blocking_in, is_blocking_at, is_enabled_at, is_living_child_of}
 use Rattle.kl1_shoen.specs.Cells.{cells_in, cells_of, shoen_at, with_cells}
 
 -- ---- what is the same
@@ -135,3 +136,17 @@ rest_put now after k y put = ap (drop (k + 1)) put ∙ drop-set-lt (k + 1) now k
 pub put_last : {N : Type 0} (xs : List (Cell N)) (at : ℕ) (now all : List (Shoen N)) (k : ℕ) → length now ≤ k → take k now ++ with_cells xs at (drop k now) ≡ all → now ≡ all
 put_last xs at now all k le known =
     sym (ap (λ l. take k now ++ with_cells xs at l) (drop_all k now le) ∙ ap (λ l. l ++ []) (take_all k now le) ∙ append-nil now) ∙ known
+
+-- ---- the tree
+
+-- children are linked as before
+pub linked_with : {N : Type 0} (xs : List (Cell N)) (hs ts before kept : List (Shoen N)) (l : Links) → ts ≡ with_cells xs 0 hs → kept ≡ with_cells xs 0 before → AreLinkedSince hs before l → AreLinkedSince ts kept l
+linked_with {N = N} xs hs ts before kept l is kept_is a =
+    let now : parents_in ts ≡ parents_in hs = ap parents_in is ∙ parents_with xs 0 hs in
+    let old : parents_in kept ≡ parents_in before = ap parents_in kept_is ∙ parents_with xs 0 before in
+    let many : length kept ≡ length before = ap length kept_is ∙ length_with xs 0 before in
+    record {
+      now = rw now a.now;
+      kept = rw old a.kept;
+      grown = rw (old, now, many) a.grown;
+    }
