@@ -9,7 +9,7 @@ loop-place-preserved g c =
     let l = c.loop-place in
     let ss = c.args.slots.now.items in
     let within : l.place < length ss = omega (arith, c.loop-place-test.true, c.args.slots.now.ok.0) in
-    added_next c.index-slot.result.now ss l.place l.cells.items c.add_held.new.cells.items (c.args.cells.now.items ++ cells_of (goals_in ss)) within c.index-slot.ensures c.in_ok-add_held.ensures l.invariant
+    added_next c.index.result.now ss l.place l.cells.items c.add_held.new.cells.items (c.args.cells.now.items ++ cells_of (goals_in ss)) within c.index.ensures c.in_ok-add_held.ensures l.invariant
 
 pub returns : goal.returns
 returns g c =

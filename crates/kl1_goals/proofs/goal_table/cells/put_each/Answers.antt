@@ -8,9 +8,9 @@ loop-place-preserved g c =
     let l = c.loop-place in
     let within : l.place < length l.slots.items = omega (arith, l.invariant.length, c.loop-place-test.true, l.slots.ok.0) in
     record {
-      done = put_next c.args.cells.now l.at c.index-slot.result.now c.put_one.result c.count_at.result l.slots.items (slots_with c.args.cells.now 0 c.args.slots.now.items) l.place within c.index-slot.ensures c.put_one.ensures c.count_at.ensures.is l.invariant.done;
+      done = put_next c.args.cells.now l.at c.index.result.now c.put_one.result c.count_at-at.result l.slots.items (slots_with c.args.cells.now 0 c.args.slots.now.items) l.place within c.index.ensures c.put_one.ensures c.count_at-at.ensures.is l.invariant.done;
       length = length-set l.slots.items l.place c.put_one.result ∙ l.invariant.length;
-      at = omega (arith, l.invariant.at, c.count_at.ensures.few);
+      at = omega (arith, l.invariant.at, c.count_at-at.ensures.few);
     }
 
 pub returns : goal.returns
