@@ -1,16 +1,13 @@
 -- A machine that has a copy of what it reaches in place of its store: what it is by the numbers that the variables had.
-use Rattle.std.proofs.Common.{◌≡◌, ℕ, zero, suc, ◌+◌, ◌-◌, ◌<◌, ◌≤◌, ◌||◌, List, [], ◌∷◌, ◌++◌, length, get_or, drop, codes, refl, sym, ap, ap₂, ◌∙◌, arith, subst}
+use Rattle.std.proofs.Common.{◌≡◌, ℕ, zero, suc, ◌+◌, ◌-◌, ◌<◌, ◌||◌, List, [], ◌∷◌, ◌++◌, length, get_or, drop, codes, refl, sym, ap, ap₂, ◌∙◌, arith, subst}
 use Rattle.std.specs.List.{AllByRecursion}
 use Rattle.std.specs.Prelude.{map, Option, Some, None, option_map}
-use Rattle.kl1_model.specs.Term.{Term, atom, structure, none, more}
+use Rattle.kl1_model.specs.Term.{Term, structure, none, more}
 use Rattle.kl1_model.specs.State as model
 use Rattle.kl1_model.specs.State.{State, reduces, substitutes}
 use Rattle.kl1_text.specs.declared.cell_name.CellName.{CellName}
 use Rattle.kl1_store.specs.declared.cell.Cell.{Cell}
-use Rattle.kl1_store.specs.declared.cell.Cell.TheVariants.{Atom}
-use Rattle.kl1_store.specs.declared.qualified.Qualified.{Qualified}
 use Rattle.kl1_store.specs.Held.{Held}
-use Rattle.kl1_store.specs.Meaning.{term_of}
 use Rattle.kl1_store.proofs.Terms.{term_of-Atom}
 use Rattle.kl1_store_copy.specs.Numbers.{after, number_from, numbered}
 use Rattle.kl1_store_copy.specs.Copies.{StandsFor, StandEach, HasEnds}
@@ -24,8 +21,8 @@ use Rattle.kl1_shoen_paths.specs.declared.shoen.Shoen.{Shoen}
 use Rattle.kl1_shoen.specs.Cells as shoens
 use Rattle.kl1_shoen.proofs.Celling.{length_with, enabled_with}
 use Rattle.kl1_user_effects.specs.Fitting.{Reading}
-use Rattle.kl1_user_effects.specs.Account.{Means, meaning, told_in, aim_with, task_with, goal_with, origin_with, shoen_with}
-use Rattle.kl1_user_effects.specs.Kept.{IsTaskIn, AreGoalsIn, AreOwned, AreUpTo, IsOriginIn, IsShoenIn, AreShoensIn}
+use Rattle.kl1_user_effects.specs.Account.{meaning, told_in, task_with, goal_with, origin_with, shoen_with}
+use Rattle.kl1_user_effects.specs.Kept.{IsTaskIn, AreGoalsIn, AreOwned, AreUpTo, IsOriginIn, AreShoensIn}
 use Rattle.kl1_user_effects.specs.Settled.{AreEnabled}
 use Rattle.kl1_user_effects.specs.Works.{Made, worked, IsMadeIn}
 use Rattle.kl1_user_effects.specs.Relabelled.{renamed, task_renamed, goal_renamed, origin_renamed, shoen_renamed, relabelled}
@@ -45,7 +42,7 @@ pub others_stand : (old new : Held CellName) (back : List ℕ) (x : Cell CellNam
     StandEach old new back (x ∷ xs) (drop at ys) → StandEach old new back xs (drop next ys)
 others_stand old new back x xs [] zero next e s = absurd s
 others_stand old new back x xs (y ∷ ys) zero zero e s = absurd (omega (arith, e))
-others_stand old new back x xs (y ∷ ys) zero (suc next) e s = let P : ℕ → Type 0 = λ n. StandEach old new back xs (drop n ys) in subst P (omega (arith, e)) s.1
+others_stand old new back x xs (y ∷ ys) zero (suc next) e s = let P : ℕ → Type 0 = λ n. StandEach old new back xs (drop n ys) in let same : zero ≡ next = omega (arith, e) in subst P same s.1
 others_stand old new back x xs [] (suc at) next e s = absurd s
 others_stand old new back x xs (y ∷ ys) (suc at) zero e s = absurd (omega (arith, e))
 others_stand old new back x xs (y ∷ ys) (suc at) (suc next) e s = others_stand old new back x xs ys at next (omega (arith, e)) s
@@ -70,7 +67,7 @@ task_moved f old new back (Substitutes x) xs ys at s = ap substitutes ((first_st
 -- the cells after those of a task
 pub after_task : (old new : Held CellName) (back : List ℕ) (t : Task CellName) (xs ys : List (Cell CellName)) (at : ℕ) →
     StandEach old new back (goals.cell_of t ++ xs) (drop at ys) → StandEach old new back xs (drop (at + length (goals.cell_of t)) ys)
-after_task old new back Monitor xs ys at s = let P : ℕ → Type 0 = λ n. StandEach old new back xs (drop n ys) in subst P (omega arith) s
+after_task old new back Monitor xs ys at s = let P : ℕ → Type 0 = λ n. StandEach old new back xs (drop n ys) in let same : at ≡ at + 0 = omega arith in subst P same s
 after_task old new back (Reduces q) xs ys at s = others_stand old new back q.cell xs ys at (at + 1) refl s
 after_task old new back (Substitutes x) xs ys at s = others_stand old new back x xs ys at (at + 1) refl s
 
@@ -138,10 +135,11 @@ kept_inside old new back (Some o) xs ys at s =
 
 after_kept : (old new : Held CellName) (back : List ℕ) (o : Option (Origin CellName)) (xs ys : List (Cell CellName)) (at next : ℕ) → next ≡ at + length (shoens.cells_kept o) →
     StandEach old new back (shoens.cells_kept o ++ xs) (drop at ys) → StandEach old new back xs (drop next ys)
-after_kept old new back None xs ys at next e s = let P : ℕ → Type 0 = λ n. StandEach old new back xs (drop n ys) in subst P (omega (arith, e)) s
+after_kept old new back None xs ys at next e s = let P : ℕ → Type 0 = λ n. StandEach old new back xs (drop n ys) in let same : at ≡ next = omega (arith, e) in subst P same s
 after_kept old new back (Some o) xs ys at next e s =
     let P : ℕ → Type 0 = λ n. StandEach old new back xs (drop n ys) in
-    subst P (omega (arith, e)) (three_stand old new back o.goal o.reports o.control xs ys at s).rest
+    let same : at + 3 ≡ next = omega (arith, e) in
+    subst P same (three_stand old new back o.goal o.reports o.control xs ys at s).rest
 
 -- the cells of a shoen that stand for its own
 pub record ShoenStands (old new : Held CellName) (back : List ℕ) (h : Shoen CellName) (xs ys : List (Cell CellName)) (at : ℕ) : Type 0 where
@@ -194,7 +192,7 @@ shoens_inside old new back (h ∷ hs) ys at s is =
 -- the last variable of a copy is the last of the store
 pub last_moved : (back : List ℕ) (old new : ℕ) → 0 < old → HasEnds old back → length back ≡ new → numbered back (new - 1) ≡ old - 1
 last_moved [] old new some ends is = absurd (omega (arith, some, ends.last))
-last_moved (x ∷ back) old new some ends is = ap (numbered (x ∷ back)) (omega (arith, is)) ∙ before 0 x back ∙ ap (λ n. n - 1) ends.last
+last_moved (x ∷ back) old new some ends is = ap (numbered (x ∷ back)) (let here : new - 1 ≡ length back = omega (arith, is) in here) ∙ before 0 x back ∙ ap (λ n. n - 1) ends.last
   where
     before : (next y : ℕ) (vs : List ℕ) → number_from next (y ∷ vs) (length vs) ≡ after next (y ∷ vs) - 1
     before next y [] = omega arith

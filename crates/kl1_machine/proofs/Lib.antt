@@ -34,5 +34,6 @@ pub mod Published
 pub mod Calm
 pub mod Words
 mod Collecting
+mod Collected
 mod Rehanging
 mod Settling

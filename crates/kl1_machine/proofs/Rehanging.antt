@@ -1,6 +1,6 @@
 -- Hooks that hang in a copy, one after another.
-use Rattle.std.proofs.Common.{◌≡◌, ℕ, zero, suc, ◌+◌, ◌<◌, List, [], ◌∷◌, ◌++◌, length, take, ap, ◌∙◌, arith, subst, ⊎_elim}
-use Rattle.std.specs.Prelude.{find, Option, Some, None, Contains, slice_get}
+use Rattle.std.proofs.Common.{◌≡◌, ℕ, zero, suc, ◌+◌, ◌≤◌, Bool, List, [], ◌∷◌, ◌++◌, length, take, take_all, ap, arith, subst, ⊎_elim}
+use Rattle.std.specs.Prelude.{find, Some, None, Contains, slice_get}
 use Rattle.std.proofs.lemmas.List.Elements.{Contains-push_cases}
 use Rattle.kl1_text.specs.declared.cell_name.CellName.{CellName}
 use Rattle.kl1_store.specs.Hooks.{Hook}
@@ -33,3 +33,11 @@ hung_next hooks i k goals back before more at hung among last = λ j g here ther
     (λ (c : Contains (take i hooks) j). λ w lt is. among (record { variable = w; number = j.number }) (hung j g c there w lt is))
     (λ (e : k ≡ j). let Q : Hook → Type 0 = λ x. find (has_number x.number) goals ≡ Some g → HangsIn back more x.variable x.number in subst Q e (last g) there)
     (Contains-push_cases (take i hooks) k j (subst P (place_taken hooks i k at) (subst N n here)))
+
+-- the oldest first: all were looked at
+pub hung_all : (hooks : List Hook) (i : ℕ) (goals : List (Goal CellName)) (back : List ℕ) (copied : List Hook) → length hooks ≤ i → HangsForEach (take i hooks) goals back copied → HangsForEach hooks goals back copied
+hung_all hooks i goals back copied le hung = rw (take_all i hooks le) at hung
+
+-- a goal that isn't there
+pub not_there : (p : Goal CellName → Bool) (gs : List (Goal CellName)) (g : Goal CellName) → find p gs ≡ None → find p gs ≡ Some g → ⊥
+not_there p gs g gone there = absurd (cc)

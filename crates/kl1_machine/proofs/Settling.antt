@@ -1,12 +1,12 @@
 -- Goals of a machine that has a copy in place of its store: they stand as before, and hang on what they wait for.
-use Rattle.std.proofs.Common.{◌≡◌, ℕ, zero, suc, ◌+◌, ◌<◌, ◌≤◌, ◌==◌, Bool, true, false, if◌then◌else◌, List, [], ◌∷◌, ◌++◌, length, drop, map, refl, sym, ap, ap₂, subst, ◌∙◌, ◌⊎◌, inl, inr, arith}
-use Rattle.std.specs.Prelude.{codes, nat_lt, find, Option, Some, None, option_map, Contains}
+use Rattle.std.proofs.Common.{◌≡◌, ℕ, suc, ◌+◌, ◌<◌, ◌≤◌, Bool, true, false, if◌then◌else◌, List, [], ◌∷◌, ◌++◌, length, drop, map, refl, sym, ap, ap₂, subst, ◌∙◌, ◌⊎◌, inl, inr, arith}
+use Rattle.std.specs.Prelude.{codes, nat_lt, find, Option, Some, None, option_map}
 use Rattle.std.specs.List.{AllByRecursion}
 use Rattle.std.proofs.lemmas.Bool.{cases_lt, eq-eqb, le-ltb, lt-ltb}
 use Rattle.kl1_model.specs.declared.rules.Rules.{Rules}
 use Rattle.kl1_model.specs.declared.number.Number.{Number}
 use Rattle.kl1_model.specs.declared.number.Number.TheVariants.{Value, Overflow}
-use Rattle.kl1_model.specs.Term.{Term, atom, structure, none, more}
+use Rattle.kl1_model.specs.Term.{Term, structure, none, more}
 use Rattle.kl1_model.specs.Meaning.{pair}
 use Rattle.kl1_model.specs.Module.{Module}
 use Rattle.kl1_model.specs.Arithmetic.{evaluated}
@@ -25,7 +25,7 @@ use Rattle.kl1_store.specs.Held.{Held, IsIn}
 use Rattle.kl1_store.specs.Sound.{IsFormed}
 use Rattle.kl1_store.proofs.Terms.{term_of-Atom}
 use Rattle.kl1_store_copy.specs.Numbers.{AreRising, numbered}
-use Rattle.kl1_store_copy.specs.Copies.{StandEach, HangsIn}
+use Rattle.kl1_store_copy.specs.Copies.{StandEach}
 use Rattle.kl1_store_copy.proofs.Own.{own_variables}
 use Rattle.kl1_store_copy.proofs.Rising.{increasing}
 use Rattle.kl1_store_hooks.specs.Hanging.{HangsOnEach}
@@ -46,7 +46,7 @@ use Rattle.kl1_codes.specs.Shelves.{Program}
 use Rattle.kl1_user_effects.specs.Fitting.{Reading}
 use Rattle.kl1_user_effects.specs.Account.{meaning, told_in, task_with}
 use Rattle.kl1_user_effects.specs.Kept.{IsTaskIn, AreShoensIn}
-use Rattle.kl1_user_effects.specs.Settled.{control_with, front_with, control_at, control_clause, monitor_clause, task_clause, awaited_by_monitor, awaited_by_task, TaskDoes, IsSettled, AreSettled}
+use Rattle.kl1_user_effects.specs.Settled.{control_with, front_with, control_clause, monitor_clause, task_clause, awaited_by_monitor, awaited_by_task, TaskDoes, IsSettled, AreSettled}
 use Rattle.kl1_user_effects.proofs.AwaitedRenamed.{term_waits, substitute_waits}
 use Rattle.kl1_user_effects.proofs.Unrenamed.{term_clause_renamed, substitute_clause_renamed, comes_from, spells_from, right_from, wrong_look_from, order_right_from, calls_from, no_call_from, atom_from, structure_from, pair_from, six_from, raises_from}
 use Rattle.kl1_machine.specs.Collecting.{HangsForEach}
@@ -268,7 +268,7 @@ record Copies (old new : Held CellName) (hooks copied : List Hook) (back : List 
   bare : new.bindings ≡ []
   rising : AreRising 0 back
   count : length back ≡ new.variables
-  shoens : StandEach old new back (shoens.cells_of hs) zs
+  stand : StandEach old new back (shoens.cells_of hs) zs
   inside : AreShoensIn new (shoens.with_cells zs 0 hs)
   hung : HangsForEach hooks all back copied
 
@@ -284,7 +284,7 @@ goal_settled f old new hooks copied back program hs zs ys xs all g at c stand th
     let K = control_with (meaning f new) (shoens.with_cells zs 0 hs) g.shoen in
     let T = task_with (meaning f old) g.task in
     let U = task_with (meaning f new) (goals.task_at ys at g.task) in
-    let control : option_map (control_renamed B) K ≡ C = control_moved f old new back g.shoen hs zs 0 c.shoens in
+    let control : option_map (control_renamed B) K ≡ C = control_moved f old new back g.shoen hs zs 0 c.stand in
     let task : task_renamed B U ≡ T = task_moved f old new back g.task xs ys at stand in
     let L : ℕ → ℕ = lift_from new.variables in
     let ws = awaited_by_task rules modules K U in
@@ -317,7 +317,7 @@ settled_moved f old new hooks copied back program hs gs ys zs formed bare rising
       bare = bare;
       rising = rising;
       count = count;
-      shoens = shoens_stand;
+      stand = shoens_stand;
       inside = shoens_inside old new back hs zs 0 shoens_stand inside;
       hung = hung;
     } in

@@ -1,5 +1,5 @@
 -- A machine whose store was exchanged for a copy of what its goals and shoens reach.
-use Rattle.std.specs.Prelude.{◌≡◌, ℕ, List, [], length, find, Option, Some, Contains}
+use Rattle.std.specs.Prelude.{◌≡◌, ℕ, List, [], length, find, Some, Contains}
 use Rattle.kl1_model.specs.State.{State}
 use Rattle.kl1_store.specs.Hooks.{Hook}
 use Rattle.kl1_store.specs.Sound.{IsFormed}

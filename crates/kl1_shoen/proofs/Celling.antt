@@ -1,7 +1,8 @@
 -- Shoens with other cells: all else of them is what it was.
-use Rattle.std.proofs.Common.{◌≡◌, ℕ, suc, ◌+◌, ◌<◌, ◌≤◌, not, ◌||◌, Bool, true, false, if◌then◌else◌, List, [], ◌∷◌, ◌++◌, length, get_or, set, take, drop, map, refl, sym, ap, ap₂, ◌∙◌, subst, arith, append_assoc, drop-cons, length-append}
+use Rattle.std.proofs.Common.{◌≡◌, ℕ, suc, ◌+◌, ◌<◌, ◌≤◌, not, ◌||◌, Bool, true, false, cond, if◌then◌else◌, List, [], ◌∷◌, ◌++◌, length, get_or, set, take, drop, map, refl, sym, ap, ap₂, ◌∙◌, subst, arith, append_assoc, drop-cons, length-append}
 use Rattle.std.specs.Prelude.{nat_le, find, Option, Some, None, option_map, unwrap_or}
 use Rattle.std.specs.List.{count_by, list_any}
+use Rattle.std.proofs.lemmas.List.Sums.{sum_by-cons}
 use Rattle.std.proofs.lemmas.List.{take_more_set, drop-set-lt, take_all, drop_all, append-nil}
 use Rattle.kl1_model.specs.Module.{is_among}
 use Rattle.kl1_model.specs.State.{is_living}
@@ -9,7 +10,8 @@ use Rattle.kl1_model.specs.Tree.{path_within}
 use Rattle.kl1_model.specs.laws.TreeLaws.{ParentsAreLower}
 use Rattle.kl1_store.specs.declared.cell.Cell.{Cell}
 use Rattle.kl1_shoen_paths.specs.declared.shoen.Shoen.{Shoen}
-use Rattle.kl1_shoen.specs.Shoens.{AreNumbered, AreLower, AreCounted, has_number, parents_in, path_in, charged_in, is_blocking_in, is_blocking_at, is_enabled_at, is_living_child_of}
+use Rattle.kl1_shoen_paths.specs.Below.{Links}
+use Rattle.kl1_shoen.specs.Shoens.{AreLinkedSince, AreNumbered, AreLower, AreCounted, has_number, parents_in, path_in, charged_in, is_blocking_in, is_blocking_at, is_enabled_at, is_living_child_of}
 use Rattle.kl1_shoen.specs.Cells.{cells_in, cells_of, shoen_at, with_cells}
 
 -- ---- what is the same
@@ -28,7 +30,11 @@ length_with xs at (h ∷ hs) = ap suc (length_with xs (at + length (cells_in h))
 
 living_with : {N : Type 0} (xs : List (Cell N)) (at n : ℕ) (hs : List (Shoen N)) → count_by (is_living_child_of n) (with_cells xs at hs) ≡ count_by (is_living_child_of n) hs
 living_with xs at n [] = refl
-living_with xs at n (h ∷ hs) = let r = living_with xs (at + length (cells_in h)) n hs in rw r refl
+living_with xs at n (h ∷ hs) =
+    let next = at + length (cells_in h) in
+    sum_by-cons (λ k. cond (is_living_child_of n k) 1 0) (shoen_at xs at h) (with_cells xs next hs)
+    ∙ ap (λ m. cond (is_living_child_of n h) 1 0 + m) (living_with xs next n hs)
+    ∙ sym (sum_by-cons (λ k. cond (is_living_child_of n k) 1 0) h hs)
 
 -- their living children are as many
 pub counted_with : {N : Type 0} (xs : List (Cell N)) (hs ts : List (Shoen N)) (cs : List ℕ) → ts ≡ with_cells xs 0 hs → AreCounted hs cs → AreCounted ts cs
@@ -76,7 +82,7 @@ blocking_with {N = N} xs hs work n =
   where
     same_blocking : (o : Option (Shoen N)) → unwrap_or (option_map (is_blocking_in (with_cells xs 0 hs) work) o) false ≡ unwrap_or (option_map (is_blocking_in hs work) o) false
     same_blocking None = refl
-    same_blocking (Some h) = ap (λ c. h.is_stopped || (not (is_living h.life) || nat_le h.allowance c)) (charged_same xs hs work h.number)
+    same_blocking (Some h) = ap (λ c. h.is_stopped || not (is_living h.life) || nat_le h.allowance c) (charged_same xs hs work h.number)
 
 pub enabled_with : {N : Type 0} (xs : List (Cell N)) (hs : List (Shoen N)) (work : List ℕ) (n : ℕ) → is_enabled_at (with_cells xs 0 hs) work n ≡ is_enabled_at hs work n
 enabled_with {N = N} xs hs work n = ap (λ ns. not (list_any (is_blocking_at (with_cells xs 0 hs) work) ns)) (path_with xs hs n) ∙ ap not (each (path_in hs n))
@@ -130,3 +136,17 @@ rest_put now after k y put = ap (drop (k + 1)) put ∙ drop-set-lt (k + 1) now k
 pub put_last : {N : Type 0} (xs : List (Cell N)) (at : ℕ) (now all : List (Shoen N)) (k : ℕ) → length now ≤ k → take k now ++ with_cells xs at (drop k now) ≡ all → now ≡ all
 put_last xs at now all k le known =
     sym (ap (λ l. take k now ++ with_cells xs at l) (drop_all k now le) ∙ ap (λ l. l ++ []) (take_all k now le) ∙ append-nil now) ∙ known
+
+-- ---- the tree
+
+-- children are linked as before
+pub linked_with : {N : Type 0} (xs : List (Cell N)) (hs ts before kept : List (Shoen N)) (l : Links) → ts ≡ with_cells xs 0 hs → kept ≡ with_cells xs 0 before → AreLinkedSince hs before l → AreLinkedSince ts kept l
+linked_with {N = N} xs hs ts before kept l is kept_is a =
+    let now : parents_in ts ≡ parents_in hs = ap parents_in is ∙ parents_with xs 0 hs in
+    let old : parents_in kept ≡ parents_in before = ap parents_in kept_is ∙ parents_with xs 0 before in
+    let many : length kept ≡ length before = ap length kept_is ∙ length_with xs 0 before in
+    record {
+      now = rw now a.now;
+      kept = rw old a.kept;
+      grown = rw (old, now, many) a.grown;
+    }

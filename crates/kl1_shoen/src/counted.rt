@@ -186,7 +186,7 @@ fn put_each<N: NameValue>(shoens: &mut TrackedList<Shoen<N>>, cells: &[Cell<N>])
     for place in 0..shoens.items().len() {
         let shoen = item_at(shoens.items(), place);
         shoens.put_for_good(place, shoen_at(&shoen, cells, at));
-        at += count_of(&shoen);
+        at = further(at, count_of(&shoen), cells.len());
     }
 }
 
@@ -227,6 +227,14 @@ fn cell_at<N: Copy>(cells: &[Cell<N>], at: usize, own: Cell<N>) -> Cell<N>
         return cells[at];
     }
     own
+}
+
+/// A place `count` further on, of those up to `most`.
+fn further(at: usize, count: usize, most: usize) -> usize
+    requires { at + count ≤ most }
+    ensures { result ≡ at + count }
+{
+    at + count
 }
 
 /// How many cells a shoen has.

@@ -1,6 +1,6 @@
 // What nothing reaches any more is given back.
 
-ghost use Rattle.std.specs.Prelude.{◌≡◌, IfOk, IfSome, OnOk};
+ghost use Rattle.std.specs.Prelude.{◌≡◌, ◌+◌, ◌<◌, length, take, IfOk, IfSome, OnOk};
 ghost use Rattle.kl1_store_copy.specs.Copies.{IsCopyOf};
 ghost use Rattle.kl1_machine.specs.Collecting.{IsCopyFor, IsCollected, HangsForEach};
 ghost use Rattle.kl1_machine.specs.Machines.{IsMachine};
@@ -87,10 +87,28 @@ fn hang_each(
     ensures hung { OnOk result (HangsForEach store.now.hooks goals.now.goals copied.new.back.items copied.new.store.hooks) }
 {
     for place in 0..store.mark().hooks {
-        let (variable, number) = store.hook(place);
-        if goals.lend(number).is_some() {
-            copied.hang(store, variable, number)?;
-        }
+        hang_at(store, goals, copied, place)?;
     }
     Ok(())
+}
+
+/// Hangs in a copy what hangs on a variable of a store, by its place, unless its goal is gone.
+fn hang_at(
+    store: &Store<CellName>,
+    goals: &GoalTable<CellName>,
+    copied: &mut Copied<CellName>,
+    place: usize,
+) -> Result<(), AllocError>
+    requires copy { IsCopyOf store.now.held copied.old }
+    requires place { place < length store.now.hooks }
+    ensures copy { IsCopyOf store.now.held copied.new }
+    ensures back { copied.new.back ≡ copied.old.back }
+    ensures held { copied.new.store.held ≡ copied.old.store.held }
+    ensures hung { HangsForEach (take place store.now.hooks) goals.now.goals copied.old.back.items copied.old.store.hooks → OnOk result (HangsForEach (take (place + 1) store.now.hooks) goals.now.goals copied.new.back.items copied.new.store.hooks) }
+{
+    let (variable, number) = store.hook(place);
+    match goals.lend(number) {
+        None => Ok(()),
+        Some(_goal) => copied.hang(store, variable, number),
+    }
 }

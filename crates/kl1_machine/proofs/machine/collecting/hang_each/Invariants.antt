@@ -5,7 +5,7 @@ use Rattle.kl1_machine.proofs.machine.collecting.hang_each.Given as goal
 
 -- the hooks so far hang in the copy
 abbrev pub invariant-loop-place : goal.invariant-loop-place
-invariant-loop-place g l = record {
+invariant-loop-place l = record {
   copy : IsCopyOf l.store.held l.copied;
   back : l.copied.back ≡ l.fn.copied.back;
   held : l.copied.store.held ≡ l.fn.copied.store.held;
