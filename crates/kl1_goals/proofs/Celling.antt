@@ -1,10 +1,9 @@
 -- Goals with other cells: all else of them and of their places is what it was.
-use Rattle.std.proofs.Common.{◌≡◌, ℕ, suc, ◌+◌, ◌<◌, ◌≤◌, Bool, true, false, cond, List, [], ◌∷◌, ◌++◌, length, get_or, set, take, drop, map, refl, sym, ap, ◌∙◌, arith, append_assoc, drop-cons, take-suc}
+use Rattle.std.proofs.Common.{◌≡◌, ℕ, suc, ◌+◌, ◌<◌, ◌≤◌, Bool, true, false, cond, List, [], ◌∷◌, ◌++◌, length, get_or, set, take, drop, map, refl, sym, ap, ◌∙◌, arith, append_assoc, drop-cons}
 use Rattle.std.proofs.lemmas.List.{take_more_set, drop-set-lt, take_all, drop_all, append-nil, map-set, take-map}
 use Rattle.kl1_store.specs.declared.cell.Cell.{Cell}
 use Rattle.kl1_goals.specs.declared.task.Task.{Task}
 use Rattle.kl1_goals.specs.declared.task.Task.TheVariants.{Monitor, Reduces, Substitutes}
-use Rattle.kl1_goals.specs.declared.goal.Goal.{Goal}
 use Rattle.kl1_goals.specs.declared.slot.Slot.{Slot}
 use Rattle.kl1_goals.specs.Lists.{is_monitor_task}
 use Rattle.kl1_goals.specs.Slots.{goals_in, rank_in}
@@ -13,7 +12,7 @@ use Rattle.kl1_goals.specs.declared.begun.Begun.{Begun}
 use Rattle.kl1_goals.specs.Keeping.{Parts, IsTable, AreTables, places_then, parts_then}
 use Rattle.kl1_shoen_paths.specs.declared.tracked.Was.{Was}
 use Rattle.kl1_shoen_paths.specs.Tracked.{put_back}
-use Rattle.kl1_goals.specs.Cells.{cell_of, cells_of, task_at, goal_at, with_cells, slots_with}
+use Rattle.kl1_goals.specs.Cells.{cell_of, cells_of, cells_at, task_at, goal_at, held_at, with_cells, slots_with}
 use Rattle.kl1_goals.proofs.Shaping.{linked_shaped}
 use Rattle.kl1_goals.proofs.Walking.{shaped_table, length_shaped}
 
@@ -119,57 +118,50 @@ one_more k = omega arith
 from_here : {X : Type 0} (s : X) (ss : List X) (k : ℕ) → k < length ss → s ≡ get_or ss k s → drop k ss ≡ s ∷ drop (k + 1) ss
 from_here s ss k lt is = drop-cons ss k s lt ∙ ap (λ x. x ∷ drop (suc k) ss) (sym is) ∙ ap (λ n. s ∷ drop n ss) (one_more k)
 
--- the cells of the goals from a place on, of which the first is there
-pub cells_held : {N : Type 0} (s : Slot N) (ss : List (Slot N)) (k : ℕ) → k < length ss → s ≡ get_or ss k s → s.is_held ≡ true →
-    cells_of (goals_in (drop k ss)) ≡ cell_of s.goal.task ++ cells_of (goals_in (drop (k + 1) ss))
-cells_held s ss k lt is held =
-    ap (λ l. cells_of (goals_in l)) (from_here s ss k lt is)
-    ∙ ap (λ c. cells_of (cond c (s.goal ∷ goals_in (drop (k + 1) ss)) (goals_in (drop (k + 1) ss)))) held
-
--- and of an empty place
-pub cells_empty : {N : Type 0} (s : Slot N) (ss : List (Slot N)) (k : ℕ) → k < length ss → s ≡ get_or ss k s → s.is_held ≡ false →
-    cells_of (goals_in (drop k ss)) ≡ cells_of (goals_in (drop (k + 1) ss))
-cells_empty s ss k lt is empty =
-    ap (λ l. cells_of (goals_in l)) (from_here s ss k lt is)
-    ∙ ap (λ c. cells_of (cond c (s.goal ∷ goals_in (drop (k + 1) ss)) (goals_in (drop (k + 1) ss)))) empty
+cells_first : {N : Type 0} (s : Slot N) (ss : List (Slot N)) → cells_of (goals_in (s ∷ ss)) ≡ cells_at s ++ cells_of (goals_in ss)
+cells_first {N = N} s ss = by s.is_held
+  where
+    by : (b : Bool) → cells_of (cond b (s.goal ∷ goals_in ss) (goals_in ss)) ≡ cond b (cell_of s.goal.task) [] ++ cells_of (goals_in ss)
+    by true = refl
+    by false = refl
 
 -- what was added and what is to come are all
-pub added_held : {N : Type 0} (s : Slot N) (ss : List (Slot N)) (k : ℕ) (xs ys all : List (Cell N)) → k < length ss → s ≡ get_or ss k s → s.is_held ≡ true →
-    xs ++ cells_of (goals_in (drop k ss)) ≡ all → ys ≡ xs ++ cell_of s.goal.task → ys ++ cells_of (goals_in (drop (k + 1) ss)) ≡ all
-added_held s ss k xs ys all lt is held known grown =
-    ap (λ l. l ++ cells_of (goals_in (drop (k + 1) ss))) grown
-    ∙ append_assoc xs (cell_of s.goal.task) (cells_of (goals_in (drop (k + 1) ss)))
-    ∙ ap (λ l. xs ++ l) (sym (cells_held s ss k lt is held))
+pub added_next : {N : Type 0} (s : Slot N) (ss : List (Slot N)) (k : ℕ) (xs ys all : List (Cell N)) → k < length ss → s ≡ get_or ss k s →
+    ys ≡ xs ++ cells_at s → xs ++ cells_of (goals_in (drop k ss)) ≡ all → ys ++ cells_of (goals_in (drop (k + 1) ss)) ≡ all
+added_next s ss k xs ys all lt is grown known =
+    let rest = drop (k + 1) ss in
+    ap (λ l. l ++ cells_of (goals_in rest)) grown
+    ∙ append_assoc xs (cells_at s) (cells_of (goals_in rest))
+    ∙ ap (λ l. xs ++ l) (sym (ap (λ l. cells_of (goals_in l)) (from_here s ss k lt is) ∙ cells_first s rest))
     ∙ known
 
-pub added_empty : {N : Type 0} (s : Slot N) (ss : List (Slot N)) (k : ℕ) (xs all : List (Cell N)) → k < length ss → s ≡ get_or ss k s → s.is_held ≡ false →
-    xs ++ cells_of (goals_in (drop k ss)) ≡ all → xs ++ cells_of (goals_in (drop (k + 1) ss)) ≡ all
-added_empty s ss k xs all lt is empty known = ap (λ l. xs ++ l) (sym (cells_empty s ss k lt is empty)) ∙ known
+pub added_last : {N : Type 0} (ss : List (Slot N)) (k : ℕ) (xs all : List (Cell N)) → length ss ≤ k → xs ++ cells_of (goals_in (drop k ss)) ≡ all → xs ≡ all
+added_last ss k xs all le known = sym (ap (λ l. xs ++ cells_of (goals_in l)) (drop_all k ss le) ∙ append-nil xs) ∙ known
 
--- a goal's place is passed, and the goal has its cell
-pub put_held : {N : Type 0} (xs : List (Cell N)) (at : ℕ) (s : Slot N) (now all : List (Slot N)) (k : ℕ) → k < length now → s ≡ get_or now k s → s.is_held ≡ true →
-    take k now ++ slots_with xs at (drop k now) ≡ all →
-    take (k + 1) (set now k (slot_at xs at s)) ++ slots_with xs (at + length (cell_of s.goal.task)) (drop (k + 1) (set now k (slot_at xs at s))) ≡ all
-put_held {N = N} xs at s now all k lt is held known =
-    let y : Slot N = slot_at xs at s in
-    let next : ℕ = at + length (cell_of s.goal.task) in
-    let rest : List (Slot N) = drop (k + 1) now in
-    ap (λ l. l ++ slots_with xs next (drop (k + 1) (set now k y))) (take_more_set now k y lt)
-    ∙ ap (λ l. (take k now ++ y ∷ []) ++ slots_with xs next l) (drop-set-lt (k + 1) now k y (omega arith))
-    ∙ append_assoc (take k now) (y ∷ []) (slots_with xs next rest)
-    ∙ ap (λ l. take k now ++ l) (sym (ap (slots_with xs at) (from_here s now k lt is) ∙ ap (λ c. cond c (y ∷ slots_with xs next rest) (s ∷ slots_with xs at rest)) held))
-    ∙ known
+slots_first : {N : Type 0} (xs : List (Cell N)) (at : ℕ) (s : Slot N) (ss : List (Slot N)) → slots_with xs at (s ∷ ss) ≡ held_at xs at s ∷ slots_with xs (at + length (cells_at s)) ss
+slots_first {N = N} xs at s ss = by s.is_held
+  where
+    none_more : at ≡ at + 0
+    none_more = omega arith
 
--- an empty place is passed
-pub put_empty : {N : Type 0} (xs : List (Cell N)) (at : ℕ) (s : Slot N) (now all : List (Slot N)) (k : ℕ) → k < length now → s ≡ get_or now k s → s.is_held ≡ false →
-    take k now ++ slots_with xs at (drop k now) ≡ all → take (k + 1) now ++ slots_with xs at (drop (k + 1) now) ≡ all
-put_empty {N = N} xs at s now all k lt is empty known =
-    let next : ℕ = at + length (cell_of s.goal.task) in
+    by : (b : Bool) →
+        cond b (slot_at xs at s ∷ slots_with xs (at + length (cell_of s.goal.task)) ss) (s ∷ slots_with xs at ss) ≡ cond b (slot_at xs at s) s ∷ slots_with xs (at + length (cond b (cell_of s.goal.task) [])) ss
+    by true = refl
+    by false = ap (λ (n : ℕ). s ∷ slots_with xs n ss) none_more
+
+-- a place is passed, and its goal, if one is there, has its cell
+pub put_next : {N : Type 0} (xs : List (Cell N)) (at : ℕ) (s y : Slot N) (n : ℕ) (now all : List (Slot N)) (k : ℕ) → k < length now → s ≡ get_or now k s → y ≡ held_at xs at s → n ≡ length (cells_at s) →
+    take k now ++ slots_with xs at (drop k now) ≡ all → take (k + 1) (set now k y) ++ slots_with xs (at + n) (drop (k + 1) (set now k y)) ≡ all
+put_next {N = N} xs at s y n now all k lt is put many known =
+    let w : Slot N = held_at xs at s in
+    let next : ℕ = at + length (cells_at s) in
     let rest : List (Slot N) = drop (k + 1) now in
-    ap (λ n. take n now ++ slots_with xs at rest) (sym (one_more k))
-    ∙ ap (λ l. l ++ slots_with xs at rest) (take-suc now k s lt ∙ ap (λ x. take k now ++ x ∷ []) (sym is))
-    ∙ append_assoc (take k now) (s ∷ []) (slots_with xs at rest)
-    ∙ ap (λ l. take k now ++ l) (sym (ap (slots_with xs at) (from_here s now k lt is) ∙ ap (λ c. cond c (slot_at xs at s ∷ slots_with xs next rest) (s ∷ slots_with xs at rest)) empty))
+    ap (λ (z : Slot N). take (k + 1) (set now k z) ++ slots_with xs (at + n) (drop (k + 1) (set now k z))) put
+    ∙ ap (λ (m : ℕ). take (k + 1) (set now k w) ++ slots_with xs (at + m) (drop (k + 1) (set now k w))) many
+    ∙ ap (λ l. l ++ slots_with xs next (drop (k + 1) (set now k w))) (take_more_set now k w lt)
+    ∙ ap (λ l. (take k now ++ w ∷ []) ++ slots_with xs next l) (drop-set-lt (k + 1) now k w (omega arith))
+    ∙ append_assoc (take k now) (w ∷ []) (slots_with xs next rest)
+    ∙ ap (λ l. take k now ++ l) (sym (ap (slots_with xs at) (from_here s now k lt is) ∙ slots_first xs at s rest))
     ∙ known
 
 -- all places were passed

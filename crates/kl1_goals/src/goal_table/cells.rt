@@ -1,8 +1,10 @@
 // The cells of goals, and others in their place.
 
-ghost use Rattle.std.specs.Prelude.{◌≡◌, ◌++◌, length, get_or, OnOk};
-ghost use Rattle.kl1_goals.specs.Cells.{cell_of, cells_of, task_at, with_cells, slots_with};
+ghost use Rattle.std.specs.Prelude.{◌≡◌, ◌≤◌, ◌++◌, length, get_or, OnOk};
+ghost use Rattle.kl1_goals.specs.Cells.{cell_of, cells_of, cells_at, task_at, held_at, with_cells, slots_with};
+ghost use Rattle.kl1_goals.specs.Slots.{goals_in};
 
+use crate::goal::Goal;
 use crate::goal_table::GoalTable;
 use crate::slot::Slot;
 use crate::task::Task;
@@ -15,12 +17,7 @@ impl<N: NameValue> GoalTable<N> {
     pub fn add_cells(&self, cells: &mut Vec<Cell<N>>) -> Result<(), AllocError>
         ensures { OnOk result (cells.new.items ≡ cells.old.items ++ cells_of self.now.goals) }
     {
-        for place in 0..self.slots.len() {
-            if self.slots[place].is_held {
-                add_cell(self.slots[place].goal.task, cells)?;
-            }
-        }
-        Ok(())
+        add_each(&self.slots, cells)
     }
 
     /// Puts these cells in place of the goals' in the same order, for good: what is put back later has them too.
@@ -31,6 +28,27 @@ impl<N: NameValue> GoalTable<N> {
         put_each(&mut self.slots, cells);
         self.begin();
     }
+}
+
+/// Adds the cells of the goals that are there and aren't monitors, a goal after those before it.
+fn add_each<N: NameValue>(slots: &Vec<Slot<N>>, cells: &mut Vec<Cell<N>>) -> Result<(), AllocError>
+    ensures { OnOk result (cells.new.items ≡ cells.old.items ++ cells_of (goals_in slots.now.items)) }
+{
+    for place in 0..slots.len() {
+        let slot = slots[place];
+        add_held(&slot, cells)?;
+    }
+    Ok(())
+}
+
+/// Adds the cell of the goal at a place, if one is there and has one.
+fn add_held<N: Copy>(slot: &Slot<N>, cells: &mut Vec<Cell<N>>) -> Result<(), AllocError>
+    ensures { OnOk result (cells.new.items ≡ cells.old.items ++ cells_at slot.now) }
+{
+    if !slot.is_held {
+        return Ok(());
+    }
+    add_cell(slot.goal.task, cells)
 }
 
 /// Adds the cell of a task, if it has one.
@@ -56,11 +74,25 @@ fn put_each<N: NameValue>(slots: &mut Vec<Slot<N>>, cells: &[Cell<N>])
 {
     let mut at = 0;
     for place in 0..slots.len() {
-        if slots[place].is_held {
-            let task = slots[place].goal.task;
-            slots[place].goal.task = task_at(task, cells, at);
-            at += count_of(task);
-        }
+        let slot = slots[place];
+        slots[place] = put_one(slot, cells, at);
+        at += count_at(&slot);
+    }
+}
+
+/// A place whose goal, if one is there, has the cell at a place in place of its own.
+fn put_one<N: Copy>(slot: Slot<N>, cells: &[Cell<N>], at: usize) -> Slot<N>
+    ensures { result ≡ held_at cells.now at slot }
+{
+    if !slot.is_held {
+        return slot;
+    }
+    Slot {
+        goal: Goal {
+            task: task_at(slot.goal.task, cells, at),
+            ..slot.goal
+        },
+        ..slot
     }
 }
 
@@ -88,9 +120,21 @@ fn cell_at<N: Copy>(cells: &[Cell<N>], at: usize, own: Cell<N>) -> Cell<N>
     own
 }
 
+/// How many cells the goal at a place has, if one is there.
+fn count_at<N: Copy>(slot: &Slot<N>) -> usize
+    ensures is { result ≡ length (cells_at slot.now) }
+    ensures few { result ≤ 1 }
+{
+    if !slot.is_held {
+        return 0;
+    }
+    count_of(slot.goal.task)
+}
+
 /// How many cells a task has.
 fn count_of<N: Copy>(task: Task<N>) -> usize
-    ensures { result ≡ length (cell_of task) }
+    ensures is { result ≡ length (cell_of task) }
+    ensures few { result ≤ 1 }
 {
     match task {
         Task::Monitor => 0,
