@@ -39,3 +39,4 @@ mod Lifting
 mod Labelling
 mod Shown
 mod LettingGo
+mod PutCopies

@@ -24,3 +24,4 @@ pub mod Words
 pub mod Relabelling
 pub mod AwaitedRenamed
 pub mod Unrenamed
+pub mod OneState

@@ -1,0 +1,18 @@
+use Rattle.std.proofs.Common.{◌≡◌, ◌+◌, map, take, refl, sym, ap, subst, ◌∙◌, arith}
+use Rattle.std.proofs.lemmas.List.{take_all}
+use Rattle.kl1_store_copy.specs.Numbers.{after, AreRising, numbered}
+use Rattle.kl1_store_copy.proofs.Rising.{rising_composed}
+use Rattle.kl1_user_account.proofs.Labelling.{next_label, next_after}
+use Rattle.kl1_user_account.proofs.labels.Labels.of_copy.Goals as goal
+
+pub loop-place-init : goal.loop-place-init
+loop-place-init c = record { first = c.in_ok-first.ensures.items; next = sym (ap (after 0) c.in_ok-first.ensures.items); few = omega arith }
+
+pub loop-place-preserved : goal.loop-place-preserved
+loop-place-preserved c =
+    let i = c.loop-place.invariant in
+    record {
+      first = next_label c.args.self.now c.args.back.now.items c.loop-place.first.items c.push.new.first.items c.loop-place.place _ c.of-label.result (omega arith) c.index.ensures c.of-label.ensures i.first c.in_ok-push.ensures.items;
+      next = next_after c.loop-place.first.items c.push.new.first.items c.of-label.result _ c.in_ok-push.ensures.items refl;
+      few = omega arith;
+    }
