@@ -1,8 +1,9 @@
 -- Shoens with other cells: all else of them is what it was.
 use Rattle.std.proofs.Common.{◌≡◌, ℕ, suc, ◌+◌, ◌<◌, ◌≤◌, not, ◌||◌, Bool, true, false, if◌then◌else◌, List, [], ◌∷◌, ◌++◌, length, get_or, set, take, drop, map, refl, sym, ap, ap₂, ◌∙◌, subst, arith, append_assoc, drop-cons, length-append}
-use Rattle.std.specs.Prelude.{nat_le, find, Option, Some, None, option_map, unwrap_or}
+use Rattle.std.specs.Prelude.{nat_le, find, Option, Some, None, option_map, unwrap_or, cond}
 use Rattle.std.specs.List.{count_by, list_any}
 use Rattle.std.proofs.lemmas.List.{take_more_set, drop-set-lt, take_all, drop_all, append-nil}
+use Rattle.std.proofs.lemmas.List.Sums.{sum_by-cons}
 use Rattle.kl1_model.specs.Module.{is_among}
 use Rattle.kl1_model.specs.State.{is_living}
 use Rattle.kl1_model.specs.Tree.{path_within}
@@ -28,7 +29,11 @@ length_with xs at (h ∷ hs) = ap suc (length_with xs (at + length (cells_in h))
 
 living_with : {N : Type 0} (xs : List (Cell N)) (at n : ℕ) (hs : List (Shoen N)) → count_by (is_living_child_of n) (with_cells xs at hs) ≡ count_by (is_living_child_of n) hs
 living_with xs at n [] = refl
-living_with xs at n (h ∷ hs) = let r = living_with xs (at + length (cells_in h)) n hs in rw r refl
+living_with {N = N} xs at n (h ∷ hs) =
+    let one : Shoen N → ℕ = λ s. cond (is_living_child_of n s) 1 0 in
+    sum_by-cons one (shoen_at xs at h) (with_cells xs (at + length (cells_in h)) hs)
+    ∙ ap (λ k. one h + k) (living_with xs (at + length (cells_in h)) n hs)
+    ∙ sym (sum_by-cons one h hs)
 
 -- their living children are as many
 pub counted_with : {N : Type 0} (xs : List (Cell N)) (hs ts : List (Shoen N)) (cs : List ℕ) → ts ≡ with_cells xs 0 hs → AreCounted hs cs → AreCounted ts cs
@@ -76,7 +81,7 @@ blocking_with {N = N} xs hs work n =
   where
     same_blocking : (o : Option (Shoen N)) → unwrap_or (option_map (is_blocking_in (with_cells xs 0 hs) work) o) false ≡ unwrap_or (option_map (is_blocking_in hs work) o) false
     same_blocking None = refl
-    same_blocking (Some h) = ap (λ c. h.is_stopped || (not (is_living h.life) || nat_le h.allowance c)) (charged_same xs hs work h.number)
+    same_blocking (Some h) = ap (λ c. h.is_stopped || not (is_living h.life) || nat_le h.allowance c) (charged_same xs hs work h.number)
 
 pub enabled_with : {N : Type 0} (xs : List (Cell N)) (hs : List (Shoen N)) (work : List ℕ) (n : ℕ) → is_enabled_at (with_cells xs 0 hs) work n ≡ is_enabled_at hs work n
 enabled_with {N = N} xs hs work n = ap (λ ns. not (list_any (is_blocking_at (with_cells xs 0 hs) work) ns)) (path_with xs hs n) ∙ ap not (each (path_in hs n))
