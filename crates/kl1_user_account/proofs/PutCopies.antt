@@ -5,7 +5,7 @@ use Rattle.kl1_model.specs.laws.RelabelLaws.{IsIncreasing, relabelled}
 use Rattle.kl1_store_copy.specs.Numbers.{after, numbered}
 use Rattle.kl1_store_copy.specs.Copies.{HasEnds}
 use Rattle.kl1_store_copy.proofs.Rising.{increasing}
-use Rattle.kl1_user_effects.proofs.OneState.{one_goals, one_shoens}
+use Rattle.kl1_user_account.proofs.OneState.{one_goals, one_shoens}
 use Rattle.kl1_machine.specs.Collecting.{IsCollected}
 use Rattle.kl1_user_account.specs.Keeping.{AreLabels}
 use Rattle.kl1_user_account.proofs.Collected.{labels_collected, state_collected}

@@ -24,4 +24,3 @@ pub mod Words
 pub mod Relabelling
 pub mod AwaitedRenamed
 pub mod Unrenamed
-pub mod OneState

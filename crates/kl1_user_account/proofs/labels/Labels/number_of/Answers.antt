@@ -2,13 +2,13 @@ use Rattle.std.proofs.Common.{inl, inr, refl, arith}
 use Rattle.kl1_user_account.proofs.KnownAs.{known_beyond, known_found, known_missing}
 use Rattle.kl1_user_account.proofs.labels.Labels.number_of.Goals as goal
 
-pub returns-then-next-label : goal.returns-then-next-label
-returns-then-next-label c = rw (← c.self.view_is) (inl (known_beyond c.self.inside.first.items c.self.inside.next c.args.label _ c.self.invariant.0 (omega arith) refl))
+pub returns-then-self-label : goal.returns-then-self-label
+returns-then-self-label c = rw (← c.self.view_is) (inl (known_beyond c.self.inside.first.items c.self.inside.next c.args.label _ c.self.invariant.0 (omega arith) refl))
 
 pub returns-in-Ok : goal.returns-in-Ok
-returns-in-Ok c = rw (← c.self.view_is) (inl (known_found c.self.inside.first.items c.args.label c.in-Ok.place c.binary_search.result (rw c.as_slice.ensures.value at c.binary_search.ensures.position) c.self.invariant.1 c.in-Ok.is))
+returns-in-Ok c = rw (← c.self.view_is) (inl (known_found c.self.inside.first.items c.args.label c.in-Ok.place c.binary_search.result (rw c.as_slice.ensures.value at c.binary_search.ensures.position) c.self.invariant.1.0 c.in-Ok.is))
 
 pub returns-in-Err : goal.returns-in-Err
 returns-in-Err c =
     let next = c.self.invariant.0 in
-    rw (← c.self.view_is) (inr (known_missing c.self.inside.first.items c.args.label c.in-Err._place c.binary_search.result (rw c.as_slice.ensures.value at c.binary_search.ensures.position) c.self.invariant.1 (omega (arith, next)) c.in-Err.is, omega arith))
+    rw (← c.self.view_is) (inr (known_missing c.self.inside.first.items c.args.label c.in-Err._place c.binary_search.result (rw c.as_slice.ensures.value at c.binary_search.ensures.position) c.self.invariant.1.0 (omega (arith, next)) c.in-Err.is, omega arith))

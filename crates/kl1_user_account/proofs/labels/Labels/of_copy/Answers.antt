@@ -12,7 +12,7 @@ pub loop-place-preserved : goal.loop-place-preserved
 loop-place-preserved c =
     let i = c.loop-place.invariant in
     record {
-      first = next_label c.args.self.now c.args.back.now.items c.loop-place.first.items c.push.new.first.items c.loop-place.place _ c.of-label.result (omega arith) c.index.ensures c.of-label.ensures i.first c.in_ok-push.ensures.items;
-      next = next_after c.loop-place.first.items c.push.new.first.items c.of-label.result _ c.in_ok-push.ensures.items refl;
+      first = next_label c.args.self.now c.args.back.now.items c.loop-place.first.items c.push.new.self.items c.loop-place.place _ c.of-label.result (omega arith) c.index.ensures c.of-label.ensures i.first c.in_ok-push.ensures.items;
+      next = next_after c.loop-place.first.items c.push.new.self.items c.of-label.result _ c.in_ok-push.ensures.items refl;
       few = omega arith;
     }
