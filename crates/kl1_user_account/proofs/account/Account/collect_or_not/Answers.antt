@@ -11,7 +11,10 @@ copied-requires g c = holds_machine (aside_of c.self.inside) c.self.inside.machi
 
 -- the copy that was found
 copy : (g : _) (c : goal.In-Some g) → IsCopyFor c.self.inside.machine c.in-Some.copy
-copy g c = rw c.in-Some.is at c.in_ok-copied.ensures
+copy g c = rw c.in-Some.is at c.in_ok-copy.ensures
+
+pub of_copy-requires-clause-known : goal.of_copy-requires-clause-known
+of_copy-requires-clause-known g c = c.self.invariant.0.labels.rising
 
 pub of_copy-requires-clause-rising : goal.of_copy-requires-clause-rising
 of_copy-requires-clause-rising g c = (copy g (goal.at.of_copy-requires-clause-rising g c).In-Some).rising

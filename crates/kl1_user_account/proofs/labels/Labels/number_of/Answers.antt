@@ -1,9 +1,12 @@
-use Rattle.std.proofs.Common.{inl, inr, refl, arith}
+use Rattle.std.proofs.Common.{◌≡◌, ℕ, ◌+◌, ◌-◌, length, inl, inr, ap, ◌∙◌, arith}
 use Rattle.kl1_user_account.proofs.KnownAs.{known_beyond, known_found, known_missing}
 use Rattle.kl1_user_account.proofs.labels.Labels.number_of.Goals as goal
 
 pub returns-then-self-label : goal.returns-then-self-label
-returns-then-self-label c = rw (← c.self.view_is) (inl (known_beyond c.self.inside.first.items c.self.inside.next c.args.label _ c.self.invariant.0 (omega arith) refl))
+returns-then-self-label c =
+    let u = c.self.inside in
+    let count : c.len.result ≡ length u.first.items = c.len.ensures ∙ u.first.ok.0 in
+    rw (← c.self.view_is) (inl (known_beyond u.first.items u.next c.args.label _ c.self.invariant.0 (omega arith) (ap (λ (k : ℕ). c.args.label - u.next + k) count)))
 
 pub returns-in-Ok : goal.returns-in-Ok
 returns-in-Ok c = rw (← c.self.view_is) (inl (known_found c.self.inside.first.items c.args.label c.in-Ok.place c.binary_search.result (rw c.as_slice.ensures.value at c.binary_search.ensures.position) c.self.invariant.1.0 c.in-Ok.is))
