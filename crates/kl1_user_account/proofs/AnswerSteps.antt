@@ -1,5 +1,5 @@
 -- What refuses an answer, and the step of one that nothing refuses.
-use Rattle.kl1_user_account.proofs.Words.{◌≡◌, ℕ, ◌+◌, ◌-◌, not, ◌&&◌, Bool, true, false, if◌then◌else◌, List, [], ◌∷◌, refl, sym, ap, ap₂, ◌∙◌, nat_le, Option, Some, None, option_map, option_and_then, unwrap_or, and_parts, Rules, Limits, Term, structures_of, State, shoen_at, is_living, names_of, with_names, Transition, answer, refuse, unless, syntax, no_shoen, shoen_ended, if_living, may_answer, has_room_to_answer, answer_by, answer_living, answer_to, step, Reads, CellName, Known, Held, IsUnbound, Refusal, Syntax, NoShoen, Ended, Goal, Origin, Shoen, shoen_in, lives_in, Reading, built, Means, meaning, origin_with, shoen_with, state_with, with_kept, found_in, kept_at, Counted, HasNames, refusals_of, refused_or, IsFree, has_room_to_answer_beside, RefusesAnswer, IsAnswerable, with_entry, sent, answered, answer_asked, answer_with, replace_in_state, is_goal, given_view, given_goal, Asking, asked_of, Given, IsAsked, IsGiven}
+use Rattle.kl1_user_account.proofs.Words.{◌≡◌, ◌<◌, ℕ, ◌+◌, ◌-◌, not, ◌&&◌, Bool, true, false, if◌then◌else◌, List, [], ◌∷◌, refl, sym, ap, ap₂, ◌∙◌, nat_le, Option, Some, None, option_map, option_and_then, unwrap_or, and_parts, Rules, Limits, Term, structures_of, State, shoen_at, is_living, names_of, with_names, Transition, answer, refuse, unless, syntax, no_shoen, shoen_ended, if_living, may_answer, has_room_to_answer, answer_by, answer_living, answer_to, step, Reads, CellName, Known, Held, IsUnbound, Refusal, Syntax, NoShoen, Ended, Goal, Origin, Shoen, shoen_in, lives_in, Reading, built, Means, meaning, origin_with, shoen_with, state_with, with_kept, found_in, kept_at, Counted, HasNames, refusals_of, refused_or, IsFree, has_room_to_answer_beside, RefusesAnswer, IsAnswerable, with_entry, sent, answered, answer_asked, answer_with, replace_in_state, is_goal, given_view, given_goal, Asking, asked_of, Given, IsAsked, IsGiven}
 use Rattle.kl1_model.specs.State.{Origin as Tails}
 use Rattle.kl1_model.specs.Telling as model
 use Rattle.kl1_model.specs.laws.RelabelLaws.{IsIncreasing, ShiftsFrom, shoen_renamed, origin_renamed, relabelled, transition_relabelled, asked_renamed}

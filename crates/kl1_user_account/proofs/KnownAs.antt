@@ -44,14 +44,14 @@ mutual
 -- a number by which none is known is in no term
 mutual
   pub occurs_unknown : (g : ℕ → ℕ) (n : ℕ) (t : Term) → ((w : ℕ) → g w ≡ n → ⊥) → occurs n (renamed g t) ≡ false
-  occurs_unknown g n (variable w) no = ne_eqb n (g w) (λ e. no w (sym e))
-  occurs_unknown g n (integer i) no = refl
-  occurs_unknown g n (atom a) no = refl
-  occurs_unknown g n (structure a ts) no = occurs_each_unknown g n ts no
+  occurs_unknown g n (variable w) never = ne_eqb n (g w) (λ e. never w (sym e))
+  occurs_unknown g n (integer i) never = refl
+  occurs_unknown g n (atom a) never = refl
+  occurs_unknown g n (structure a ts) never = occurs_each_unknown g n ts never
 
   occurs_each_unknown : (g : ℕ → ℕ) (n : ℕ) (ts : Terms) → ((w : ℕ) → g w ≡ n → ⊥) → occurs_in n (each_renamed g ts) ≡ false
-  occurs_each_unknown g n none no = refl
-  occurs_each_unknown g n (more t ts) no = ap₂ (λ x y. x || y) (occurs_unknown g n t no) (occurs_each_unknown g n ts no)
+  occurs_each_unknown g n none never = refl
+  occurs_each_unknown g n (more t ts) never = ap₂ (λ x y. x || y) (occurs_unknown g n t never) (occurs_each_unknown g n ts never)
 
 pub other_known : (g : ℕ → ℕ) (v w : ℕ) → IsIncreasing g → (g v == g w) ≡ (v == w)
 other_known g v w up = known_equal g v w up
@@ -60,10 +60,10 @@ other_known g v w up = known_equal g v w up
 
 -- one that none in a list has, and that is below those after it, is that of none
 pub known_nowhere : (labels : List ℕ) (n : ℕ) → n < after 0 labels → ((i : ℕ) → i < length labels → get_or labels i 0 ≡ n → ⊥) → (w : ℕ) → IsKnownBy labels n w → ⊥
-known_nowhere labels n low no w e = by (cases_lt w (length labels))
+known_nowhere labels n low never w e = by (cases_lt w (length labels))
   where
     by : (w < length labels) ⊎ (length labels ≤ w) → ⊥
-    by (inl lt) = no w lt (sym (is_there 0 labels w 0 lt) ∙ e)
+    by (inl lt) = never w lt (sym (is_there 0 labels w 0 lt) ∙ e)
     by (inr le) =
         let k : ℕ = w - length labels in
         let place : length labels + k ≡ w = omega (arith, le) in
@@ -95,13 +95,13 @@ not_falling labels rising i j le lt = by (cases_eq i j)
 -- what a search in the list finds
 pub known_found : (labels : List ℕ) (n v : ℕ) (r : Result ℕ ℕ) → IsBinarySearchResult (λ y. nat_cmp y n) labels r → AreRising 0 labels → r ≡ Ok v → IsKnownBy labels n v
 known_found labels n v r at rising e =
-    let found : MatchResult (Ok v) _ _ = rw e at (searched labels n r at (not_falling labels rising)) in
+    let found : (v < length labels) × (get_or labels v 0 ≡ n) = rw e at (searched labels n r at (not_falling labels rising)) in
     known_there labels n v found.0 found.1
 
 pub known_missing : (labels : List ℕ) (n i : ℕ) (r : Result ℕ ℕ) → IsBinarySearchResult (λ y. nat_cmp y n) labels r → AreRising 0 labels → n < after 0 labels → r ≡ Err i → (w : ℕ) → IsKnownBy labels n w → ⊥
 known_missing labels n i r at rising low e =
-    let missing : MatchResult (Err i) _ _ = rw e at (searched labels n r at (not_falling labels rising)) in
-    known_nowhere labels n low (apart missing.1.0 missing.1.1)
+    let missing : (i ≤ length labels) × ((k : ℕ) → k < i → get_or labels k 0 < n) × ((k : ℕ) → i ≤ k → k < length labels → n < get_or labels k 0) = rw e at (searched labels n r at (not_falling labels rising)) in
+    known_nowhere labels n low (apart missing.1 missing.2)
   where
     apart : ((k : ℕ) → k < i → get_or labels k 0 < n) → ((k : ℕ) → i ≤ k → k < length labels → n < get_or labels k 0) → (k : ℕ) → k < length labels → get_or labels k 0 ≡ n → ⊥
     apart below above k lt same = by (cases_lt k i)
@@ -131,19 +131,19 @@ pub record HaveNumbers (labels ns vs : List ℕ) (k : ℕ) : Type 0 where
 pub numbers_none : (labels ns vs : List ℕ) → vs ≡ [] → HaveNumbers labels ns vs 0
 numbers_none labels ns vs e = record { long = ap length e; each = λ i lt. absurd (omega (arith, lt)) }
 
-pub numbers_more : (labels ns vs more : List ℕ) (k v : ℕ) → more ≡ vs ++ v ∷ [] → IsNumberOf labels (get_or ns k 0) v → HaveNumbers labels ns vs k → HaveNumbers labels ns more (k + 1)
-numbers_more labels ns vs more k v pushed one so = record {
+pub numbers_more : (labels ns vs longer : List ℕ) (k v : ℕ) → longer ≡ vs ++ v ∷ [] → IsNumberOf labels (get_or ns k 0) v → HaveNumbers labels ns vs k → HaveNumbers labels ns longer (k + 1)
+numbers_more labels ns vs longer k v pushed one so = record {
   long = ap length pushed ∙ length-append vs (v ∷ []) ∙ ap (λ n. n + 1) so.long;
   each = λ i lt. by i lt (cases_lt i k);
 }
   where
-    by : (i : ℕ) → i < k + 1 → (i < k) ⊎ (k ≤ i) → IsNumberOf labels (get_or ns i 0) (get_or more i 0)
+    by : (i : ℕ) → i < k + 1 → (i < k) ⊎ (k ≤ i) → IsNumberOf labels (get_or ns i 0) (get_or longer i 0)
     by i lt (inl less) =
-        let at : get_or vs i 0 ≡ get_or more i 0 = sym (ap (λ xs. get_or xs i 0) pushed ∙ push_before vs v i (omega (arith, less, so.long))) in
+        let at : get_or vs i 0 ≡ get_or longer i 0 = sym (ap (λ xs. get_or xs i 0) pushed ∙ push_before vs v i (omega (arith, less, so.long))) in
         rw at at (so.each i less)
     by i lt (inr le) =
         let last : i ≡ k = omega (arith, lt, le) in
-        let at : v ≡ get_or more i 0 = sym (ap (λ xs. get_or xs i 0) pushed ∙ push_last vs v i (last ∙ sym so.long)) in
+        let at : v ≡ get_or longer i 0 = sym (ap (λ xs. get_or xs i 0) pushed ∙ push_last vs v i (last ∙ sym so.long)) in
         rw (at, ← last) at one
 
 pub numbers_all : (labels ns vs : List ℕ) (k : ℕ) → k ≡ length ns → HaveNumbers labels ns vs k → AreNumbersOf labels ns vs

@@ -17,7 +17,7 @@ use Rattle.kl1_user_effects.proofs.AwaitedRenamed.{substitute_waits, term_waits}
 -- ---- lists of numbers
 
 there_known : (g : ℕ → ℕ) (vs : List ℕ) (v : ℕ) → Contains vs v → Contains (map g vs) (g v)
-there_known g vs v c = (c.0, (let lt = c.1.0 in omega (arith, lt, length-map vs g), get_or-map g vs c.0 v (g v) c.1.0 ∙ ap g c.1.1))
+there_known g vs v c = (c.0, (let lt = c.1 in omega (arith, lt, length-map vs g)), get_or-map g vs c.0 v (g v) c.1 ∙ ap g c.2)
 
 -- a number in such a list is that of one in the list
 record IsKnown (g : ℕ → ℕ) (vs : List ℕ) (w : ℕ) : Type 0 where
@@ -28,10 +28,10 @@ record IsKnown (g : ℕ → ℕ) (vs : List ℕ) (w : ℕ) : Type 0 where
 known_there : (g : ℕ → ℕ) (vs : List ℕ) (w : ℕ) → Contains (map g vs) w → IsKnown g vs w
 known_there g vs w c =
     let k = c.0 in
-    let lt = c.1.0 in
+    let lt = c.1 in
     let low : k < length vs = omega (arith, lt, length-map vs g) in
     let own = get_or vs k 0 in
-    record { own = own; there = (k, (low, get_or_default vs k own 0 low)); is = sym (get_or-map g vs k 0 w low) ∙ c.1.1 }
+    record { own = own; there = (k, low, get_or_default vs k own 0 low); is = sym (get_or-map g vs k 0 w low) ∙ c.2 }
 
 -- lists of the same variables are such lists with other numbers
 pub same_known : (g : ℕ → ℕ) (vs ws : List ℕ) → AreSame vs ws → AreSame (map g vs) (map g ws)

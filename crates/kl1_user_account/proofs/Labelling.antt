@@ -1,6 +1,6 @@
 -- Numbers by which variables are known, one variable after another.
 use Rattle.std.proofs.Common.{◌≡◌, ℕ, suc, ◌+◌, ◌-◌, ◌<◌, ◌≤◌, List, [], ◌∷◌, ◌++◌, length, get_or, take, map, refl, sym, ap, ◌∙◌, arith, take-suc}
-use Rattle.kl1_store_copy.specs.Numbers.{after, numbered}
+use Rattle.kl1_store_copy.specs.Numbers.{after, AreRising, numbered}
 use Rattle.kl1_store_copy.proofs.Rising.{is_there, beyond, after_push}
 
 -- the number of a variable that is in the list
@@ -35,3 +35,8 @@ next_label labels back first more k v label lt is known so_far pushed =
 -- and the next number
 pub next_after : (first more : List ℕ) (label next : ℕ) → more ≡ first ++ label ∷ [] → next ≡ label + 1 → next ≡ after 0 more
 next_after first more label next pushed e = e ∙ sym (one_more label) ∙ sym (after_push 0 first label) ∙ ap (after 0) (sym pushed)
+
+-- numbers that rise are at most as many as the number after the last
+pub as_many : (next : ℕ) (labels : List ℕ) → AreRising next labels → next + length labels ≤ after next labels
+as_many next [] h = omega arith
+as_many next (v ∷ vs) h = let more = as_many (suc v) vs h.1 in let low = h.0 in omega (arith, more, low)

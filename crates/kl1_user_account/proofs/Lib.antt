@@ -39,3 +39,5 @@ mod Lifting
 mod Labelling
 mod Shown
 mod LettingGo
+mod OneState
+mod PutCopies

@@ -15,6 +15,7 @@ use Rattle.kl1_user_account.proofs.Paging.{one_more}
 -- how many elements are wanted of which list, with the names that are known
 pub record Wanted : Type 0 where
   pub known : List Known
+  pub labels : List ℕ
   pub held : Held CellName
   pub list : Cell CellName
   pub most : ℕ
@@ -23,17 +24,17 @@ pub record Wanted : Type 0 where
 pub record IsListing (w : Wanted) (at : Cell CellName) (left : ℕ) (done : List (List ℕ)) : Type 0 where
   pub inside : IsIn w.held at
   pub named : (f g : Reading) → Fits w.known f → Fits w.known g → cells_of f w.held at ≡ cells_of g w.held at
-  pub listed : (f : Reading) → Fits w.known f → done ++ map cut_print (take left (cells_of f w.held at)) ≡ map cut_print (take w.most (cells_of f w.held w.list))
+  pub listed : (f : Reading) → Fits w.known f → done ++ map cut_print (take left (map (shown w.labels) (cells_of f w.held at))) ≡ map cut_print (take w.most (map (shown w.labels) (cells_of f w.held w.list)))
 
 -- one element more is listed
 pub listed_more : (w : Wanted) (at : Cell CellName) (left : ℕ) (done after : List (List ℕ)) (text : List ℕ) (p : Cell CellName × Cell CellName) → IsListing w at left done → HasElement built w.held at p → 0 < left → after ≡ done ++ text ∷ [] →
-    ((f : Reading) → Fits w.known f → text ≡ cut_print (meaning f w.held p.0)) → IsListing w p.1 (left - 1) after
+    ((f : Reading) → Fits w.known f → text ≡ cut_print (shown w.labels (meaning f w.held p.0))) → IsListing w p.1 (left - 1) after
 listed_more w at left done after text p l e some a is = record {
   inside = e.rest_in;
   named = λ f g b c. let all = sym (elements f b) ∙ l.named f g b c ∙ elements g c in cc;
   listed = λ f fits.
-      one_more cut_print done after (map cut_print (take w.most (cells_of f w.held w.list))) left (meaning f w.held p.0) (cells_of f w.held p.1) (cells_of f w.held at)
-      some (elements f fits) (l.listed f fits) (a ∙ ap (λ (x : List ℕ). done ++ x ∷ []) (is f fits));
+      one_more cut_print done after (map cut_print (take w.most (map (shown w.labels) (cells_of f w.held w.list)))) left (shown w.labels (meaning f w.held p.0)) (map (shown w.labels) (cells_of f w.held p.1)) (map (shown w.labels) (cells_of f w.held at))
+      some (ap (map (shown w.labels)) (elements f fits)) (l.listed f fits) (a ∙ ap (λ (x : List ℕ). done ++ x ∷ []) (is f fits));
 }
   where
     elements : (f : Reading) → Fits w.known f → cells_of f w.held at ≡ meaning f w.held p.0 ∷ cells_of f w.held p.1

@@ -85,7 +85,7 @@ told_as labels f h (Some x) n v held up formed inside is small number = by numbe
         record { same = ap (stands_at (Some (asked_renamed g here))) (sym known) ∙ there; known = λ _. known }
     by (inr unknown) =
         let far : h.variables ≤ v = away (cases_lt v h.variables) in
-        let nowhere : stands_at (Some here) v ≡ false = ap (λ b. b && not (v == here.new)) (other_free f h v x.goal formed (beyond h v far) inside.goal) in
+        let nowhere : stands_at (Some here) v ≡ false = ap (λ b. b && not (v == here.new)) (sym (other_free f h v x.goal formed (beyond h v far) inside.goal)) in
         let unseen : stands_at (Some (asked_renamed g here)) n ≡ false = ap (λ b. b && not (n == g here.new)) (occurs_unknown g n here.goal unknown.0) in
         record { same = unseen ∙ sym nowhere; known = λ e. absurd (false≢true (sym nowhere ∙ e)) }
       where
@@ -153,7 +153,7 @@ told_other f h x v t (Some w) is same = λ e.
     false≢true (sym (ap not (eq-eqb v x.new (sym is.1 ∙ e))) ∙ other)
 
 -- a reading of names, when it matters that there is one alone
-any : Reading
+pub any : Reading
 any = λ n. []
 
 -- ---- one more of numbers

@@ -9,7 +9,6 @@ use Rattle.kl1_model.specs.State.{State, names_of, with_names}
 use Rattle.kl1_model.specs.Event.{answer, sent, refuse, with_entry}
 use Rattle.kl1_model.specs.Answering.{answered}
 use Rattle.kl1_model.specs.Step.{step}
-use Rattle.kl1_model.specs.laws.RelabelLaws.{relabelled}
 use Rattle.kl1_user_events.specs.declared.refusal.Refusal.{Refusal}
 use Rattle.kl1_user_events.specs.Views.{refusal_of}
 use Rattle.kl1_text.specs.Reading.{Reads}
@@ -17,7 +16,6 @@ use Rattle.kl1_text.specs.declared.cell_name.CellName.{CellName}
 use Rattle.kl1_atoms.specs.declared.known.Known.{Known}
 use Rattle.kl1_store.specs.Held.{Held}
 use Rattle.kl1_store.specs.Unbound.{IsUnbound}
-use Rattle.kl1_store_copy.specs.Numbers.{numbered}
 use Rattle.kl1_match.specs.GoalCells.{new_in, AreTold}
 use Rattle.kl1_goals.specs.declared.goal.Goal.{Goal}
 use Rattle.kl1_shoen_paths.specs.declared.shoen.Shoen.{Shoen}
@@ -26,6 +24,7 @@ use Rattle.kl1_user_effects.specs.Account.{with_kept}
 use Rattle.kl1_machine.specs.Bringing.{AreOthers}
 use Rattle.kl1_user_account.specs.declared.given.Given.{Given}
 use Rattle.kl1_user_account.specs.Giving.{given_goal}
+pub use Rattle.kl1_user_account.specs.Giving.{known_state}
 use Rattle.kl1_user_account.specs.declared.counted.Counted.{Counted}
 use Rattle.kl1_user_account.specs.declared.answerable.Answering.{Answering}
 use Rattle.kl1_user_account.specs.declared.answerable.Answering.TheVariants.{Refused, Coded}
@@ -34,10 +33,6 @@ use Rattle.kl1_user_account.specs.Starting.{HasNames, IsFree}
 -- whether a goal with `variables` variables and `nodes` structures can be an answer beside what is counted
 abbrev pub has_room_to_answer_beside : Counted → ℕ → ℕ → Bool
 has_room_to_answer_beside c variables nodes = nat_le (c.variables + variables) c.most.variables && nat_le (c.nodes + nodes) c.most.nodes
-
--- a state with the numbers by which its variables are known
-abbrev pub known_state : List ℕ → State → State
-known_state labels s = relabelled (numbered labels) s
 
 -- an answer to a report of shoen `n` is refused for a reason, if this is counted, in an account whose variables are known by these numbers
 abbrev pub RefusesAnswer : Rules → Held CellName → List ℕ → List (Shoen CellName) → List Known → Counted → ℕ → ℕ → Term → Refusal → Type 0

@@ -57,6 +57,10 @@ IsTell n t (Some v) = (t ≡ true) × (v ≡ n)
 abbrev pub IsToldBy : Option (Asking CellName) → ℕ → Bool → Bool → Option ℕ → Type 0
 IsToldBy a n stands made r = IsTell n (tells a n stands made) r
 
+-- a state with the numbers by which its variables are known
+abbrev pub known_state : List ℕ → State → State
+known_state labels s = relabelled (numbered labels) s
+
 -- an exception that may be there, with the numbers by which its variables are known
 abbrev pub shown_of : List ℕ → Reading → Held CellName → Option (Asking CellName) → Option Asked
 shown_of labels f h a = option_map (asked_renamed (numbered labels)) (option_map (asked_of f h) a)
@@ -105,4 +109,4 @@ pub record IsGiven (rules : Rules) (h : Held CellName) (labels : List ℕ) (a : 
   pub told : AreTold h g.told.items
   pub others : IfSome a (λ x. AreOthers x.new g.told.items)
   pub given_is : (f : Reading) → Reads built f → (s : State) → s.rules ≡ rules → s.last_variable ≡ h.variables - 1 →
-      given (relabelled (numbered labels) s) (shown_of labels f h a) goal ≡ given_shown labels s.last_variable g
+      given (known_state labels s) (shown_of labels f h a) goal ≡ given_shown labels s.last_variable g

@@ -17,7 +17,7 @@ ghost use Rattle.std.specs.Prelude.{◌≡◌, ◌&&◌, option_map};
 ghost use Rattle.kl1_model.specs.Choice.{first, is_in_run, quiet};
 ghost use Rattle.kl1_model.specs.Event.{is_full, needs_entry};
 ghost use Rattle.kl1_user_effects.specs.Fitting.{Reading, Fits};
-ghost use Rattle.kl1_user_effects.specs.Account.{state_of, texts_of};
+ghost use Rattle.kl1_user_effects.specs.Account.{local_state, state_of, texts_of};
 ghost use Rattle.kl1_user_account.specs.Starting.{HasNames};
 ghost use Rattle.kl1_user_events.specs.Views.{chosen_of};
 
@@ -114,7 +114,7 @@ impl<C: CodeSource> Account<C> {
 
     /// What an account has of what is counted.
     fn counted(&self) -> Counted
-        ensures { (f : Reading) → HasNames (state_of f self.now) self.now.names result }
+        ensures { (f : Reading) → HasNames (local_state f self.now) self.now.names result }
     {
         Counted {
             goals: self.machine.goals.alive(),

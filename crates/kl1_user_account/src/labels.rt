@@ -78,6 +78,7 @@ impl Labels {
 
     /// The numbers of the variables of a copy, of which `back` has for each the number in the store.
     pub(crate) fn of_copy(&self, alloc: Global, back: &Vec<u32>) -> Result<Labels, AllocError>
+        requires known { AreRising 0 self.now }
         requires rising { AreRising 0 back.now.items }
         requires long { length self.now ≤ after 0 back.now.items }
         ensures { IfOk result (λ labels. labels ≡ map (numbered self.now) back.now.items) }

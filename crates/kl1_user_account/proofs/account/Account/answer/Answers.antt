@@ -44,4 +44,4 @@ returns-clause-step g c =
     may.steps f fits.reads (record S { goals = []; shoens = []; last_variable = 0 }) a.goals refl (rw (← c.self.view_is) at (c.counted-counted.ensures f))
     ∙ (ap T (sym c.as_slice.ensures.value)
     ∙ (ap R (rw c.in_ok-answering.ensures.same at (c.in_ok-bring.ensures.brings f fits))
-    ∙ ap (λ (labels : List ℕ). let x : Transition = record { state = relabelled (numbered labels) (local_state f _); reply = sent } in x) (sym (rw c.in_ok-answering.ensures.same at c.in_ok-bring.ensures.labels)))))
+    ∙ ap (λ (labels : List ℕ). let x : Transition = record { state = relabelled (numbered labels) (local_state f c.bring.new.self); reply = sent } in x) (sym c.in_ok-bring.ensures.labels))))

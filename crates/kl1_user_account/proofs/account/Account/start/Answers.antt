@@ -9,7 +9,9 @@ pub returns-in-Refused-clause-step : goal.returns-in-Refused-clause-step
 returns-in-Refused-clause-step g c = λ f fits.
     let refused : (s : State) → HasNames s c.args.self.now.names c.counted-counted.result → step s (start c.args.allowance c.args.low c.args.high c.args.goal.now) ≡ refuse s (refusal_of c.in-Refused.refusal) =
     rw (← c.self.view_is) (rw c.in-Refused.is at c.in_ok-refusal.ensures) in
-    refused (state_of f c.args.self.now) (c.counted-counted.ensures f)
+    let K : Account → Type 0 = λ a. (0 < a.held.variables) × AreLabels a.held.variables a.labels in
+    let known : K c.args.self.now = subst K c.self.view_is (c.self.invariant.0.some, c.self.invariant.0.labels) in
+    lifted f c.args.self.now c.args.self.now (start c.args.allowance c.args.low c.args.high c.args.goal.now) _ known.0 known.1 refl tt (refused (local_state f c.args.self.now) (c.counted-counted.ensures f))
 
 -- what is known of the goal and its code
 startable : (g : _) (c : goal.In-Coded g) → IsStartable c.args.self.now.names c.counted-counted.result c.args.allowance c.args.low c.args.high c.args.goal.now c.in-Coded.code
