@@ -4,8 +4,8 @@ use Rattle.kl1_model.specs.Rules.{limits_of}
 use Rattle.kl1_pool.proofs.Seating.{has_room}
 use Rattle.kl1_host_work.proofs.starting.run_host.Goals as goal
 
-pub new-2-requires-clause-room : goal.new-2-requires-clause-room
-new-2-requires-clause-room g c =
+pub new-requires-2-clause-room : goal.new-requires-2-clause-room
+new-requires-2-clause-room g c =
     let own = (limits_of Rules.Five).names in
     let least : own ≤ own = omega arith in
-    has_room Rules.Five c.limits.result.names c.with_room.result.1.items (subst (λ l. own ≤ l.names) (sym c.limits.ensures.value) least) c.with_room.ensures.room
+    has_room Rules.Five c.limits-room.result.names c.in_ok-table.seats.items (subst (λ l. own ≤ l.names) (sym c.limits-room.ensures.value) least) c.in_ok-table.ensures.room

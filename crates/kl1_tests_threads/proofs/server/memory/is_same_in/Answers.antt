@@ -4,5 +4,5 @@ use Rattle.kl1_model.specs.declared.rules.Rules.{Rules}
 use Rattle.kl1_pool.proofs.Seating.{has_room}
 use Rattle.kl1_tests_threads.proofs.server.memory.is_same_in.Goals as goal
 
-pub new-3-requires-clause-room : goal.new-3-requires-clause-room
-new-3-requires-clause-room c = has_room Rules.Three MOST_NAMES_BEFORE c.new.result.1.items (omega arith) c.new.ensures.room
+pub new-requires-3-clause-room : goal.new-requires-3-clause-room
+new-requires-3-clause-room g c = has_room Rules.Three MOST_NAMES_BEFORE c.in_ok-table.seats.items (omega arith) c.in_ok-table.ensures.room
