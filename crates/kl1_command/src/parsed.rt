@@ -14,8 +14,8 @@ ghost use Rattle.kl1_command.specs.Commands.{parsed_view};
 
 use crate::command::Command;
 use kl1_lines::{Request, is_blank_line, is_same, number_in, only_number, split_word, up_to};
-use kl1_model::{Message, Rules};
 use kl1_model::limits::{MOST_COMMAND_BYTES, MOST_LISTED, MOST_PRIORITY, MOST_STEPS};
+use kl1_model::{Message, Rules};
 use kl1_read::{ReadFault, read_answer, read_goal};
 use kl1_user_events::{ClauseNo, Event, GoalNo, Query, ShoenNo};
 use std::alloc::{AllocError, Global};
@@ -30,11 +30,7 @@ pub enum Parsed {
 }
 
 /// The command of a record by these rules.
-pub fn command_in(
-    alloc: Global,
-    rules: Rules,
-    request: Request<'_>,
-) -> Result<Parsed, AllocError>
+pub fn command_in(alloc: Global, rules: Rules, request: Request<'_>) -> Result<Parsed, AllocError>
     ensures { IfOk result (λ parsed. parsed_view parsed ≡ command_of rules (request_of request.entry)) }
 {
     match request {
@@ -59,12 +55,7 @@ pub fn parse(alloc: Global, rules: Rules, line: &[u8]) -> Result<Parsed, AllocEr
 }
 
 /// The command of a line by its first word and what is after it, by these rules.
-fn parse_by(
-    alloc: Global,
-    rules: Rules,
-    word: &[u8],
-    rest: &[u8],
-) -> Result<Parsed, AllocError>
+fn parse_by(alloc: Global, rules: Rules, word: &[u8], rest: &[u8]) -> Result<Parsed, AllocError>
     ensures { IfOk result (λ parsed. parsed_view parsed ≡ command_by rules word.now rest.now) }
 {
     if is_same(word, b"start") {

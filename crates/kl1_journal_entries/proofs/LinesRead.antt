@@ -27,12 +27,8 @@ use Rattle.kl1_model_server.proofs.ReadStrict.{goals_read_are_printable}
 use Rattle.kl1_model_server.proofs.TextEntries.{length_hex, is_read}
 use Rattle.kl1_journal_entries.specs.Lined.{is_lined, if_lined}
 use Rattle.kl1_journal_entries.specs.Reading.{is_line_of}
-use Rattle.kl1_journal_entries.proofs.Sound.{if_true}
+use Rattle.kl1_journal_entries.proofs.Sound.{if_true, if_false}
 use Rattle.kl1_journal_entries.proofs.ToldRead.{answers_read}
-
-if_false : (b : Bool) (e : Entry) → b ≡ false → (if b then Some e else None) ≡ None
-if_false true e h = cc
-if_false false e h = refl
 
 -- ---- an entry that is read is lined
 

@@ -142,10 +142,14 @@ abbrev run_at : List LongEntry → Option PackedEntry → ℕ
 run_at ws None = 0
 run_at ws (Some s) = run_length (entry_at ws s)
 
+-- the last of places is that of all but the first
+last_behind : (s t : PackedEntry) (ts : List PackedEntry) → slice_get (s ∷ t ∷ ts) (length (s ∷ t ∷ ts) - 1) ≡ slice_get (t ∷ ts) (length (t ∷ ts) - 1)
+last_behind s t ts = ap (λ n. slice_get (s ∷ t ∷ ts) n) (let e : length (s ∷ t ∷ ts) - 1 ≡ suc (length (t ∷ ts) - 1) = omega arith in e)
+
 pub last_at : (ws : List LongEntry) (ss : List PackedEntry) (o : Option PackedEntry) → o ≡ slice_get ss (length ss - 1) → last_run_of (map (entry_at ws) ss) ≡ run_at ws o
 last_at ws [] o is = ap (run_at ws) (sym is)
 last_at ws (s ∷ []) o is = ap (run_at ws) (sym is)
-last_at ws (s ∷ t ∷ ts) o is = last_at ws (t ∷ ts) o is
+last_at ws (s ∷ t ∷ ts) o is = last_at ws (t ∷ ts) o (is ∙ last_behind s t ts)
 
 pub none_last : (ws : List LongEntry) (ss : List PackedEntry) → None ≡ slice_get ss (length ss - 1) → 0 ≡ if_longer (last_run_of (map (entry_at ws) ss))
 none_last ws ss is = sym (ap if_longer (last_at ws ss None is))
@@ -157,7 +161,7 @@ some_last ws ss s k is run = run ∙ sym (ap if_longer (last_at ws ss (Some s) i
 pub last_place : (P : PackedEntry → Type 0) (ss : List PackedEntry) (s : PackedEntry) → Some s ≡ slice_get ss (length ss - 1) → AllByRecursion P ss → P s
 last_place P [] s is all = absurd (none-some s (sym is))
 last_place P (t ∷ []) s is all = subst P (sym (same_Some s t is)) all.0
-last_place P (t ∷ u ∷ us) s is all = last_place P (u ∷ us) s is all.1
+last_place P (t ∷ u ∷ us) s is all = last_place P (u ∷ us) s (is ∙ last_behind t u us) all.1
 
 -- a run that is kept whole may not be longer
 not_longer : (n : ℕ) → MOST_RUN ≤ n → 0 ≡ if_longer n

@@ -93,6 +93,11 @@ pub if_true : (b : Bool) (e : Entry) → b ≡ true → (if b then Some e else N
 if_true true e is = refl
 if_true false e is = cc
 
+-- a test that doesn't
+pub if_false : (b : Bool) (e : Entry) → b ≡ false → (if b then Some e else None) ≡ None
+if_false true e is = cc
+if_false false e is = refl
+
 -- a start with its goal's print
 pub start_is : (rules : Rules) (allowance low high : ℕ) (t : Term) (text : List ℕ) → text ≡ print t → is_lined rules (starts allowance low high t) ≡ true → Some (starts allowance low high (goal_in text)) ≡ if_lined rules (starts allowance low high t)
 start_is rules allowance low high t text is lined = ap (λ g. Some (starts allowance low high g)) (start_back rules allowance low high t text is lined) ∙ sym (if_true (is_lined rules (starts allowance low high t)) (starts allowance low high t) lined)

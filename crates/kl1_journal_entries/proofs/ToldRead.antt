@@ -16,7 +16,7 @@ use Rattle.kl1_model.specs.Goal.{is_goal}
 use Rattle.kl1_model.specs.Event.{is_number}
 use Rattle.kl1_model.specs.State.{has_told}
 use Rattle.kl1_model.specs.Module.{Reading, good, bad, startable, bare_tokens, first_line, read_goal}
-use Rattle.kl1_model.specs.Telling.{is_told, told_number, others_after, told_from, told_term, read_told_goal, told_after, is_told_term, read_answer}
+use Rattle.kl1_model.specs.Telling.{is_told, told_from, told_term, read_told_goal, told_after, is_told_term, read_answer}
 use Rattle.kl1_model.specs.Answering.{is_numbered_by}
 use Rattle.kl1_model.proofs.ReadSound.{expression_trees_sound}
 use Rattle.kl1_model.proofs.ReadMeans.{numbers_of, expression_variables}

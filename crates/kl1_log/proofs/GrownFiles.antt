@@ -8,7 +8,7 @@ use Rattle.kl1_model.specs.declared.rules.Rules.{Rules}
 use Rattle.kl1_model.specs.declared.limits.TheConstants.{MOST_LINE_BYTES}
 use Rattle.kl1_model_server.specs.Command.{written_line, written_lines}
 use Rattle.kl1_model_server.specs.Journal.{Entry, runs, Journal}
-use Rattle.kl1_model_server.specs.JournalText.{entry_line, name_line, heading_line, journal_lines, Lines, lines_of, journal_of, journal_in}
+use Rattle.kl1_model_server.specs.JournalText.{entry_line, name_line, heading_line, journal_lines, Lines, lines_of, journal_of, journal_in, entries_in}
 use Rattle.kl1_model_server.specs.laws.TextLaws.{HasLine, is_unbroken, IsWritten}
 use Rattle.kl1_model_server.proofs.TextEntries.{entries_read_back}
 use Rattle.kl1_model_server.proofs.TextJournals.{journals_read_back}

@@ -1,5 +1,5 @@
 -- A goal that comes in the place of a variable.
-use Rattle.kl1_machine.proofs.Words.{◌≡◌, ℕ, zero, suc, ◌+◌, ◌-◌, ◌<◌, ◌≤◌, true, false, if◌then◌else◌, List, [], ◌∷◌, refl, sym, ap, ◌∙◌, arith, Option, Some, None, ne_eqb, or_from, Term, variable, structure, Terms, none, more, occurs, occurs_in, replace, Replacement, substituted, each_substituted, replaced, highest, structures_of, mgu_within, highest_among, mgu, is_goal, answered_by, given_by, State, names_of, with_names, nodes_of, Reads, CellName, Cell, Variable, Unified, Bound, Clash, Held, is_bound, IsIn, Kept, SettlesTo, IsSolved, OnlyBound, IsFormed, Grown, Grown-bound, Grown-trans, equation_of, Instruction, IsRowOf, with_variables, kept_with, in_grown, Reading, built, meaning, worked, replaced_state, base, read_as, rereads, Machine, made, IsMachine, ReadsNames, Answer, counting, CanAnswer, BuildsAnswer, AreOthers, Brings, IsNoVariable, front_solves, one_equation, one_by, sides, subst, length}
+use Rattle.kl1_machine.proofs.Words.{◌≡◌, ℕ, zero, suc, ◌+◌, ◌-◌, ◌<◌, true, false, if◌then◌else◌, List, [], ◌∷◌, refl, sym, ap, ◌∙◌, arith, Option, Some, None, ne_eqb, or_from, Term, variable, structure, Terms, none, more, occurs, occurs_in, replace, Replacement, substituted, each_substituted, replaced, highest, structures_of, mgu_within, highest_among, mgu, is_goal, answered_by, State, names_of, with_names, nodes_of, Reads, CellName, Cell, Variable, Unified, Bound, Clash, Held, is_bound, IsIn, Kept, SettlesTo, IsSolved, OnlyBound, IsFormed, Grown, Grown-bound, Grown-trans, equation_of, Instruction, IsRowOf, with_variables, kept_with, in_grown, Reading, built, meaning, worked, replaced_state, base, read_as, rereads, Machine, made, IsMachine, ReadsNames, Answer, counting, CanAnswer, BuildsAnswer, AreOthers, Brings, IsNoVariable, front_solves, one_equation, one_by, sides, subst}
 use Rattle.kl1_match.specs.GoalCells as building
 use Rattle.kl1_match.specs.GoalCells.{new_in, told_row, told_at, AreFreeCells}
 use Rattle.kl1_match.proofs.GoalCells.{told_variables}

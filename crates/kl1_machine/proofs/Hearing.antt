@@ -116,8 +116,8 @@ aborts m k below i b j =
 
 -- the goals that are left are of shoens elsewhere
 elsewhere_by : (n : ℕ) (ss : List (Shoen CellName)) (below : List ℕ) (gs : List (Goal CellName)) → AllByRecursion (λ g. is_on_path_in ss n g.shoen ≡ is_of_any below g) gs → AreElsewhere ss n (rid_of below gs)
-elsewhere_by n ss below [] tells = tt
-elsewhere_by n ss below (g ∷ gs) tells = elim (cases_Bool (is_of_any below g)) [ inl gone ↦ rw gone (elsewhere_by n ss below gs tells.1) | inr left ↦ rw left (tells.0 ∙ left, elsewhere_by n ss below gs tells.1) ]
+elsewhere_by n ss below [] these = tt
+elsewhere_by n ss below (g ∷ gs) these = elim (cases_Bool (is_of_any below g)) [ inl gone ↦ rw gone (elsewhere_by n ss below gs these.1) | inr left ↦ rw left (these.0 ∙ left, elsewhere_by n ss below gs these.1) ]
 
 pub elsewhere_after : (m n : Machine) (k : ℕ) (below : List ℕ) → IsMachine m → AreBelow m.shoens.shoens k below → Becomes (having_goals (rid_of below m.goals.goals) m) n → AreElsewhere n.shoens.shoens k n.goals.goals
 elsewhere_after m n k below i b gone = rw gone.is (elsewhere_by k m.shoens.shoens below m.goals.goals (below_tells k m.shoens.shoens below m.goals.goals b i.inside.owned))

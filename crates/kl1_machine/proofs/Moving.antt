@@ -1,5 +1,5 @@
 -- What a goal's move does to a machine, and a move with the charge before it.
-use Rattle.kl1_machine.proofs.Words.{most_names, ◌≡◌, ℕ, suc, Bool, List, [], length, refl, sym, ap, ◌∙◌, subst, Some, Candidate, State, charge, commits, unifies, names, opens, gives_way, moved, CellName, Cell, Qualified, IsIn, Move, ExecuteArguments, order_at, IsOrder, IsCandidate, IsMove, Reduces, Goal, Numbered, Reading, meaning, goal_with, aim, IsOwned, worked, Knows, name_for, turns_as, replaced_turns, Machine, made, IsMachine, goal_at, Turns, with_goal, Puts, Charges, TurnsAs, Commits, UnifiesAs, OpensChild, Making, IsMade, MovesAs, ReadsAll, StandsFor, Predicate, taken_places}
+use Rattle.kl1_machine.proofs.Words.{most_names, ◌≡◌, ℕ, suc, Bool, List, [], length, refl, sym, ap, ◌∙◌, subst, Some, Candidate, State, charge, commits, unifies, opens, gives_way, moved, CellName, Cell, Qualified, IsIn, Move, ExecuteArguments, order_at, IsOrder, IsCandidate, IsMove, Reduces, Goal, Numbered, Reading, meaning, goal_with, aim, IsOwned, worked, Knows, name_for, turns_as, replaced_turns, Machine, made, IsMachine, goal_at, with_goal, Puts, Charges, TurnsAs, Commits, UnifiesAs, OpensChild, Making, IsMade, MovesAs, ReadsAll, StandsFor, Predicate, taken_places}
 use Rattle.kl1_model.specs.Term as term
 use Rattle.kl1_model.specs.Reduction as model
 use Rattle.kl1_goals_moves.specs.declared.moves.Move.TheVariants as move

@@ -43,7 +43,7 @@ flags_then : (b m : Machine) (t : Tree CellName) (shifts : Bool) → (shifts ≡
 flags_then b m t shifts f s e k le = let more = s.shoens in (f e).1 k (omega (arith, le, more)) ∙ s.flags (f e).0 k le
 
 -- a machine of which only shoens are others, how many the table of goals knows, what is noted of them, and who is told
-since_tree : (b m : Machine) (hs : List (Shoen CellName)) (room known : ℕ) (shifts : Bool) (v : Vec ℕ) → length m.shoens.shoens ≤ length hs → AllByRecursion (KeepsControl b (telling hs v m)) m.goals.goals → (shifts ≡ false → (m.shifts ≡ false) × SameFlags m.shoens (record m.shoens { shoens = hs })) → Since b m →
+pub since_tree : (b m : Machine) (hs : List (Shoen CellName)) (room known : ℕ) (shifts : Bool) (v : Vec ℕ) → length m.shoens.shoens ≤ length hs → AllByRecursion (KeepsControl b (telling hs v m)) m.goals.goals → (shifts ≡ false → (m.shifts ≡ false) × SameFlags m.shoens (record m.shoens { shoens = hs })) → Since b m →
     Since b (record m { shoens = record m.shoens { shoens = hs; room = room }; goals = record m.goals { shoens = known }; shifts = shifts; told = v })
 since_tree b m hs room known shifts v more controls flags s = record {
   keeps = record { grown = s.keeps.grown; trail = s.keeps.trail };
@@ -173,9 +173,9 @@ unleaving rules n none (h ∷ hs) = ap₂ (λ (x : Shoen CellName) (xs : List (S
 aborted_beside : (left : Option (Cell CellName)) (all : List (Shoen CellName)) (n k : ℕ) → is_on_path_in all n k ≡ false → (xs : List (Shoen CellName)) → control_at (map (aborted_below_in left all n) xs) k ≡ control_at xs k
 aborted_beside left all n k off [] = refl
 aborted_beside left all n k off (x ∷ xs) = elim (cases_Bool (is_living x.life)) [
-  | inr dead ↦ rw dead same
+  | inr dead ↦ rw dead (same (aborted_beside left all n k off xs))
   | inl lives ↦ rw lives (elim (cases_Bool (is_on_path_in all n x.number)) [
-    | inr beside ↦ rw beside same
+    | inr beside ↦ rw beside (same (aborted_beside left all n k off xs))
     | inl below ↦ rw below (elim (cases_Bool (x.number == k)) [
       | inl is ↦ absurd (false≢true (sym off ∙ ap (is_on_path_in all n) (sym (eqb-true x.number k is)) ∙ below))
       | inr other ↦ rw other (aborted_beside left all n k off xs)
@@ -183,8 +183,8 @@ aborted_beside left all n k off (x ∷ xs) = elim (cases_Bool (is_living x.life)
   ])
 ]
   where
-    same : control_at (x ∷ map (aborted_below_in left all n) xs) k ≡ control_at (x ∷ xs) k
-    same = elim (cases_Bool (x.number == k)) [ inl is ↦ rw is | inr other ↦ rw other (aborted_beside left all n k off xs) ]
+    same : control_at (map (aborted_below_in left all n) xs) k ≡ control_at xs k → control_at (x ∷ map (aborted_below_in left all n) xs) k ≡ control_at (x ∷ xs) k
+    same rest = elim (cases_Bool (x.number == k)) [ inl is ↦ rw is | inr other ↦ rw other rest ]
 
 aborted_before : (m : Machine) (left : Option (Cell CellName)) (n : ℕ) (gs : List (Goal CellName)) → AreElsewhere m.shoens.shoens n gs → AllByRecursion (KeepsBefore (map (aborted_below_in left m.shoens.shoens n) m.shoens.shoens) m) gs
 aborted_before m left n gs elsewhere =

@@ -12,7 +12,7 @@ use Rattle.boxcar.specs.Table.{Shelves}
 use Rattle.kl1_tally.specs.Seats.{Book}
 use Rattle.kl1_user_events.specs.Views.{reduced_or}
 use Rattle.kl1_user_events.specs.declared.refusal.Refusal.{Refusal}
-use Rattle.kl1_journal.specs.Keeping.{Reading, Fits, Held, kept_of, IsKept}
+use Rattle.kl1_journal.specs.Keeping.{Reading, Fits, Held, kept_of}
 use Rattle.kl1_user.specs.Readings.{reading_of, reading_fits}
 use Rattle.kl1_pool.specs.declared.totals_before_reset.TotalsBeforeReset.{TotalsBeforeReset}
 use Rattle.kl1_command.specs.Told.{events_by, steps_by}

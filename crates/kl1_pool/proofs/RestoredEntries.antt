@@ -1,5 +1,5 @@
 -- Entries that are done one after another, and what is counted of them.
-use Rattle.std.proofs.Common.{◌≡◌, ℕ, suc, ◌+◌, not, Bool, true, false, List, [], ◌∷◌, ◌++◌, take, drop, map, length, length-append, refl, sym, ap, ◌∙◌, subst, arith}
+use Rattle.std.proofs.Common.{◌≡◌, ℕ, ◌+◌, not, Bool, true, false, List, [], ◌∷◌, ◌++◌, take, drop, length, length-append, refl, sym, ap, ◌∙◌, subst, arith}
 use Rattle.std.proofs.lemmas.Bool.{and_parts, and_from}
 use Rattle.std.proofs.lemmas.List.{append_assoc, map-append, length-map, take-map}
 use Rattle.kl1_model.specs.State.{State}
@@ -76,13 +76,13 @@ done_more s es rest e n now after left done accepted is =
 
 -- no more are done
 pub restored_at : (s : State) (es rest : List Entry) (r : Restored) (now after : State) → AreLeft es rest r.entries → AreDone s es r.entries now → first_steps r.steps now ≡ record { state = after; reply = ran r.steps } → IsEndAt r.end now rest r.steps → IsRestored s es r after
-restored_at s es rest r now after left done steps ended =
+restored_at s es rest r now after left done led ended =
     let sum : length es ≡ r.entries + length rest = ap length left.split ∙ length-append (take r.entries es) rest ∙ ap (λ k. k + length rest) left.count in
     let rest_is : rest ≡ drop r.entries es = sym (rest_of (take r.entries es) rest) ∙ ap (drop (length (take r.entries es))) (sym left.split) ∙ ap (λ k. drop k es) left.count in
     record {
       few = omega (arith, sum);
       accepted = done.accepted;
-      steps = subst (λ t. first_steps r.steps t ≡ record { state = after; reply = ran r.steps }) done.state steps;
+      steps = subst (λ t. first_steps r.steps t ≡ record { state = after; reply = ran r.steps }) done.state led;
       ended = subst (λ t. IsEndAt r.end t (drop r.entries es) r.steps) done.state (subst (λ xs. IsEndAt r.end now xs r.steps) rest_is ended);
     }
 

@@ -1,8 +1,9 @@
 -- What an event makes of what a book tells.
-use Rattle.std.proofs.Common.{◌≡◌, ℕ, zero, suc, ◌+◌, ◌-◌, ◌<◌, ◌^◌, nat_le, nat_lt, not, ◌&&◌, Bool, true, false, if◌then◌else◌, List, [], ◌∷◌, ◌++◌, length, refl, sym, ap, ◌∙◌, subst, arith}
+use Rattle.std.proofs.Common.{◌≡◌, ℕ, zero, suc, ◌+◌, ◌-◌, ◌<◌, ◌^◌, nat_le, nat_lt, not, ◌&&◌, Bool, true, false, if◌then◌else◌, List, [], ◌∷◌, ◌++◌, map, take, drop, length, refl, sym, ap, ◌∙◌, subst, arith}
 use Rattle.std.specs.Prelude.{Option, Some, None, is_some}
-use Rattle.kl1_model.specs.declared.limits.TheConstants.{MOST_MODULES, MOST_RUN, MOST_SESSIONS, MOST_SOURCE_BYTES}
+use Rattle.kl1_model.specs.declared.limits.TheConstants.{MOST_LISTED, MOST_MODULES, MOST_RUN, MOST_SESSIONS, MOST_SOURCE_BYTES}
 use Rattle.kl1_model.specs.Term.{Term}
+use Rattle.kl1_model.specs.Print.{cut_print}
 use Rattle.kl1_model.specs.declared.message.Message.{Message}
 use Rattle.kl1_model.specs.declared.rules.Rules.{Rules}
 use Rattle.kl1_model.specs.Module.{Module, Reading, good, bad, read_module}
@@ -15,7 +16,7 @@ use Rattle.kl1_model.specs.Reduction.{Action, reduce_goal, acted, action_of}
 use Rattle.kl1_model.specs.Opening.{may_start, has_room_to_start, start_goal}
 use Rattle.kl1_model.specs.Sending.{may_send, has_room_to_send, send_to, send_living, sent_on}
 use Rattle.kl1_model.specs.Answering.{may_answer, has_room_to_answer, asked_at, given, answered, answer_by, answer_asked, answer_living, answer_to}
-use Rattle.kl1_model.specs.Asking.{reply_to, origin_at, kept_at}
+use Rattle.kl1_model.specs.Asking.{elements_of, reply_to, origin_at, kept_at}
 use Rattle.kl1_model.specs.Forgetting.{may_forget, may_go, gone, forget_by, forget_of}
 use Rattle.kl1_model.specs.Telling.{Asked, Given}
 use Rattle.kl1_model.specs.Step.{load_module, start_by, step}
@@ -208,9 +209,14 @@ status_counts : (p : TotalsBeforeReset) (j : Journal) (b : Book) (q : model.Quer
 status_counts p j b q s None h = (no_more p j b h, refl)
 status_counts p j b q s (Some o) h = (no_more p j b h, refl)
 
+-- reports are told, or refused
+reports_by : (p : TotalsBeforeReset) (j : Journal) (b : Book) (q : model.Query) (s : State) (c : Bool) (texts : List (List ℕ)) → IsCounted p j b → Counts p j b (model.read q) (record { state = s; reply = if c then model.listed texts else model.refused model.answer_refused })
+reports_by p j b q s true texts h = (no_more p j b h, refl)
+reports_by p j b q s false texts h = (no_more p j b h, refl)
+
 reports_count : (p : TotalsBeforeReset) (j : Journal) (b : Book) (q : model.Query) (s : State) (from : ℕ) (o : Option Origin) → IsCounted p j b → Counts p j b (model.read q) (reports_of s from o)
 reports_count p j b q s from None h = (no_more p j b h, refl)
-reports_count p j b q s from (Some o) h = (no_more p j b h, refl)
+reports_count p j b q s from (Some o) h = reports_by p j b q s (nat_lt o.forgotten from) (map cut_print (take MOST_LISTED (drop (from - 1 - o.forgotten) (elements_of o.reports)))) h
 
 answer_counts : (p : TotalsBeforeReset) (j : Journal) (b : Book) (q : model.Query) (s : State) → IsCounted p j b → Counts p j b (model.read q) (reply_to s q)
 answer_counts p j b (model.value n) s h =

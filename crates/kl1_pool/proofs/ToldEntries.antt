@@ -67,8 +67,8 @@ sent_to s n m (Some to) = sent s n m to to.origin
 
 told_given : (s : State) (t : Term) (g : Given) (a : Option Asked) → Tells one (answer_by s g t a)
 told_given s t g None h = cc
-told_given s t g (Some a) =
-    by_unless (Tells one) s ((g.tells_gone, model.answer_refused) ∷ []) (record { state = with_entry (answered a.new g t s); reply = model.sent }) (refused one s) (λ h. refl)
+told_given s t g (Some a) h =
+    by_unless (Tells one) s ((g.tells_gone, model.answer_refused) ∷ []) (record { state = with_entry (answered a.new g t s); reply = model.sent }) (refused one s) (λ k. refl) h
 
 told_asked : (s : State) (t : Term) (a : Option Asked) → Tells one (answer_asked s t a)
 told_asked s t a =

@@ -2,8 +2,8 @@
 
 use crate::line::{Line, Table};
 use kl1_command::{Command, Parsed, parse};
-use kl1_model::Rules;
 use kl1_lines::{is_blank_line, is_same, only_number, split_word, up_to};
+use kl1_model::Rules;
 use kl1_read::{ReadFault, read_goal};
 use kl1_user_events::{Event, Query, ShoenNo};
 use std::alloc::{AllocError, Global};
@@ -12,12 +12,7 @@ use std::alloc::{AllocError, Global};
 pub const MOST_TRACED: u64 = 10_000;
 
 /// What a line without its end asks for, of an account of these rules. `most` steps are asked for if it doesn't say how many.
-pub fn parse_line(
-    alloc: Global,
-    rules: Rules,
-    text: &[u8],
-    most: u64,
-) -> Result<Line, AllocError> {
+pub fn parse_line(alloc: Global, rules: Rules, text: &[u8], most: u64) -> Result<Line, AllocError> {
     let (word, rest) = split_word(text);
     if is_blank_line(text) {
         Ok(Line::Blank)

@@ -35,11 +35,7 @@ pub(crate) fn input_in(
 {
     match request {
         Request::Line(line) => line_input(alloc, rules, line),
-        Request::Load(source) => Ok(input_by(command_in(
-            alloc,
-            rules,
-            Request::Load(source),
-        )?)),
+        Request::Load(source) => Ok(input_by(command_in(alloc, rules, Request::Load(source))?)),
         Request::SpoiledLoad => Ok(Input::Refused(Refusal::Syntax)),
     }
 }

@@ -1,5 +1,5 @@
 -- What a report says of the exception that a substitute waits by.
-use Rattle.std.proofs.Common.{◌≡◌, ℕ, ◌<◌, zero, suc, false, true, Bool, if◌then◌else◌, List, [], ◌∷◌, length, drop, ℤ, refl, sym, ap, ◌∙◌, arith}
+use Rattle.std.proofs.Common.{◌≡◌, ℕ, ◌<◌, zero, suc, false, true, Bool, if◌then◌else◌, List, [], ◌∷◌, length, drop, ℤ, refl, sym, ap, ◌∙◌, subst, arith}
 use Rattle.std.specs.Prelude.{bytes_eq, codes, Option, Some, None, slice_get, MatchOption, option_and_then, option_map}
 use Rattle.kl1_model.specs.Term.{Term, variable, integer, atom, structure, Terms, none, more, count_of}
 use Rattle.kl1_model.specs.Meaning as meaning
@@ -14,8 +14,8 @@ use Rattle.kl1_store.specs.Sound.{IsFormed}
 use Rattle.kl1_store.specs.Value.{IsNoVariable}
 use Rattle.kl1_store.proofs.Terms.{term_of-unbound, term_of-Integer, term_of-Atom, term_of-Structure}
 use Rattle.kl1_store.proofs.Meetings.{count_of-terms_of}
-use Rattle.kl1_stream.specs.Askings.{asked_in}
-use Rattle.kl1_stream.proofs.Shapes.{IsAt, at_structure}
+use Rattle.kl1_stream.specs.Askings.{asked_in, IsAskingIn}
+use Rattle.kl1_stream.proofs.Shapes.{IsAt, at_structure, argument_in}
 
 pub without_three : (f : List ℕ) (ts : Terms) → (count_of ts ≡ 3 → ⊥) → asked (structure f ts) ≡ None
 without_three f none h = refl
@@ -158,6 +158,13 @@ with_third f h cell second x s name found at n t e =
 -- an argument that is there, for one whose cell isn't read
 pub some_second : {N : Type 0} (h : Held N) (s : ℕ) → length (arguments_of h s) ≡ 3 → (y : Cell N) × (slice_get (arguments_of h s) 1 ≡ Some y)
 some_second h s n = let r = there (arguments_of h s) 1 (omega arith) in (r.value, r.at)
+
+-- the goal of such an exception is of the store, and its variable is unbound there
+pub asking_in : {N : Type 0} (h : Held N) (s : ℕ) (second x : Cell N) (v : ℕ) → IsFormed h → slice_get (arguments_of h s) 1 ≡ Some second → IsIn h x → IsWalked h x → x ≡ Variable v → IsAskingIn h (record { goal = second; new = v })
+asking_in {N = N} h s second x v p at inside walked is = record {
+  goal = argument_in h s 1 second p at;
+  new = record { within = subst (λ (y : Cell N). IsIn h y) is inside; unbound = subst (λ (y : Cell N). IsWalked h y) is walked };
+}
 
 -- ---- on a stream
 

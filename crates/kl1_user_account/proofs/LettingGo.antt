@@ -126,7 +126,7 @@ module _ (e : Began) (n count : ℕ) (change : Reading → State → State) (lef
 
 pub reports_gone : (e : Began) (n count : ℕ) (x : Cell CellName) (u : Machine) → StepsInPart e.account n count x → e.account.entries < (limits_of e.account.rules).entries → ForgetsReports n count x e.machine u → IsRested e.program u → Keeps e.machine u →
     (y : Aside) → y ≡ noted e.aside → Holds y u × ((f : Reading) → Reads built f → step (state_of f e.account) (forget n count) ≡ record { state = state_of f (account_of y u); reply = forgot })
-reports_gone e n count x u steps room g rested keeps =
+reports_gone e n count x u goes room g rested keeps =
     let m = e.machine in
     let left = forgetting_reports n count x m in
     let held : e.account.held ≡ m.store.held = sym (ap (λ (a : Account). a.held) e.is) in
@@ -135,7 +135,9 @@ reports_gone e n count x u steps room g rested keeps =
       is = ap (λ (k : Machine). let z : Machine = record k { told = g.after.told } in z) g.becomes.is;
       name = refl;
       work = refl;
-      steps = λ f reads. rw held at (steps f reads);
+      steps = λ f reads.
+          let R : Held CellName → Transition = λ h. record { state = with_entry (change_shoen n (with_left count (meaning f h x)) (state_of f e.account)); reply = forgot } in
+          goes f reads ∙ ap R held;
       changes = λ f reads s. reports_go f s m n count x;
       looks = g.reschedules;
       rested = rested;
@@ -145,14 +147,14 @@ reports_gone e n count x u steps room g rested keeps =
 
 pub shoen_gone : (e : Began) (n : ℕ) (u : Machine) → StepsWhole e.account n → e.account.entries < (limits_of e.account.rules).entries → Forgets n e.machine u → IsRested e.program u → Keeps e.machine u →
     (y : Aside) → y ≡ noted e.aside → Holds y u × ((f : Reading) → Reads built f → step (state_of f e.account) (forget n 0) ≡ record { state = state_of f (account_of y u); reply = forgot })
-shoen_gone e n u steps room g rested keeps =
+shoen_gone e n u goes room g rested keeps =
     let m = e.machine in
     let left = having_shoens (map (emptied_below none_left m.shoens.shoens n) m.shoens.shoens) m in
     gone_ends e n 0 (λ f. without_shoen n) left g.after u (record {
       is = g.becomes.is;
       name = refl;
       work = refl;
-      steps = steps;
+      steps = goes;
       changes = λ f reads s. shoens_go f reads s m n;
       looks = g.reschedules;
       rested = rested;

@@ -59,7 +59,7 @@ pub record IsOf (s : Answer) (g : Given) (nodes : ℕ) : Type 0 where
   pub code : s.code.now ≡ g.code
   pub told : s.told.now ≡ g.told.items
   pub new : s.new ≡ g.new
-  pub nodes : s.nodes ≡ nodes
+  pub nodes_are : s.nodes ≡ nodes
 
 pub may_answer_it : (a : Account) (c : Counted) (n report : ℕ) (goal : Term) (texts : List (List ℕ)) (s : Answer) (g : Given) → {nodes : ℕ} → IsAnswerable a.rules a.held a.labels a.shoens a.names c n report goal g nodes s.variable → ((f : Reading) → HasNames (state_of f a) a.names c) →
     texts ≡ with_names [] (names_of g.code) → IsNameList texts → IsOf s g nodes → MayBring a texts (Answers s)
@@ -79,13 +79,13 @@ may_answer_it a c n report goal texts s g {nodes} may counts are list of =
             numbered = ap is_numbered of.code ∙ may.numbered;
             count = ap length of.told ∙ (may.count ∙ ap highest (sym of.code));
             new_is = of.new ∙ (may.new_is ∙ ap new_in (sym of.told));
-            nodes_are = of.nodes ∙ (may.nodes_are ∙ ap structures_of (sym of.code));
+            nodes_are = of.nodes_are ∙ (may.nodes_are ∙ ap structures_of (sym of.code));
             numbers_are = count ∙ ap length own;
             unbound = may.unbound;
             told = rw of.told may.told;
             others = rw of.told may.others;
             few = omega (arith, room.0, most.variables, at.variables_are, of.new);
-            small = omega (arith, room.1, most.nodes, at.nodes_are, of.nodes);
+            small = omega (arith, room.1, most.nodes, at.nodes_are, of.nodes_are);
           };
       room = omega (arith, may.free.journal, at.entries_are, entries);
     }

@@ -96,7 +96,7 @@ kept_some : (life : Life) (h : model.Shoen) → is_forgotten life ≡ false → 
 kept_some Forgotten h e = absurd (cc)
 kept_some _ h e = refl
 
-kept_none : (life : Life) (h : model.Shoen) → is_forgotten life ≡ true → (elim life [ Living ↦ Some h | Terminated ↦ Some h | Aborted ↦ Some h | Forgotten ↦ None ]) ≡ None
+kept_none : (life : Life) (h : model.Shoen) → is_forgotten life ≡ true → ◌≡◌ {A = Option model.Shoen} (elim life [ Living ↦ Some h | Terminated ↦ Some h | Aborted ↦ Some h | Forgotten ↦ None ]) None
 kept_none Forgotten h e = refl
 kept_none _ h e = absurd (cc)
 

@@ -1,5 +1,5 @@
 -- Terminations come apart: lives end first, and reports and closings come after.
-use Rattle.kl1_user_effects.proofs.Words.{◌≡◌, ℕ, suc, ◌==◌, true, if◌then◌else◌, List, [], ◌∷◌, refl, sym, ap, ◌∙◌, inl, inr, Option, Some, None, option_map, Terminated, Term, variable, nil, cell, State, shoen_at, replace_in_shoen, replace_in_state, change_shoen, path, has_made_last, report_tail, reported_on, reported_at, report, report_each, closed_at, close, exhausted_report, terminated_report, report_of, close_of, without_monitor, ended_at, terminate, terminate_each, ending_of, newly_exhausted, after_reduction, ended_each, left_at, life_at, finished_late, finished_each_late, cases_Bool, map-map}
+use Rattle.kl1_user_effects.proofs.Words.{◌≡◌, ℕ, suc, ◌==◌, if◌then◌else◌, List, [], ◌∷◌, refl, sym, ap, ◌∙◌, inl, inr, Option, Some, None, option_map, Terminated, Term, variable, nil, cell, State, shoen_at, replace_in_shoen, replace_in_state, change_shoen, path, has_made_last, report_tail, reported_on, reported_at, report, report_each, closed_at, close, exhausted_report, terminated_report, report_of, close_of, without_monitor, ended_at, terminate, terminate_each, ending_of, newly_exhausted, after_reduction, ended_each, left_at, life_at, finished_late, finished_each_late, cases_Bool, map-map}
 use Rattle.std.specs.Prelude.{map}
 use Rattle.kl1_model.specs.State.{Shoen}
 use Rattle.kl1_model.specs.Ending.{ended_as}

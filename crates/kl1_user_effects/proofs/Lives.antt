@@ -1,5 +1,5 @@
 -- Which shoens terminate doesn't depend on what is left of their control streams.
-use Rattle.kl1_user_effects.proofs.Words.{◌≡◌, ℕ, ◌==◌, not, ◌&&◌, Bool, true, false, if◌then◌else◌, List, [], ◌∷◌, refl, sym, ap, ap₂, ◌∙◌, inl, inr, cases_Bool, Rules, Terminated, nil, State, is_living, is_living_child, has_goal, has_living_child, lives, ends_now, ended_at, ending_of, life_at}
+use Rattle.kl1_user_effects.proofs.Words.{◌≡◌, ℕ, ◌==◌, not, ◌&&◌, Bool, true, false, if◌then◌else◌, List, [], ◌∷◌, refl, sym, ap, ap₂, ◌∙◌, Rules, Terminated, nil, State, is_living, is_living_child, has_goal, ends_now, ended_at, ending_of, life_at}
 use Rattle.std.specs.Prelude.{map}
 use Rattle.kl1_model.specs.State.{Shoen}
 use Rattle.kl1_model.specs.Ending.{ended_as}

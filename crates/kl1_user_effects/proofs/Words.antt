@@ -45,7 +45,7 @@ pub use Rattle.kl1_model.specs.declared.built_in.BuiltIn.{BuiltIn}
 pub use Rattle.kl1_model.specs.declared.built_in.BuiltIn.TheVariants.{Colon, EmptyList}
 pub use Rattle.kl1_model.specs.declared.life.Life.TheVariants.{Aborted, Living, Terminated}
 pub use Rattle.kl1_model.specs.declared.limits.Limits.{Limits}
-pub use Rattle.kl1_model.specs.declared.limits.TheConstants.{MONITOR_PRIORITY, MOST_NAMES}
+pub use Rattle.kl1_model.specs.declared.limits.TheConstants.{MONITOR_PRIORITY}
 pub use Rattle.kl1_model.specs.declared.message.Message.{Message}
 pub use Rattle.kl1_model.specs.declared.rules.Rules.{Rules}
 pub use Rattle.kl1_text.proofs.BuiltInLaws.{of_text, place-below, place_found}

@@ -1,6 +1,6 @@
 // Reports and shoens that the console lets go.
 
-ghost use Rattle.std.specs.Prelude.{◌≡◌, map, OnOk};
+ghost use Rattle.std.specs.Prelude.{◌≡◌, ◌∷◌, [], map, OnOk};
 ghost use Rattle.kl1_store.specs.Held.{IsIn};
 ghost use Rattle.kl1_shoen.specs.Shoens.{emptied_below};
 ghost use Rattle.kl1_machine.specs.declared.machine.Machine.{Machine};
@@ -56,17 +56,27 @@ impl Machine {
         self.reschedule_anew(modules, trial)
     }
 
+    /// Tells the monitor of a shoen, if it has one.
+    fn tell_monitor(&mut self, shoen: u64) -> Result<(), AllocError>
+        ensures rest { self.new ≡ record self.old { told = self.new.told } }
+        ensures told { OnOk result (AreToldOf (shoen ∷ []) self.old self.new) }
+    {
+        match self.goals.monitor(shoen) {
+            None => Ok(()),
+            Some(monitor) => {
+                self.told.push(monitor)?;
+                Ok(())
+            }
+        }
+    }
+
     /// Tells the monitors of these shoens.
     fn tell_monitors(&mut self, shoens: &[u64]) -> Result<(), AllocError>
-        requires machine { IsMachine self.old }
         ensures rest { self.new ≡ record self.old { told = self.new.told } }
         ensures told { OnOk result (AreToldOf shoens.now self.old self.new) }
-        ensures since { (b : Machine) → Since b self.old → StillSince result b self.new }
     {
         for shoen in shoens {
-            if let Some(monitor) = self.goals.monitor(*shoen) {
-                self.told.push(monitor)?;
-            }
+            self.tell_monitor(*shoen)?;
         }
         Ok(())
     }

@@ -1,4 +1,4 @@
-use Rattle.std.proofs.Common.{length, map, sym, ap, ◌∙◌}
+use Rattle.std.proofs.Common.{length}
 use Rattle.kl1_journal_entries.specs.Slots.{IsPlace}
 use Rattle.kl1_journal_entries.proofs.Rows.{none_last, some_last, last_place}
 use Rattle.kl1_journal_entries.proofs.journal.last_run.Goals as goal

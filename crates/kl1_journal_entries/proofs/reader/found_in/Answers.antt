@@ -1,11 +1,10 @@
-use Rattle.std.proofs.Common.{◌≡◌, List, ℕ, ap, sym, ◌∙◌}
-use Rattle.std.specs.Prelude.{Option, Some, None, option_map, option_and_then}
+use Rattle.std.proofs.Common.{◌≡◌, ap, sym, ◌∙◌}
+use Rattle.std.specs.Prelude.{Some, None, option_map, option_and_then}
 use Rattle.kl1_model_server.specs.Journal.{Entry}
-use Rattle.kl1_model_server.specs.JournalText.{entry_in, entry_by}
-use Rattle.kl1_model.specs.Line.{before_space, behind_space}
-use Rattle.kl1_journal_entries.specs.Lined.{Pending, if_lined}
+use Rattle.kl1_model_server.specs.JournalText.{entry_in}
+use Rattle.kl1_journal_entries.specs.Lined.{Pending}
 use Rattle.kl1_journal_entries.specs.Found.{deed_in}
-use Rattle.kl1_journal_entries.proofs.LinesRead.{IsFound, none_found, found, not_found}
+use Rattle.kl1_journal_entries.proofs.LinesRead.{none_found, found, not_found}
 use Rattle.kl1_journal_entries.proofs.reader.found_in.Goals as goal
 
 none_here : (c : goal.In_default) → entry_in c.args.rules c.args.line.now ≡ None

@@ -7,10 +7,10 @@ returns-then-not-may_forget c =
     let m = c.args.machine.now in
     refused_syntax m.rules m.store.held m.shoens.shoens c.args.is_full c.args.number c.args.count (sym c.may_forget.ensures ∙ c.if-not-may_forget.true)
 
-pub returns-in-None : goal.returns-in-None
-returns-in-None c =
+pub returns-in_default : goal.returns-in_default
+returns-in_default c =
     let m = c.args.machine.now in
-    refused_unkept m.rules m.store.held m.shoens.shoens c.args.is_full c.args.number c.args.count (sym c.may_forget.ensures ∙ c.if-not-may_forget.false) (sym c.origin_at.ensures ∙ c.in-None.is)
+    refused_unkept m.rules m.store.held m.shoens.shoens c.args.is_full c.args.number c.args.count (sym c.may_forget.ensures ∙ c.if-not-may_forget.false) (sym c.origin_at.ensures ∙ c.in_default.is)
 
 pub returns-then-is_full : goal.returns-then-is_full
 returns-then-is_full c =
@@ -34,14 +34,14 @@ left_of-requires c =
     let m = c.args.machine.now in
     (origin_in m.store.held c.args.number m.shoens.shoens c.in-Some.origin c.requires (sym c.origin_at.ensures ∙ c.in-Some.is)).reports
 
-pub returns-in-None-left_of : goal.returns-in-None-left_of
-returns-in-None-left_of c =
+pub returns-in-None : goal.returns-in-None
+returns-in-None c =
     let m = c.args.machine.now in
     refused_left m.rules m.store.held m.shoens.shoens c.args.is_full c.args.number c.args.count c.in-Some.origin c.lives-lives.result (sym c.may_forget.ensures ∙ c.if-not-may_forget.false) (sym c.origin_at.ensures ∙ c.in-Some.is) c.if-is_full.false
-    (omega (arith, c.if-count-eq0.false)) (sym c.lives-lives.ensures) (rw c.in-None-left_of.is at c.left_of.ensures)
+    (omega (arith, c.if-count-eq0.false)) (sym c.lives-lives.ensures) (rw c.in-None.is at c.left_of.ensures)
 
 pub returns-in-Some-left_of : goal.returns-in-Some-left_of
 returns-in-Some-left_of c =
     let m = c.args.machine.now in
-    goes_in_part m.rules m.store.held m.shoens.shoens c.args.is_full c.args.number c.args.count c.in-Some.origin c.lives-lives.result c.in-Some-left_of.left c.len-_numbered.ensures.numbered (sym c.may_forget.ensures ∙ c.if-not-may_forget.false) (sym c.origin_at.ensures ∙ c.in-Some.is) c.if-is_full.false
+    goes_in_part m.rules m.store.held m.shoens.shoens c.args.is_full c.args.number c.args.count c.in-Some.origin c.lives-lives.result c.in-Some-left_of.left c.len-numbered.ensures.numbered (sym c.may_forget.ensures ∙ c.if-not-may_forget.false) (sym c.origin_at.ensures ∙ c.in-Some.is) c.if-is_full.false
     (omega (arith, c.if-count-eq0.false)) (sym c.lives-lives.ensures) (rw c.in-Some-left_of.is at c.left_of.ensures)

@@ -1,4 +1,4 @@
-use Rattle.std.proofs.Common.{Bool, IsTrue, sym, subst, ◌∙◌}
+use Rattle.std.proofs.Common.{Bool, if◌then◌else◌, IsTrue, sym, subst, ◌∙◌}
 use Rattle.kl1_model.specs.Meaning.{is_numbered}
 use Rattle.kl1_model.specs.Telling.{is_told_term}
 use Rattle.kl1_user_account.proofs.given.given_for.Goals as goal

@@ -1,4 +1,4 @@
-use Rattle.std.proofs.Common.{◌≡◌, ℕ, ◌+◌, ◌-◌, [], ◌∷◌, ◌++◌, ap, ◌∙◌, List, length, map, arith}
+use Rattle.std.proofs.Common.{◌≡◌, ◌+◌, ◌-◌, [], ◌∷◌, ◌++◌, ap, ◌∙◌, List, length, map, arith}
 use Rattle.std.specs.Prelude.{vec_len}
 use Rattle.kl1_model_server.specs.Journal.{Entry, Journal}
 use Rattle.kl1_journal_entries.specs.declared.packed_entry.PackedEntry.{PackedEntry}
@@ -17,7 +17,7 @@ returns-then-before-gt0 c =
     let k = c.args.before in
     let J : List Entry → Journal = λ es. record { rules = c.self.inside.rules; sessions = c.self.inside.sessions; names = c.self.inside.names.items; image = []; entries = es } in
     let last : n ≡ length ss - 1 = (let o = c.self.inside.slots.ok in omega (arith, o)) in
-    ap (λ (ts : List PackedEntry). J (map (entry_at ws) ts)) c.push_reserved-then-before-gt0.ensures.items
+    ap (λ (ts : List PackedEntry). J (map (entry_at ws) ts)) c.push_reserved.ensures.items
     ∙ ap (λ (ts : List PackedEntry). J (map (entry_at ws) (ts ++ slot.Run (k + 1) ∷ []))) c.pop.ensures.rest
     ∙ ap J (row_longer ws ss k n last c.if-before-gt0.true)
     ∙ ap (λ (r : Rows). let j : Journal = record r.journal { entries = lengthened r.journal.entries k } in j) c.self.view_is

@@ -1,4 +1,4 @@
-use Rattle.kl1_machine.proofs.Words.{[], length, ap, sym, subst, ◌∙◌, arith, List, Cell, names_of, with_names, CellName, Held, built, goal_variables, goal_row_below}
+use Rattle.kl1_machine.proofs.Words.{[], length, ap, ◌∙◌, arith, names_of, with_names, CellName, Held, built, goal_variables, goal_row_below}
 use Rattle.kl1_store.specs.Held.{AreIn}
 use Rattle.kl1_match.proofs.GoalCells.{told_inside, told_variables}
 use Rattle.kl1_machine.proofs.Sincing.{still, since_store, since_counts}

@@ -1,4 +1,4 @@
-use Rattle.kl1_machine.proofs.Words.{◌≡◌, true, length, refl, sym, ap, ◌∙◌, arith, subst, Some, None, MoveIn, taken_places, Plan, plan_reads, plan_moves, IsTaskIn, Machine, Trail, made, Since}
+use Rattle.kl1_machine.proofs.Words.{◌≡◌, length, refl, sym, ap, ◌∙◌, arith, subst, Some, None, MoveIn, taken_places, Plan, plan_reads, plan_moves, IsTaskIn, Machine, Trail, made, Since}
 use Rattle.kl1_machine.proofs.Keeping.{keeps_then}
 use Rattle.kl1_machine.proofs.Planned.{MayStep, found_holds, nothing_refused, full_refused}
 use Rattle.kl1_machine.proofs.Reduced.{IsHeard, only_monitor, heard_reduces, charged_by}

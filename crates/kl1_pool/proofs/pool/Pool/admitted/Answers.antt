@@ -16,7 +16,7 @@ settle-requires-clause-texts g c =
     let few = ap (λ (l : Limits). l.names) (c.limits-limits.ensures.value ∙ ap limits_of c.args.self.now.ruled) in
     let names = c.shows_written.ensures.names in
     record {
-      few = omega (arith, few, c.if-len-limits.false);
+      few = omega (arith, few, c.if-names-limits.false);
       new = subst (λ (ts : List (List ℕ)). IsTrue (are_new_names [] ts)) (sym c.names-names.ensures) names.new;
     }
 

@@ -10,7 +10,8 @@ ends : (g : _) (c : goal.After-note_entry g) → let y : Aside = record (aside_o
 ends g c =
     let u = c.self.inside in
     let e = began (aside_of u) u.machine c.begin.new.self u.machine.names c.args.self.now c.over-modules.result refl c.begin.ensures.same c.begin.ensures.begun c.self.view_is c.over-modules.ensures c.self.invariant in
-    reports_gone e c.args.number c.args.count c.args.left c.or_back.new.self c.requires.steps c.requires.room c.forget_reports-left.ensures.ok c.forget_reports-left.ensures.rested c.forget_reports-left.ensures.keeps
+    let did = rw (← c.in_ok-or_back.ensures.same, ← c.in_ok-or_back.ensures.ok) at c.forget_reports-left.ensures in
+    reports_gone e c.args.number c.args.count c.args.left c.or_back.new.self c.requires.steps c.requires.room did.ok did.rested did.keeps
     _ (ap₂ (λ i k. let z : Aside = record (aside_of u) { entries = i; run = k } in z) c.note_entry.ensures.entries c.note_entry.ensures.run)
 
 pub invariant_of-self-2 : goal.invariant_of-self-2
