@@ -1,9 +1,9 @@
 -- Journals of tests, which grow.
-use Rattle.std.proofs.Common.{◌≡◌, ℕ, zero, suc, ◌<◌, ◌≤◌, Bool, if◌then◌else◌, List, [], ◌∷◌, ◌++◌, refl, sym, ap, ◌∙◌, subst, arith, inl, inr}
+use Rattle.std.proofs.Common.{◌≡◌, ℕ, zero, suc, ◌<◌, Bool, if◌then◌else◌, List, [], ◌∷◌, ◌++◌, refl, sym, ap, ◌∙◌, subst, arith, inl, inr}
 use Rattle.std.proofs.lemmas.Bool.{lt-ltb}
 use Rattle.std.specs.Prelude.{Option, Some, None, IfSome, IsNone, slice_get}
 use Rattle.kl1_model.specs.declared.limits.TheConstants.{MOST_RUN}
-use Rattle.kl1_model_server.specs.Journal.{Entry, runs, steps, last_run_of, run_longer, Journal, without_last, entered, stepped}
+use Rattle.kl1_model_server.specs.Journal.{Entry, runs, last_run_of, run_longer, Journal, without_last, stepped}
 use Rattle.kl1_model_server.specs.laws.HistoryLaws.{EndsInRun}
 use Rattle.kl1_journal_entries.specs.Lined.{with_prepared, with_reduction}
 use Rattle.kl1_journal_stamps.specs.Later.{IsLater}
