@@ -3,7 +3,7 @@
 _kl1_client() {
     local word=${COMP_WORDS[COMP_CWORD]} before=${COMP_WORDS[COMP_CWORD - 1]}
     local options="--key-file --all --timeout --reconnect --command --help --version"
-    local commands="load start run reduce quiet stop resume abort allow answer value status reports modules journal reset save wait watch help quit logout"
+    local commands="load start run reduce quiet stop resume abort allow answer forget value status reports modules journal reset save wait watch help quit logout"
     COMPREPLY=()
     case $before in
     --key-file)

@@ -18,7 +18,7 @@ _kl1_run() {
         return
         ;;
     --rules)
-        mapfile -t COMPREPLY < <(compgen -W "3 4" -- "$word")
+        mapfile -t COMPREPLY < <(compgen -W "3 4 5" -- "$word")
         return
         ;;
     --warn)

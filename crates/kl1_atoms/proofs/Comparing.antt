@@ -22,11 +22,11 @@ pub text_word : (ws t : List ℕ) (k : ℕ) → ws ≡ words_to_end t → k < le
 text_word ws t k e within = ap (λ vs. slice_index vs k) e ∙ word_of (word_count t) k t (let n = as_many ws t e in omega arith)
 
 -- the word that was read of an entry that was seen is that of its text, if those before it are those of a text that goes so far
-pub seen_word : (before now : Me (Unit {0}) View) (t : List ℕ) (h : Heard) (n e k found : ℕ) → now ≡ before → (own before.0).accounts ≡ n → Reads (own now.0) (word_place n e k) found → In (own before.0).heard h → h.entry ≡ e
+pub seen_word : (before now : Me (Unit {0}) View) (t : List ℕ) (h : Heard) (n e k found : ℕ) → now ≡ before → (own before.0).entries ≡ n → Reads (own now.0) (word_place n e k) found → In (own before.0).heard h → h.entry ≡ e
     → IsTrue (is_text t) → IsTrue (is_text h.text) → ((j : ℕ) → j < k → word_at h.text j ≡ word_at t j) → k < word_count t → found ≡ word_at h.text k
 seen_word before now t h n e k found same accounts reads is at name its words within =
     let told : Reads (own before.0) (word_place n e k) found = subst (λ (m : Me (Unit {0}) View). Reads (own m.0) (word_place n e k) found) same reads in
-    told.seen h k is (goes_to t h.text k name its words within) (ap (λ m. word_place m e k) (sym accounts) ∙ ap (λ x. word_place (own before.0).accounts x k) (sym at))
+    told.seen h k is (goes_to t h.text k name its words within) (ap (λ m. word_place m e k) (sym accounts) ∙ ap (λ x. word_place (own before.0).entries x k) (sym at))
 
 -- what an entry has whose number is known is a name
 pub known_name : (before now : Me (Unit {0}) View) (t : List ℕ) (e place found : ℕ) → now ≡ before → Reads (own now.0) place found → text_in (own before.0).knows (FIRST_NUMBER + e) ≡ Some t → IsTrue (is_text t)
@@ -34,7 +34,7 @@ known_name before now t e place found same reads known =
     let told : Reads (own before.0) place found = subst (λ (m : Me (Unit {0}) View). Reads (own m.0) place found) same reads in told.names t e known
 
 -- and the word that was read of it is the name's, if the name goes so far
-pub known_word : (before now : Me (Unit {0}) View) (t : List ℕ) (n e k found : ℕ) → now ≡ before → (own before.0).accounts ≡ n → Reads (own now.0) (word_place n e k) found → text_in (own before.0).knows (FIRST_NUMBER + e) ≡ Some t
+pub known_word : (before now : Me (Unit {0}) View) (t : List ℕ) (n e k found : ℕ) → now ≡ before → (own before.0).entries ≡ n → Reads (own now.0) (word_place n e k) found → text_in (own before.0).knows (FIRST_NUMBER + e) ≡ Some t
     → 8 * k ≤ length t → found ≡ word_at t k
 known_word before now t n e k found same accounts reads known goes =
     let told : Reads (own before.0) (word_place n e k) found = subst (λ (m : Me (Unit {0}) View). Reads (own m.0) (word_place n e k) found) same reads in

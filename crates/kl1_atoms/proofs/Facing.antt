@@ -3,7 +3,7 @@ use Rattle.std.proofs.Common.{◌≡◌, ◌≢◌, ℕ, zero, suc, ◌+◌, ◌
 use Rattle.std.specs.List.{IsDistinct, AllByRecursion, list_any}
 use Rattle.std.proofs.lemmas.Bool.{cases_order, ne_eqb, eqb-true, or_cases}
 use Rattle.std.proofs.lemmas.Map.Steps.{length-le_from_distinct_below}
-use Rattle.kl1_model.specs.declared.limits.TheConstants.{BUCKETS_EACH, FIRST_NUMBER, MOST_NAMES}
+use Rattle.kl1_model.specs.declared.limits.TheConstants.{FIRST_NUMBER}
 use Rattle.kl1_text.proofs.Words.{one_name}
 use Rattle.atomic_table.proofs.Lists.{one_turn}
 use Rattle.kl1_atoms.specs.declared.face.Face.{Face}
@@ -66,12 +66,12 @@ is_table n ws sound = record {
 }
 
 -- what an account knows is one to one
-pub knows_names : (n : ℕ) (ws : List ℕ) (f : Face) → Sound n ws → Fits n ws f → Listed f.accounts f.knows
+pub knows_names : (n : ℕ) (ws : List ℕ) (f : Face) → Sound n ws → Fits n ws f → Listed f.entries f.knows
 knows_names n ws f sound fits = record {
   names = are_names (At n ws) f.knows (is_table n ws sound) fits.known;
   entries = λ t m e.
       let a = fits.known.by_number t m e in
-      ((let q = a.2 in omega arith), subst (λ k. m < FIRST_NUMBER + MOST_NAMES * k) (sym fits.accounts) (let q = a.2 in let r = a.3.entry in omega arith));
+      ((let q = a.2 in omega arith), subst (λ k. m < FIRST_NUMBER + k) (sym fits.entries) (let q = a.2 in let r = a.3.entry in omega arith));
 }
 
 -- a sighting is so
@@ -83,7 +83,7 @@ seen_stands n ws (x ∷ hs) h all is = elim is [ inl here ↦ subst (λ (y : Hea
 pub passed_others : (n : ℕ) (ws : List ℕ) (f : Face) (t : List ℕ) (d : ℕ) → Fits n ws f → Passed f t d → Others n ws t d
 passed_others n ws f t d fits passed = λ c h.
     let p = passed c h in
-    let way : p.0.bucket ≡ further n t c = p.2 ∙ ap (λ m. further m t c) fits.accounts in
+    let way : p.0.bucket ≡ further n t c = p.2 ∙ ap (λ m. further m t c) fits.entries in
     (p.0.entry, p.0.text, subst (λ x. Stands n ws x p.0.entry p.0.text) way (seen_stands n ws f.heard p.0 fits.heard p.1), p.3)
 
 -- a free bucket at the end of a text's way shows that the text isn't known
@@ -126,7 +126,7 @@ none_knows n ws t i d (g ∷ gs) sound free way others all = (not_known n ws g t
 pub meets : (n : ℕ) (ws : List ℕ) (f : Face) (fs : List Face) (i : ℕ) → Sound n ws → Fits n ws f → ((k : ℕ) (g : Face) → get_elem? fs k ≡ some g → Fits n ws g) → Meets f fs i (slice_index ws i)
 meets n ws f fs i sound fits all = record {
   agree = each_agrees n ws f fs sound fits all;
-  unknown = λ zero_ t d way passed. none_knows n ws t i d fs sound zero_ (way ∙ ap (λ m. further m t d) fits.accounts) (passed_others n ws f t d fits passed) all;
+  unknown = λ zero_ t d way passed. none_knows n ws t i d fs sound zero_ (way ∙ ap (λ m. further m t d) fits.entries) (passed_others n ws f t d fits passed) all;
 }
 
 -- the first values of a function, the last in front
@@ -162,14 +162,14 @@ at_most : (e : ℕ → ℕ) (m d : ℕ) → ((c : ℕ) → c < d → e c < m) �
 at_most e m d below differ = subst (λ l. l ≤ m) (length-values e d) (length-le_from_distinct_below (values e d) m (values_distinct e d differ) (values_below e m d below))
 
 -- no more buckets of a way point to other texts than there are entries
-pub few_others : (n : ℕ) (ws : List ℕ) (t : List ℕ) (d : ℕ) → Sound n ws → d ≤ BUCKETS_EACH * n → Others n ws t d → d ≤ MOST_NAMES * n
+pub few_others : (n : ℕ) (ws : List ℕ) (t : List ℕ) (d : ℕ) → Sound n ws → d ≤ 2 * n → Others n ws t d → d ≤ n
 few_others n ws t d sound within others =
-    at_most (λ c. slice_index ws (further n t c) - 1) (MOST_NAMES * n) d
+    at_most (λ c. slice_index ws (further n t c) - 1) (n) d
     (λ c h. let o = others c h in let p : slice_index ws (further n t c) ≡ suc o.0 = o.2.points in let q = o.2.entry in omega arith)
     (λ b c before h e.
     let o = others b (omega arith) in
     let p = others c h in
     let same : o.0 ≡ p.0 = (let x : slice_index ws (further n t b) ≡ suc o.0 = o.2.points in let y : slice_index ws (further n t c) ≡ suc p.0 = p.2.points in omega arith) in
     let place = sound.once (further n t b) (further n t c) o.0 o.2.bucket p.2.bucket o.2.points (p.2.points ∙ ap suc (sym same)) in
-    let turn : start n t + b ≡ start n t + c = one_turn (start n t + b) (start n t + c) (BUCKETS_EACH * n) (omega arith) (omega arith) place in
+    let turn : start n t + b ≡ start n t + c = one_turn (start n t + b) (start n t + c) (2 * n) (omega arith) (omega arith) place in
     absurd (omega arith))

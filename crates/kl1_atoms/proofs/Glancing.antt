@@ -1,7 +1,7 @@
 -- A look-up that publishes nothing, bucket by bucket.
 use Rattle.std.proofs.Common.{◌≡◌, ◌≢◌, ℕ, ◌+◌, ◌-◌, ◌*◌, ◌<◌, ◌≤◌, ◌↔◌, List, length, Some, IsTrue, Bool, false, refl, sym, ap, ◌∙◌, subst, inl, inr, arith}
 use Rattle.std.proofs.lemmas.Bool.{false≢true}
-use Rattle.kl1_model.specs.declared.limits.TheConstants.{BUCKETS_EACH, FIRST_NUMBER, MOST_NAMES}
+use Rattle.kl1_model.specs.declared.limits.TheConstants.{FIRST_NUMBER}
 use Rattle.kl1_model.specs.Text.{is_text}
 use Rattle.atomic_table.specs.Table.{Me}
 use Rattle.kl1_atoms.specs.declared.face.Face.{Face}
@@ -22,7 +22,7 @@ use Rattle.kl1_atoms.proofs.Rounding.{passed_more, looked_seen, first_twice}
 -- a face that stays
 stays_seen : (f g : Face) → g ≡ f → Saw f g
 stays_seen f g same = record {
-  same = record { accounts = ap (λ (x : Face). x.accounts) same; account = ap (λ (x : Face). x.account) same };
+  same = record { entries = ap (λ (x : Face). x.entries) same; first = ap (λ (x : Face). x.first) same; room = ap (λ (x : Face). x.room) same };
   used = ap (λ (x : Face). x.used) same;
   knows = ap (λ (x : Face). x.knows) same;
   draft = ap (λ (x : Face). x.draft) same;
@@ -31,7 +31,7 @@ stays_seen f g same = record {
 -- a face with one more sighting
 more_seen : (f g : Face) (h : Heard) → g ≡ heard_more f h → Saw f g
 more_seen f g h more = record {
-  same = record { accounts = ap (λ (x : Face). x.accounts) more; account = ap (λ (x : Face). x.account) more };
+  same = record { entries = ap (λ (x : Face). x.entries) more; first = ap (λ (x : Face). x.first) more; room = ap (λ (x : Face). x.room) more };
   used = ap (λ (x : Face). x.used) more;
   knows = ap (λ (x : Face). x.knows) more;
   draft = ap (λ (x : Face). x.draft) more;
@@ -42,8 +42,8 @@ passed_on : (f g : Face) (h : Heard) (t : List ℕ) (d : ℕ) → g ≡ heard_mo
 passed_on f g h t d more passed = subst (λ (x : Face). Passed x t d) (sym more) (λ c below. let p = passed c below in (p.0, inr p.1, p.2, p.3))
 
 -- a glance at a free bucket
-pub glance_free : (before after : Me (Unit {0}) View) (t : List ℕ) (n d i found : ℕ) → Steps before after (λ f g. Looks f g i found) → found ≡ 0 → (own before.0).accounts ≡ n → i ≡ further n t d
-    → d ≤ BUCKETS_EACH * n → Passed (own before.0) t d → Steps before after (λ f g. Glances f g t i d Free)
+pub glance_free : (before after : Me (Unit {0}) View) (t : List ℕ) (n d i found : ℕ) → Steps before after (λ f g. Looks f g i found) → found ≡ 0 → (own before.0).entries ≡ n → i ≡ further n t d
+    → d ≤ 2 * n → Passed (own before.0) t d → Steps before after (λ f g. Glances f g t i d Free)
 glance_free before after t n d i found steps free accounts way few passed = record {
   slots = steps.slots;
   faces = steps.faces;
@@ -51,7 +51,7 @@ glance_free before after t n d i found steps free accounts way few passed = reco
     | inl stays ↦ (
       stays_seen (own before.0) (own after.0) stays.1,
       subst (λ (x : Face). Passed x t d) (sym stays.1) passed,
-      steps.tells.few t d (subst (λ m. d ≤ BUCKETS_EACH * m) (sym accounts) few) passed,
+      steps.tells.few t d (subst (λ m. d ≤ 2 * m) (sym accounts) few) passed,
       steps.tells.unknown free t d (way ∙ ap (λ m. further m t d) (sym accounts)) passed,
     )
     | inr sees ↦ absurd (let s = sees.1 in omega arith)
@@ -59,8 +59,8 @@ glance_free before after t n d i found steps free accounts way few passed = reco
 }
 
 -- a glance at another text
-pub glance_other : (before mid after : Me (Unit {0}) View) (t : List ℕ) (n d i found : ℕ) (has : Bool) → Steps before mid (λ f g. Looks f g i found) → (found ≡ 0 → ⊥) → (own before.0).accounts ≡ n → i ≡ further n t d
-    → d ≤ BUCKETS_EACH * n → Passed (own before.0) t d → after ≡ mid
+pub glance_other : (before mid after : Me (Unit {0}) View) (t : List ℕ) (n d i found : ℕ) (has : Bool) → Steps before mid (λ f g. Looks f g i found) → (found ≡ 0 → ⊥) → (own before.0).entries ≡ n → i ≡ further n t d
+    → d ≤ 2 * n → Passed (own before.0) t d → after ≡ mid
     → ((h : Heard) → In (own mid.0).heard h → h.entry ≡ found - 1 → IsTrue (is_text h.text) → IsTrue has ↔ (h.text ≡ t)) → has ≡ false → Steps before after (λ f g. Glances f g t i d Other)
 glance_other before mid after t n d i found has steps full accounts way few passed same is differs =
     let sees = looked_seen (own before.0) (own mid.0) i found steps.tells (omega arith) in
@@ -73,8 +73,8 @@ glance_other before mid after t n d i found has steps full accounts way few pass
       faces = steps.faces;
       tells = (
         was,
-        passed_more (own mid.0) t n d i sees.0 (passed_on (own before.0) (own mid.0) sees.0 t d sees.5 passed) here sees.2 way (was.same.accounts ∙ accounts) other,
-        steps.tells.few t d (subst (λ m. d ≤ BUCKETS_EACH * m) (sym accounts) few) passed,
+        passed_more (own mid.0) t n d i sees.0 (passed_on (own before.0) (own mid.0) sees.0 t d sees.5 passed) here sees.2 way (was.same.entries ∙ accounts) other,
+        steps.tells.few t d (subst (λ m. d ≤ 2 * m) (sym accounts) few) passed,
       );
     } in told)
 
@@ -97,7 +97,7 @@ found_ends a b c t i e number more found learns starts is none =
       faces = learns.faces ∙ ap (λ fs. with_first fs (own c.0)) found.faces ∙ first_twice a.0.faces (own b.0) (own c.0);
       tells = (
         record {
-          same = record { accounts = ap (λ (x : Face). x.accounts) change ∙ saw.same.accounts; account = ap (λ (x : Face). x.account) change ∙ saw.same.account };
+          same = record { entries = ap (λ (x : Face). x.entries) change ∙ saw.same.entries; first = ap (λ (x : Face). x.first) change ∙ saw.same.first; room = ap (λ (x : Face). x.room) change ∙ saw.same.room };
           adds = record {
             known = knows;
             number = subst (λ u. number_by (own c.0).knows u ≡ Some number) seen.text (learns.tells.number seen.sighting seen.seen seen.bucket ∙ ap (λ m. Some m) entry);
@@ -113,8 +113,8 @@ found_ends a b c t i e number more found learns starts is none =
 
 -- a text that was compared is known from then on
 pub learned_ends : (before mid after : Me (Unit {0}) View) (t : List ℕ) (n d i e : ℕ) (drafted : Bool) (h : Heard) → mid ≡ before → Steps mid after (λ f g. Learns f g i) → Walks (own before.0) t d drafted
-    → In (own before.0).heard h → h.bucket ≡ i → h.entry ≡ e → h.text ≡ t → (own before.0).accounts ≡ n → e < MOST_NAMES * n → Steps before after (λ f g. Compares f g t d drafted (FoundIn e))
-learned_ends before mid after t n d i e drafted h same learns walks is at entry text accounts within =
+    → In (own before.0).heard h → h.bucket ≡ i → h.entry ≡ e → h.text ≡ t → (own before.0).entries ≡ n → e < n → d ≤ n → Steps before after (λ f g. Compares f g t d drafted (FoundIn e))
+learned_ends before mid after t n d i e drafted h same learns walks is at entry text accounts within few =
     let steps : Steps before after (λ f g. Learns f g i) = subst (λ (m : Me (Unit {0}) View). Steps m after (λ f g. Learns f g i)) same learns in
     let change : own after.0 ≡ learned (own before.0) h = steps.tells.change h is at in
     let knows : (own after.0).knows ≡ added (own before.0).knows t record { number = FIRST_NUMBER + e } =
@@ -127,7 +127,7 @@ learned_ends before mid after t n d i e drafted h same learns walks is at entry 
       faces = steps.faces;
       tells = (
         record {
-          same = record { accounts = ap (λ (x : Face). x.accounts) change; account = ap (λ (x : Face). x.account) change };
+          same = record { entries = ap (λ (x : Face). x.entries) change; first = ap (λ (x : Face). x.first) change; room = ap (λ (x : Face). x.room) change };
           adds = record { known = knows; number = subst (λ u. number_by (own after.0).knows u ≡ Some (FIRST_NUMBER + e)) text (steps.tells.number h is at ∙ ap (λ m. Some (FIRST_NUMBER + m)) entry) };
           names = steps.tells.names;
           used_up = (let u = walks.used_up in omega arith);
@@ -135,6 +135,7 @@ learned_ends before mid after t n d i e drafted h same learns walks is at entry 
           draft = ap (λ (x : Face). x.draft) change;
         },
         used,
-        subst (λ m. e < MOST_NAMES * m) (sym accounts) within,
+        subst (λ m. e < m) (sym accounts) within,
+        subst (λ m. d ≤ m) (sym accounts) few,
       );
     }

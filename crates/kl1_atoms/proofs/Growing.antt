@@ -6,7 +6,6 @@ use Rattle.std.proofs.Math.ListN.{length-append}
 use mathlib.Core.Option.{some}
 use lib.ListN.{get_elem?}
 use Rattle.atomic_table.proofs.Lists.{at_set}
-use Rattle.kl1_model.specs.declared.limits.TheConstants.{BUCKETS_EACH, MOST_NAMES}
 use Rattle.kl1_text.specs.Words.{name_words}
 use Rattle.kl1_text.proofs.Words.{few_words}
 use Rattle.kl1_atoms.specs.declared.face.Face.{Face}
@@ -14,12 +13,12 @@ use Rattle.kl1_atoms.specs.declared.face.Heard.{Heard}
 use Rattle.kl1_atoms.specs.declared.face.View.{View}
 use Rattle.kl1_atoms.specs.Knowing.{stand_on}
 use Rattle.kl1_atoms.specs.Way.{further}
-use Rattle.kl1_atoms.specs.Rule.{word_place, Stands, At, Others, Reaches, Sound, AllStand, own_entry, Fits, Mine, Kept}
+use Rattle.kl1_atoms.specs.Rule.{word_place, Stands, At, Others, Reaches, Sound, AllStand, own_entry, Fits, Mine, Overlap, Kept}
 
 -- words after others: buckets that point to an entry still do, and the entry's words are the same
 pub record Grows (n : ℕ) (ws vs : List ℕ) : Type 0 where
-  pub buckets : (i e : ℕ) → i < BUCKETS_EACH * n → slice_index ws i ≡ suc e → slice_index vs i ≡ suc e
-  pub entries : (i e k : ℕ) → i < BUCKETS_EACH * n → slice_index ws i ≡ suc e → k < name_words → slice_index vs (word_place n e k) ≡ slice_index ws (word_place n e k)
+  pub buckets : (i e : ℕ) → i < 2 * n → slice_index ws i ≡ suc e → slice_index vs i ≡ suc e
+  pub entries : (i e k : ℕ) → i < 2 * n → slice_index ws i ≡ suc e → k < name_words → slice_index vs (word_place n e k) ≡ slice_index ws (word_place n e k)
 
 pub stands_on : (n : ℕ) (ws vs : List ℕ) (i e : ℕ) (t : List ℕ) → Grows n ws vs → Stands n ws i e t → Stands n vs i e t
 stands_on n ws vs i e t grows st = record {
@@ -75,10 +74,20 @@ module _ (views : List View) (id : ℕ) (f f' : Face) (fs : List Face) (at : get
     | inr there ↦ inr ((mine.0, there.1, mine.2), (λ same z. there.0 same))
   ]
 
+  -- the first face has the entries that it had
+  like_first : (g h : Face) → g ≡ f' → (f'.first ≡ f.first) × (f'.room ≡ f.room) → Overlap g h → Overlap f h
+  like_first g h is same o =
+      let a : g.first ≡ f.first = ap (λ (x : Face). x.first) is ∙ same.0 in
+      let b : g.room ≡ f.room = ap (λ (x : Face). x.room) is ∙ same.1 in
+      (rw (← a) o.0, rw (← a, ← b) o.1)
+
+  like_second : (g h : Face) → h ≡ f' → (f'.first ≡ f.first) × (f'.room ≡ f.room) → Overlap g h → Overlap g f
+  like_second g h is same o = let p = like_first h g is same (o.1, o.0) in (p.1, p.0)
+
   -- a step that changes the first face keeps the rule, if it keeps the words sound and what other accounts know
   pub step_kept : (n : ℕ) (ws vs : List ℕ) → Sound n vs → ((j k : ℕ) (g : Face) → Mine views j k g → Fits n ws g)
-      → ((i j k l : ℕ) (g h : Face) → Mine views i k g → Mine views j l h → g.account ≡ h.account → (i ≡ j) × (k ≡ l))
-      → f'.account ≡ f.account → ((g : Face) → g.account ≢ f.account → Fits n ws g → Fits n vs g) → Fits n vs f'
+      → ((i j k l : ℕ) (g h : Face) → Mine views i k g → Mine views j l h → Overlap g h → (i ≡ j) × (k ≡ l))
+      → (f'.first ≡ f.first) × (f'.room ≡ f.room) → ((g : Face) → (Overlap g f → ⊥) → Fits n ws g → Fits n vs g) → Fits n vs f'
       → (homes : List _) → Kept n record { words = vs; homes = homes; views = slice_set views id record { faces = f' ∷ fs } }
   step_kept n ws vs sound fits apart same keeps own homes = record {
     sound = sound;
@@ -90,22 +99,22 @@ module _ (views : List View) (id : ℕ) (f f' : Face) (fs : List Face) (at : get
       | inl first ↦ elim (mine_after j l h its) [
         | inl second ↦ (first.0 ∙ sym second.0, first.1 ∙ sym second.1)
         | inr other ↦
-            let p = apart id j 0 l f h first_was other.0 (sym same ∙ ap (λ (x : Face). x.account) first.2 ∙ e) in (first.0 ∙ p.0, first.1 ∙ p.1)
+            let p = apart id j 0 l f h first_was other.0 (like_first g h (sym first.2) same e) in (first.0 ∙ p.0, first.1 ∙ p.1)
       ]
       | inr one ↦ elim (mine_after j l h its) [
         | inl second ↦
-            let p = apart i id k 0 g f one.0 first_was (e ∙ sym (ap (λ (x : Face). x.account) second.2) ∙ same) in (p.0 ∙ sym second.0, p.1 ∙ sym second.1)
+            let p = apart i id k 0 g f one.0 first_was (like_second g h (sym second.2) same e) in (p.0 ∙ sym second.0, p.1 ∙ sym second.1)
         | inr other ↦ apart i j k l g h one.0 other.0 e
       ]
     ];
   }
 
 -- a word of an account's own unpublished entry is stored
-module _ (n : ℕ) (ws : List ℕ) (f : Face) (k v : ℕ) (sound : Sound n ws) (fits : Fits n ws f) (room : f.used < MOST_NAMES) (within : k < name_words) where
+module _ (n : ℕ) (ws : List ℕ) (f : Face) (k v : ℕ) (sound : Sound n ws) (fits : Fits n ws f) (room : f.used < f.room) (within : k < name_words) where
   stored : List ℕ
   stored = slice_set ws (word_place n (own_entry f) k) v
 
-  bucket_same : (i : ℕ) → i < BUCKETS_EACH * n → slice_index (slice_set ws (word_place n (own_entry f) k) v) i ≡ slice_index ws i
+  bucket_same : (i : ℕ) → i < 2 * n → slice_index (slice_set ws (word_place n (own_entry f) k) v) i ≡ slice_index ws i
   bucket_same i h = get_or-set_other ws (word_place n (own_entry f) k) i v 0 (λ e. omega arith)
 
   word_same : (e l : ℕ) → l < name_words → (e ≡ own_entry f → ⊥) → slice_index (slice_set ws (word_place n (own_entry f) k) v) (word_place n e l) ≡ slice_index ws (word_place n e l)
@@ -126,31 +135,31 @@ module _ (n : ℕ) (ws : List ℕ) (f : Face) (k v : ℕ) (sound : Sound n ws) (
     once = λ i j e h l points point. sound.once i j e h l (sym (bucket_same i h) ∙ points) (sym (bucket_same j l) ∙ point);
   }
 
-  pub fits_store_other : (g : Face) → g.account ≢ f.account → Fits n ws g → Fits n (slice_set ws (word_place n (own_entry f) k) v) g
+  pub fits_store_other : (g : Face) → (Overlap g f → ⊥) → Fits n ws g → Fits n (slice_set ws (word_place n (own_entry f) k) v) g
   fits_store_other g differ its = record {
-    accounts = its.accounts;
-    account = its.account;
+    entries = its.entries;
+    range = its.range;
     used_up = its.used_up;
     free = λ j low high i h points. its.free j low high i h (sym (bucket_same i h) ∙ points);
     known = stand_on (At n ws) (At n (slice_set ws (word_place n (own_entry f) k) v)) g.knows (at_on n ws (slice_set ws (word_place n (own_entry f) k) v) grows_store) its.known;
     heard = all_on n ws (slice_set ws (word_place n (own_entry f) k) v) g.heard grows_store its.heard;
     drafted = λ l h.
         let d = its.drafted l h in
-        let apart : own_entry g ≡ own_entry f → ⊥ = λ same. (let r = room in let q = d.1 in differ (omega arith)) in
+        let apart : own_entry g ≡ own_entry f → ⊥ = λ same. (let r = room in let q = d.1 in differ (omega arith, omega arith)) in
         (d.0, d.1, word_same (own_entry g) l d.0 apart ∙ d.2);
   }
 
   pub fits_store_own : k ≡ length f.draft → Fits n (slice_set ws (word_place n (own_entry f) k) v) record f { draft = f.draft ++ v ∷ [] }
   fits_store_own next = record {
-    accounts = fits.accounts;
-    account = fits.account;
+    entries = fits.entries;
+    range = fits.range;
     used_up = fits.used_up;
     free = λ j low high i h points. fits.free j low high i h (sym (bucket_same i h) ∙ points);
     known = stand_on (At n ws) (At n (slice_set ws (word_place n (own_entry f) k) v)) f.knows (at_on n ws (slice_set ws (word_place n (own_entry f) k) v) grows_store) fits.known;
     heard = all_on n ws (slice_set ws (word_place n (own_entry f) k) v) f.heard grows_store fits.heard;
     drafted = λ l h. elim (cases_eq l k) [
       | inl same ↦
-          let inside : word_place n (own_entry f) k < length ws = (let s = sound.size in let a = fits.account in omega arith) in
+          let inside : word_place n (own_entry f) k < length ws = (let s = sound.size in let a = fits.range in omega arith) in
           ((omega arith), room, rw same (get_or-set_same ws (word_place n (own_entry f) k) v 0 inside ∙ sym (last_is f.draft v k next)))
       | inr other ↦
           let before : l < length f.draft = (let m : l < length f.draft + 1 = subst (λ m. l < m) (length-append f.draft (v ∷ [])) h in let q = next in omega arith) in

@@ -5,7 +5,7 @@ use Rattle.std.proofs.lemmas.List.{set-get_or}
 use Rattle.std.proofs.Math.ListN.{length-append}
 use mathlib.Core.Option.{some, none}
 use lib.ListN.{get_elem?}
-use Rattle.kl1_model.specs.declared.limits.TheConstants.{BUCKETS_EACH, FIRST_NUMBER, MOST_NAMES}
+use Rattle.kl1_model.specs.declared.limits.TheConstants.{FIRST_NUMBER}
 use Rattle.kl1_text.specs.Words.{name_words, bytes_of, word_count, words_to_end}
 use Rattle.kl1_text.proofs.Words.{length-words_of, word_of, ended_hold}
 use prog.Atomic.{either}
@@ -39,7 +39,7 @@ module _ (n id : ℕ) (s : State (Unit {0}) View) (kept : Kept n s) (f : Face) (
   other_fits k g e = kept.fits id (suc k) g (record { faces = f ∷ fs }, at, e)
 
   -- a load leaves the words
-  load_kept : (i : ℕ) (g : Face) (homes : List (mathlib.Core.Option.Option (Unit {0}))) → g.account ≡ f.account → Fits n s.words g
+  load_kept : (i : ℕ) (g : Face) (homes : List (mathlib.Core.Option.Option (Unit {0}))) → (g.first ≡ f.first) × (g.room ≡ f.room) → Fits n s.words g
       → Kept n record { words = slice_set s.words i (slice_index s.words i); homes = homes; views = slice_set s.views id record { faces = g ∷ fs } }
   load_kept i g homes same fits =
       subst (λ (ws : List ℕ). Kept n record { words = ws; homes = homes; views = slice_set s.views id record { faces = g ∷ fs } }) (sym (set-get_or s.words i 0))
@@ -48,8 +48,8 @@ module _ (n id : ℕ) (s : State (Unit {0}) View) (kept : Kept n s) (f : Face) (
 -- a face with one more sighting
 see_fits : (n : ℕ) (ws : List ℕ) (f : Face) (h : Heard) → Fits n ws f → Stands n ws h.bucket h.entry h.text → Fits n ws (heard_more f h)
 see_fits n ws f h fits st = record {
-  accounts = fits.accounts;
-  account = fits.account;
+  entries = fits.entries;
+  range = fits.range;
   used_up = fits.used_up;
   free = fits.free;
   known = fits.known;
@@ -62,21 +62,21 @@ looks : (n : ℕ) (ws : List ℕ) (f g : Face) (i : ℕ) → Sound n ws → Fits
 looks n ws f g i sound fits change = record {
   names = knows_names n ws f sound fits;
   few = λ t d within passed.
-      let limit : d ≤ BUCKETS_EACH * n = subst (λ m. d ≤ BUCKETS_EACH * m) fits.accounts within in
-      subst (λ m. d ≤ MOST_NAMES * m) (sym fits.accounts) (few_others n ws t d sound limit (passed_others n ws f t d fits passed));
+      let limit : d ≤ 2 * n = subst (λ m. d ≤ 2 * m) fits.entries within in
+      subst (λ m. d ≤ m) (sym fits.entries) (few_others n ws t d sound limit (passed_others n ws f t d fits passed));
   unknown = λ zero_ t d way passed.
-      not_known n ws f t i d sound fits zero_ (way ∙ ap (λ m. further m t d) fits.accounts) (passed_others n ws f t d fits passed);
+      not_known n ws f t i d sound fits zero_ (way ∙ ap (λ m. further m t d) fits.entries) (passed_others n ws f t d fits passed);
   change = change;
 }
 
 -- a bucket that isn't free has a sighting
-sighting : (n : ℕ) (ws : List ℕ) (i : ℕ) → Sound n ws → i < BUCKETS_EACH * n → (slice_index ws i ≡ 0 → ⊥) → (h : Heard) × (slice_index ws i ≡ suc h.entry) × (h.bucket ≡ i) × Stands n ws h.bucket h.entry h.text
+sighting : (n : ℕ) (ws : List ℕ) (i : ℕ) → Sound n ws → i < 2 * n → (slice_index ws i ≡ 0 → ⊥) → (h : Heard) × (slice_index ws i ≡ suc h.entry) × (h.bucket ≡ i) × Stands n ws h.bucket h.entry h.text
 sighting n ws i sound within full =
     let points : slice_index ws i ≡ suc (slice_index ws i - 1) = omega arith in
     let s = sound.stands i (slice_index ws i - 1) within points in
     (record { bucket = i; entry = slice_index ws i - 1; text = s.0 }, points, refl, s.1)
 
-pub allows_look : (n slots id i : ℕ) (v : View) (c : List (ℕ × Unit {0})) → IsTrue (has_first v.faces) → i < BUCKETS_EACH * n
+pub allows_look : (n slots id i : ℕ) (v : View) (c : List (ℕ × Unit {0})) → IsTrue (has_first v.faces) → i < 2 * n
     → Allows (Kept n) slots id (v, c) i (λ m. m) (LooksAt (step slots i 0 0 none) (v, c))
 allows_look n slots id i v c first within = by_first (λ (u : View). Allows (Kept n) slots id (u, c) i (λ m. m) (LooksAt (step slots i 0 0 none) (u, c)))
     (λ f fs s kept len at small.
@@ -86,7 +86,7 @@ allows_look n slots id i v c first within = by_first (λ (u : View). Allows (Kep
         record { faces = f ∷ fs },
         keeps,
         tt,
-        load_kept n id s kept f fs at i f s.homes refl fits,
+        load_kept n id s kept f fs at i f s.homes (refl, refl) fits,
         (
           record { slots = refl; faces = refl; tells = looks n s.words f f i kept.sound fits (inl (free, refl)) },
           meets n s.words f fs i kept.sound fits (other_fits n id s kept f fs at),
@@ -97,12 +97,12 @@ allows_look n slots id i v c first within = by_first (λ (u : View). Allows (Kep
             record { faces = heard_more f h.0 ∷ fs },
             keeps,
             tt,
-            load_kept n id s kept f fs at i (heard_more f h.0) s.homes refl (see_fits n s.words f h.0 fits h.3),
+            load_kept n id s kept f fs at i (heard_more f h.0) s.homes (refl, refl) (see_fits n s.words f h.0 fits h.3),
             (
               record {
                 slots = refl;
                 faces = refl;
-                tells = looks n s.words f (heard_more f h.0) i kept.sound fits (inr (h.0, h.1, h.2, subst (λ m. h.0.entry < MOST_NAMES * m) (sym fits.accounts) h.3.entry, h.3.name, refl));
+                tells = looks n s.words f (heard_more f h.0) i kept.sound fits (inr (h.0, h.1, h.2, subst (λ m. h.0.entry < m) (sym fits.entries) h.3.entry, h.3.name, refl));
               },
               meets n s.words f fs i kept.sound fits (other_fits n id s kept f fs at),
             ),
@@ -118,37 +118,37 @@ allows_read n slots id i v c first = by_first (λ (u : View). Allows (Kept n) sl
       record { faces = f ∷ fs },
       keeps,
       tt,
-      load_kept n id s kept f fs at i f s.homes refl fits,
+      load_kept n id s kept f fs at i f s.homes (refl, refl) fits,
       (
         refl,
         record {
           seen = λ h k is few place.
-              ap (slice_index s.words) (place ∙ ap (λ m. word_place m h.entry k) fits.accounts) ∙ (seen_stands n s.words f.heard h fits.heard is).shows k few;
+              ap (slice_index s.words) (place ∙ ap (λ m. word_place m h.entry k) fits.entries) ∙ (seen_stands n s.words f.heard h fits.heard is).shows k few;
           known = λ t e k e_is few place.
               let a = fits.known.by_number t (FIRST_NUMBER + e) e_is in
               let same : e ≡ a.0 = (let q = a.2 in omega arith) in
-              ap (slice_index s.words) (place ∙ ap (λ m. word_place m e k) fits.accounts ∙ ap (λ x. word_place n x k) same) ∙ a.3.shows k few;
+              ap (slice_index s.words) (place ∙ ap (λ m. word_place m e k) fits.entries ∙ ap (λ x. word_place n x k) same) ∙ a.3.shows k few;
           names = λ t e e_is. (fits.known.by_number t (FIRST_NUMBER + e) e_is).3.name;
         },
       ),
     ))
     v.faces first
 
-pub allows_draft : (n slots id i w : ℕ) (v : View) (c : List (ℕ × Unit {0})) → IsTrue (has_first v.faces) → (own v).used < MOST_NAMES → length (own v).draft < name_words
-    → i ≡ word_place (own v).accounts (own_entry (own v)) (length (own v).draft)
+pub allows_draft : (n slots id i w : ℕ) (v : View) (c : List (ℕ × Unit {0})) → IsTrue (has_first v.faces) → (own v).used < (own v).room → length (own v).draft < name_words
+    → i ≡ word_place (own v).entries (own_entry (own v)) (length (own v).draft)
     → Allows (Kept n) slots id (v, c) i (λ m. w) (λ m. DraftsAt (step slots i w 0 none) (v, c) w)
 allows_draft n slots id i w v c first = by_first
-    (λ (u : View). (own u).used < MOST_NAMES → length (own u).draft < name_words → i ≡ word_place (own u).accounts (own_entry (own u)) (length (own u).draft) → Allows (Kept n) slots id (u, c) i (λ m. w) (λ m. DraftsAt (step slots i w 0 none) (u, c) w))
+    (λ (u : View). (own u).used < (own u).room → length (own u).draft < name_words → i ≡ word_place (own u).entries (own_entry (own u)) (length (own u).draft) → Allows (Kept n) slots id (u, c) i (λ m. w) (λ m. DraftsAt (step slots i w 0 none) (u, c) w))
     (λ f fs room few place s kept len at small.
     let fits = own_fits n id s kept f fs at in
-    let here : i ≡ word_place n (own_entry f) (length f.draft) = place ∙ ap (λ m. word_place m (own_entry f) (length f.draft)) fits.accounts in
+    let here : i ≡ word_place n (own_entry f) (length f.draft) = place ∙ ap (λ m. word_place m (own_entry f) (length f.draft)) fits.entries in
     let vs : List ℕ = slice_set s.words (word_place n (own_entry f) (length f.draft)) w in (
       record { faces = drafted_more f w ∷ fs },
       keeps,
       tt,
       subst (λ p. Kept n record { words = slice_set s.words p w; homes = s.homes; views = slice_set s.views id record { faces = drafted_more f w ∷ fs } }) (sym here)
           (step_kept s.views id f (drafted_more f w) fs at n s.words (slice_set s.words (word_place n (own_entry f) (length f.draft)) w)
-          (sound_store n s.words f (length f.draft) w kept.sound fits room few) kept.fits kept.apart refl
+          (sound_store n s.words f (length f.draft) w kept.sound fits room few) kept.fits kept.apart (refl, refl)
           (λ h differ its. fits_store_other n s.words f (length f.draft) w kept.sound fits room few h differ its)
           (fits_store_own n s.words f (length f.draft) w kept.sound fits room few refl) s.homes),
       record { slots = refl; faces = refl; tells = refl },
@@ -165,15 +165,15 @@ draft_shows n ws f t fits e = λ k h.
 published_same : (f : Face) (t : List ℕ) → f.draft ≡ words_to_end t → IsTrue (is_text t) → face_after f t ≡ published_by f
 published_same f t e name = ap (face_after f) (sym (ended_hold t name) ∙ ap bytes_of (sym e))
 
-pub allows_publish : (n slots id i e : ℕ) (v : View) (c : List (ℕ × Unit {0})) (t : List ℕ) (d : ℕ) → IsTrue (has_first v.faces) → IsReady (own v) t d i → e ≡ own_entry (own v) → i < BUCKETS_EACH * n
+pub allows_publish : (n slots id i e : ℕ) (v : View) (c : List (ℕ × Unit {0})) (t : List ℕ) (d : ℕ) → IsTrue (has_first v.faces) → IsReady (own v) t d i → e ≡ own_entry (own v) → i < 2 * n
     → Allows (Kept n) slots id (v, c) i (λ m. either (eqb m 0) (suc e) m) (PublishesAt (step slots i 0 (suc e) none) (v, c))
 allows_publish n slots id i e v c t d first = by_first
-    (λ (u : View). IsReady (own u) t d i → e ≡ own_entry (own u) → i < BUCKETS_EACH * n → Allows (Kept n) slots id (u, c) i (λ m. either (eqb m 0) (suc e) m) (PublishesAt (step slots i 0 (suc e) none) (u, c)))
+    (λ (u : View). IsReady (own u) t d i → e ≡ own_entry (own u) → i < 2 * n → Allows (Kept n) slots id (u, c) i (λ m. either (eqb m 0) (suc e) m) (PublishesAt (step slots i 0 (suc e) none) (u, c)))
     (λ f fs ready mine within s kept len at small.
     let fits = own_fits n id s kept f fs at in
     elim (cases_eq (slice_index s.words i) 0) [
       | inl free ↦
-          let way : i ≡ further n t d = ready.way ∙ ap (λ m. further m t d) fits.accounts in
+          let way : i ≡ further n t d = ready.way ∙ ap (λ m. further m t d) fits.entries in
           let others = passed_others n s.words f t d fits ready.passed in
           let shows = draft_shows n s.words f t fits ready.draft in
           let same = published_same f t ready.draft ready.name in
@@ -181,7 +181,7 @@ allows_publish n slots id i e v c t d first = by_first
           let own_after = fits_publish_own n s.words f i t kept.sound fits ready.room within free shows ready.name ready.other d way others in
           let after : Fits n (slice_set s.words i (suc (own_entry f))) (published_by f) = subst (λ (g : Face). Fits n (slice_set s.words i (suc (own_entry f))) g) same own_after in
           let kept_after : Kept n record { words = slice_set s.words i (suc (own_entry f)); homes = s.homes; views = slice_set s.views id record { faces = published_by f ∷ fs } } =
-          step_kept s.views id f (published_by f) fs at n s.words (slice_set s.words i (suc (own_entry f))) sound kept.fits kept.apart refl
+          step_kept s.views id f (published_by f) fs at n s.words (slice_set s.words i (suc (own_entry f))) sound kept.fits kept.apart (refl, refl)
           (λ h differ its. fits_publish_other n s.words f i t kept.sound fits ready.room within free shows ready.name ready.other d way others h differ its) after s.homes
           in (
             record { faces = published_by f ∷ fs },
@@ -197,11 +197,11 @@ allows_publish n slots id i e v c t d first = by_first
             keeps,
             tt,
             subst (λ b. Kept n record { words = slice_set s.words i (either b (suc e) (slice_index s.words i)); homes = s.homes; views = slice_set s.views id record { faces = heard_more f h.0 ∷ fs } }) (sym (ne_eqb (slice_index s.words i) 0 full))
-                (load_kept n id s kept f fs at i (heard_more f h.0) s.homes refl (see_fits n s.words f h.0 fits h.3)),
+                (load_kept n id s kept f fs at i (heard_more f h.0) s.homes (refl, refl) (see_fits n s.words f h.0 fits h.3)),
             record {
               slots = refl;
               faces = refl;
-              tells = inr (h.0, h.1, h.2, subst (λ m. h.0.entry < MOST_NAMES * m) (sym fits.accounts) h.3.entry, h.3.name, refl);
+              tells = inr (h.0, h.1, h.2, subst (λ m. h.0.entry < m) (sym fits.entries) h.3.entry, h.3.name, refl);
             },
           )
     ])
@@ -220,8 +220,8 @@ no_fewer ks t number = elim (cases_Bool (is_some (number_by ks t))) [ inl known 
 
 learn_fits : (n : ℕ) (ws : List ℕ) (f : Face) (h : Heard) → Fits n ws f → Stands n ws h.bucket h.entry h.text → Fits n ws (learned f h)
 learn_fits n ws f h fits st = record {
-  accounts = fits.accounts;
-  account = fits.account;
+  entries = fits.entries;
+  range = fits.range;
   used_up = (let u = fits.used_up in let l = no_fewer f.knows h.text (FIRST_NUMBER + h.entry) in omega arith);
   free = fits.free;
   known = stand_added n ws f.knows h.bucket h.entry h.text fits.known st;
@@ -249,7 +249,7 @@ allows_learn n slots id i v c h first = by_first
       record { faces = learned f h ∷ fs },
       keeps,
       tt,
-      load_kept n id s kept f fs at i (learned f h) s.homes refl after,
+      load_kept n id s kept f fs at i (learned f h) s.homes (refl, refl) after,
       record {
         slots = refl;
         faces = refl;

@@ -1,16 +1,16 @@
 -- An account's own drafted entry is published in a free bucket.
-use Rattle.std.proofs.Common.{◌≡◌, ◌≢◌, ℕ, suc, ◌+◌, ◌*◌, ◌<◌, ◌⊎◌, List, [], ◌∷◌, ◌++◌, length, None, slice_index, slice_set, IsTrue, refl, sym, ap, ◌∙◌, subst, inl, inr, arith}
+use Rattle.std.proofs.Common.{◌≡◌, ℕ, suc, ◌+◌, ◌*◌, ◌<◌, ◌⊎◌, List, [], ◌∷◌, ◌++◌, length, None, slice_index, slice_set, IsTrue, refl, sym, ap, ◌∙◌, subst, inl, inr, arith}
 use Rattle.std.proofs.lemmas.Bool.{cases_eq}
 use Rattle.std.proofs.lemmas.List.{length-set, get_or-set_same, get_or-set_other}
 use Rattle.std.proofs.Math.ListN.{length-append}
-use Rattle.kl1_model.specs.declared.limits.TheConstants.{BUCKETS_EACH, FIRST_NUMBER, MOST_NAMES}
+use Rattle.kl1_model.specs.declared.limits.TheConstants.{FIRST_NUMBER}
 use Rattle.kl1_text.specs.BuiltIns.{built_in_of}
 use Rattle.kl1_model.specs.Text.{is_text}
 use Rattle.kl1_atoms.specs.declared.known.Known.{Known}
 use Rattle.kl1_atoms.specs.declared.face.Face.{Face}
 use Rattle.kl1_atoms.specs.Knowing.{stand_on, stand_more}
 use Rattle.kl1_atoms.specs.Way.{further}
-use Rattle.kl1_atoms.specs.Rule.{word_place, Shows, Stands, At, Others, Reaches, Sound, own_entry, Fits}
+use Rattle.kl1_atoms.specs.Rule.{word_place, Shows, Stands, At, Others, Reaches, Sound, own_entry, Fits, Overlap}
 use Rattle.kl1_atoms.proofs.Growing.{Grows, stands_on, others_on, reaches_on, at_on, all_on}
 
 -- the pair that is published
@@ -19,9 +19,9 @@ published f t = record { text = t; number = record { number = FIRST_NUMBER + own
 
 -- what an account knows once it has published
 abbrev pub face_after : Face → List ℕ → Face
-face_after f t = record { accounts = f.accounts; account = f.account; used = f.used + 1; knows = f.knows ++ published f t ∷ []; heard = []; draft = [] }
+face_after f t = record { entries = f.entries; first = f.first; room = f.room; used = f.used + 1; knows = f.knows ++ published f t ∷ []; heard = []; draft = [] }
 
-module _ (n : ℕ) (ws : List ℕ) (f : Face) (i : ℕ) (t : List ℕ) (sound : Sound n ws) (fits : Fits n ws f) (room : f.used < MOST_NAMES) (within : i < BUCKETS_EACH * n) (free : slice_index ws i ≡ 0)
+module _ (n : ℕ) (ws : List ℕ) (f : Face) (i : ℕ) (t : List ℕ) (sound : Sound n ws) (fits : Fits n ws f) (room : f.used < f.room) (within : i < 2 * n) (free : slice_index ws i ≡ 0)
     (shows : Shows n ws (own_entry f) t) (name : IsTrue (is_text t)) (own : built_in_of t ≡ None) (d : ℕ) (way : i ≡ further n t d) (others : Others n ws t d) where
   inside : i < length ws
   inside = let s = sound.size in omega arith
@@ -48,7 +48,7 @@ module _ (n : ℕ) (ws : List ℕ) (f : Face) (i : ℕ) (t : List ℕ) (sound : 
   own_stands = record {
     bucket = within;
     points = here;
-    entry = (let a = fits.account in omega arith);
+    entry = (let a = fits.range in omega arith);
     shows = λ k h. word_there (own_entry f) k ∙ shows k h;
     name = name;
     own = own;
@@ -86,13 +86,13 @@ module _ (n : ℕ) (ws : List ℕ) (f : Face) (i : ℕ) (t : List ℕ) (sound : 
     ];
   }
 
-  pub fits_publish_other : (g : Face) → g.account ≢ f.account → Fits n ws g → Fits n (slice_set ws i (suc (own_entry f))) g
+  pub fits_publish_other : (g : Face) → (Overlap g f → ⊥) → Fits n ws g → Fits n (slice_set ws i (suc (own_entry f))) g
   fits_publish_other g differ its = record {
-    accounts = its.accounts;
-    account = its.account;
+    entries = its.entries;
+    range = its.range;
     used_up = its.used_up;
-    free = λ j low high l h points. elim (points_before l (MOST_NAMES * g.account + j) points) [
-      | inl is ↦ let e = is.1 in let r = room in differ (omega arith)
+    free = λ j low high l h points. elim (points_before l (g.first + j) points) [
+      | inl is ↦ let e = is.1 in let r = room in differ (omega arith, omega arith)
       | inr was ↦ its.free j low high l h was
     ];
     known = stand_on (At n ws) (At n (slice_set ws i (suc (own_entry f)))) g.knows (at_on n ws (slice_set ws i (suc (own_entry f))) grows_publish) its.known;
@@ -102,10 +102,10 @@ module _ (n : ℕ) (ws : List ℕ) (f : Face) (i : ℕ) (t : List ℕ) (sound : 
 
   pub fits_publish_own : Fits n (slice_set ws i (suc (own_entry f))) (face_after f t)
   fits_publish_own = record {
-    accounts = fits.accounts;
-    account = fits.account;
+    entries = fits.entries;
+    range = fits.range;
     used_up = rw (length-append f.knows (published f t ∷ [])) (let u = fits.used_up in omega arith);
-    free = λ j low high l h points. elim (points_before l (MOST_NAMES * f.account + j) points) [
+    free = λ j low high l h points. elim (points_before l (f.first + j) points) [
       | inl is ↦ let e = is.1 in absurd (omega arith)
       | inr was ↦ fits.free j (omega arith) high l h was
     ];

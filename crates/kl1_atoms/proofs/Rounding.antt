@@ -2,7 +2,7 @@
 use Rattle.std.proofs.Common.{◌≡◌, ◌≢◌, ℕ, ◌+◌, ◌-◌, ◌*◌, ◌<◌, ◌≤◌, List, [], ◌∷◌, ◌++◌, Some, None, IsTrue, IsSome, refl, sym, ap, ◌∙◌, subst, inl, inr, arith, true, false, Bool}
 use Rattle.std.proofs.lemmas.Bool.{cases_eq, false≢true}
 use Rattle.std.proofs.Math.ListN.{length-append}
-use Rattle.kl1_model.specs.declared.limits.TheConstants.{BUCKETS_EACH, FIRST_NUMBER, MOST_NAMES}
+use Rattle.kl1_model.specs.declared.limits.TheConstants.{FIRST_NUMBER}
 use Rattle.kl1_text.specs.BuiltIns.{built_in_at}
 use Rattle.kl1_text.specs.Words.{name_words, words_of, bytes_of, words_to_end}
 use Rattle.kl1_text.proofs.Words.{words_hold, ended_hold}
@@ -14,7 +14,7 @@ use Rattle.kl1_atoms.specs.declared.face.Heard.{Heard}
 use Rattle.kl1_atoms.specs.declared.face.View.{View}
 use Rattle.kl1_atoms.specs.declared.round.Round.{Round}
 use Rattle.kl1_atoms.specs.declared.round.Round.TheVariants.{Found, Made, Other}
-use Rattle.kl1_atoms.specs.Names.{number_in, text_in, text_by, HasRoom, Adds, AreNames}
+use Rattle.kl1_atoms.specs.Names.{number_in, text_in, text_by, Adds, AreNames}
 use Rattle.kl1_atoms.specs.Knowing.{adds_one, option_cases, publishes_one}
 use Rattle.kl1_atoms.specs.Way.{further}
 use Rattle.kl1_atoms.specs.Rule.{own_entry, Listed}
@@ -33,15 +33,15 @@ first_twice [] f g = refl
 first_twice (x ∷ fs) f g = refl
 
 -- one bucket more was passed
-pub passed_more : (f : Face) (t : List ℕ) (n d bucket : ℕ) (h : Heard) → Passed f t d → In f.heard h → h.bucket ≡ bucket → bucket ≡ further n t d → f.accounts ≡ n → h.text ≢ t → Passed f t (d + 1)
+pub passed_more : (f : Face) (t : List ℕ) (n d bucket : ℕ) (h : Heard) → Passed f t d → In f.heard h → h.bucket ≡ bucket → bucket ≡ further n t d → f.entries ≡ n → h.text ≢ t → Passed f t (d + 1)
 passed_more f t n d bucket h passed is at way accounts differ = λ c below. elim (cases_eq c d) [
-  | inl same ↦ (h, is, at ∙ way ∙ ap (λ m. further m t d) (sym accounts) ∙ ap (further f.accounts t) (sym same), differ)
+  | inl same ↦ (h, is, at ∙ way ∙ ap (λ m. further m t d) (sym accounts) ∙ ap (further f.entries t) (sym same), differ)
   | inr other ↦ passed c (omega arith)
 ]
 
 -- a look-up goes on past another text
 pub goes_on : (before after : Me (Unit {0}) View) (t : List ℕ) (n d bucket : ℕ) (drafted : Bool) (h : Heard) → after ≡ before → IsTrue (has_first before.0.faces) → Walks (own before.0) t d drafted
-    → In (own before.0).heard h → h.bucket ≡ bucket → bucket ≡ further n t d → (own before.0).accounts ≡ n → h.text ≢ t → d ≤ MOST_NAMES * n → Steps before after (λ f g. Compares f g t d drafted (Other drafted))
+    → In (own before.0).heard h → h.bucket ≡ bucket → bucket ≡ further n t d → (own before.0).entries ≡ n → h.text ≢ t → d ≤ n → Steps before after (λ f g. Compares f g t d drafted (Other drafted))
 goes_on before after t n d bucket drafted h same first walks is at way accounts differ small =
     subst (λ (m : Me (Unit {0}) View). Steps before m (λ f g. Compares f g t d drafted (Other drafted))) (sym same)
     (let stay : Steps before before (λ f g. Compares f g t d drafted (Other drafted)) = record {
@@ -49,7 +49,7 @@ goes_on before after t n d bucket drafted h same first walks is at way accounts 
       faces = same_first before.0.faces first;
       tells = (
         record {
-          same = record { accounts = refl; account = refl };
+          same = record { entries = refl; first = refl; room = refl };
           used = refl;
           knows = refl;
           walks = record {
@@ -61,7 +61,7 @@ goes_on before after t n d bucket drafted h same first walks is at way accounts 
             draft = walks.draft;
             drafted_room = walks.drafted_room;
           };
-          few = subst (λ m. d + 1 ≤ MOST_NAMES * m + 1) (sym accounts) (omega arith);
+          few = subst (λ m. d + 1 ≤ m + 1) (sym accounts) (omega arith);
         },
         refl,
       );
@@ -82,30 +82,30 @@ walks_seen f g i found t d drafted walks sees =
     } in more)
 
 -- a text that isn't known, if there is room, finds an entry
-pub entry_left : (f : Face) (t : List ℕ) (d : ℕ) (drafted : Bool) → Walks f t d drafted → number_in f.knows t ≡ None → f.used < MOST_NAMES
+pub entry_left : (f : Face) (t : List ℕ) (d : ℕ) (drafted : Bool) → Walks f t d drafted → number_in f.knows t ≡ None → f.used < f.room
 entry_left f t d drafted walks new = elim walks.room [
   | inl known ↦ absurd (false≢true (rw (walks.other, new) at known))
   | inr few ↦ let u = walks.used_up in omega arith
 ]
 
 -- a draft leaves a look-up where it is
-pub walks_drafted : (f g : Face) (t : List ℕ) (d : ℕ) (drafted : Bool) → Walks f t d drafted → f.used < MOST_NAMES → Drafts f g (words_to_end t) → Walks g t d true
+pub walks_drafted : (f g : Face) (t : List ℕ) (d : ℕ) (drafted : Bool) → Walks f t d drafted → f.used < f.room → Drafts f g (words_to_end t) → Walks g t d true
 walks_drafted f g t d drafted walks room drafts = record {
   name = walks.name;
   other = walks.other;
-  room = subst (λ ks. HasRoom ks t) (sym drafts.knows) walks.room;
+  room = rw (drafts.same.room, drafts.knows) walks.room;
   used_up = rw (drafts.used, drafts.knows) walks.used_up;
   passed = λ c below.
-      let p = walks.passed c below in (p.0, subst (λ hs. In hs p.0) (sym drafts.heard) p.1, p.2 ∙ ap (λ m. further m t c) (sym drafts.same.accounts), p.3);
+      let p = walks.passed c below in (p.0, subst (λ hs. In hs p.0) (sym drafts.heard) p.1, p.2 ∙ ap (λ m. further m t c) (sym drafts.same.entries), p.3);
   draft = drafts.draft;
-  drafted_room = λ _. subst (λ u. u < MOST_NAMES) (sym drafts.used) room;
+  drafted_room = λ _. rw (drafts.used, drafts.same.room) room;
 }
 
 -- a drafted face at a free bucket may publish
-pub is_ready : (f : Face) (t : List ℕ) (n d bucket : ℕ) → Walks f t d true → f.accounts ≡ n → bucket < BUCKETS_EACH * n → bucket ≡ further n t d → IsReady f t d bucket
+pub is_ready : (f : Face) (t : List ℕ) (n d bucket : ℕ) → Walks f t d true → f.entries ≡ n → bucket < 2 * n → bucket ≡ further n t d → IsReady f t d bucket
 is_ready f t n d bucket walks accounts within way = record {
   room = walks.drafted_room refl;
-  bucket = subst (λ m. bucket < BUCKETS_EACH * m) (sym accounts) within;
+  bucket = subst (λ m. bucket < 2 * m) (sym accounts) within;
   way = way ∙ ap (λ m. further m t d) (sym accounts);
   passed = walks.passed;
   draft = walks.draft;
@@ -114,9 +114,9 @@ is_ready f t n d bucket walks accounts within way = record {
 }
 
 -- what a face knows once its text is published
-pub made : (f g h : Face) (t : List ℕ) (d : ℕ) (drafted : Bool) → Walks f t d drafted → number_in f.knows t ≡ None → Drafts f g (words_to_end t) → h ≡ published_by g → Listed h.accounts h.knows → Gives f h t d Made
-made f g h t d drafted walks new drafts is names =
-    let own_same : own_entry g ≡ own_entry f = (let a = drafts.same.account in let u = drafts.used in omega arith) in
+pub made : (f g h : Face) (t : List ℕ) (d : ℕ) (drafted : Bool) → Walks f t d drafted → number_in f.knows t ≡ None → Drafts f g (words_to_end t) → h ≡ published_by g → Listed h.entries h.knows → d ≤ f.entries → Gives f h t d Made
+made f g h t d drafted walks new drafts is names few =
+    let own_same : own_entry g ≡ own_entry f = (let a = drafts.same.first in let u = drafts.used in omega arith) in
     let text : bytes_of g.draft ≡ t = ap bytes_of drafts.draft ∙ ended_hold t walks.name in
     let pair : own_pair g ≡ record { text = t; number = record { number = FIRST_NUMBER + own_entry f } } = ap (λ (x : ℕ × List ℕ). own_known x) (let e : (own_entry g, bytes_of g.draft) ≡ (own_entry f, t) = cc in e) in
     let knows : h.knows ≡ f.knows ++ record { text = t; number = record { number = FIRST_NUMBER + own_entry f } } ∷ [] =
@@ -124,7 +124,7 @@ made f g h t d drafted walks new drafts is names =
     in
     let used : h.used ≡ f.used + 1 = ap (λ (x : Face). x.used) is ∙ ap (λ u. u + 1) drafts.used in (
       record {
-        same = record { accounts = ap (λ (x : Face). x.accounts) is ∙ drafts.same.accounts; account = ap (λ (x : Face). x.account) is ∙ drafts.same.account };
+        same = record { entries = ap (λ (x : Face). x.entries) is ∙ drafts.same.entries; first = ap (λ (x : Face). x.first) is ∙ drafts.same.first; room = ap (λ (x : Face). x.room) is ∙ drafts.same.room };
         adds = rw knows (adds_one f.knows t record { number = FIRST_NUMBER + own_entry f } walks.other new);
         names = names;
         used_up = rw (used, knows) (simp length-append (let u = walks.used_up in omega arith));
@@ -133,6 +133,7 @@ made f g h t d drafted walks new drafts is names =
       },
       used,
       entry_left f t d drafted walks new,
+      few,
     ) where
       own_known : ℕ × List ℕ → Known
       own_known x = record { text = x.1; number = record { number = FIRST_NUMBER + x.0 } }
@@ -145,9 +146,9 @@ looked_seen f g i found looks full = elim looks.change [ inl free ↦ absurd (le
 pub record Free (f g : Face) (t : List ℕ) (d : ℕ) (drafted : Bool) : Type 0 where
   pub same : g ≡ f
   pub new : number_in f.knows t ≡ None
-  pub room : f.used < MOST_NAMES
+  pub room : f.used < f.room
 
-pub looked_free : (f g : Face) (n i found : ℕ) (t : List ℕ) (d : ℕ) (drafted : Bool) → Looks f g i found → found ≤ 0 → Walks f t d drafted → f.accounts ≡ n → i ≡ further n t d → Free f g t d drafted
+pub looked_free : (f g : Face) (n i found : ℕ) (t : List ℕ) (d : ℕ) (drafted : Bool) → Looks f g i found → found ≤ 0 → Walks f t d drafted → f.entries ≡ n → i ≡ further n t d → Free f g t d drafted
 looked_free f g n i found t d drafted looks none walks accounts way = elim looks.change [
   | inl free ↦
       let new : number_in f.knows t ≡ None = looks.unknown free.0 t d (way ∙ ap (λ m. further m t d) (sym accounts)) walks.passed in
@@ -168,19 +169,19 @@ pub record Kin (f g : Face) : Type 0 where
 -- a face that has seen
 pub kin_seen : (f g : Face) (i found : ℕ) → Sees f g i found → Kin f g
 kin_seen f g i found sees = record {
-  same = record { accounts = ap (λ (x : Face). x.accounts) sees.5; account = ap (λ (x : Face). x.account) sees.5 };
+  same = record { entries = ap (λ (x : Face). x.entries) sees.5; first = ap (λ (x : Face). x.first) sees.5; room = ap (λ (x : Face). x.room) sees.5 };
   used = ap (λ (x : Face). x.used) sees.5;
   knows = ap (λ (x : Face). x.knows) sees.5;
 }
 
 -- a face that looked at a free bucket, drafted, and saw who was first
-pub kin_drafted : (f g h k : Face) (n i found at : ℕ) (t : List ℕ) (d : ℕ) (drafted : Bool) → Looks f g i found → found ≤ 0 → Walks f t d drafted → f.accounts ≡ n → i ≡ further n t d → Drafts g h (words_to_end t) → Sees h k i at → Kin f k
+pub kin_drafted : (f g h k : Face) (n i found at : ℕ) (t : List ℕ) (d : ℕ) (drafted : Bool) → Looks f g i found → found ≤ 0 → Walks f t d drafted → f.entries ≡ n → i ≡ further n t d → Drafts g h (words_to_end t) → Sees h k i at → Kin f k
 kin_drafted f g h k n i found at t d drafted looks none walks accounts way drafts sees =
     let free = looked_free f g n i found t d drafted looks none walks accounts way in
     let one : Drafts f h (words_to_end t) = subst (λ (x : Face). Drafts x h (words_to_end t)) free.same drafts in
     let two = kin_seen h k i at sees in
     record {
-      same = record { accounts = two.same.accounts ∙ one.same.accounts; account = two.same.account ∙ one.same.account };
+      same = record { entries = two.same.entries ∙ one.same.entries; first = two.same.first ∙ one.same.first; room = two.same.room ∙ one.same.room };
       used = two.used ∙ one.used;
       knows = two.knows ∙ one.knows;
     }
@@ -189,7 +190,7 @@ kin_drafted f g h k n i found at t d drafted looks none walks accounts way draft
 pub compared_gives : (f m g : Face) (t : List ℕ) (d : ℕ) (drafted : Bool) (r : Round) → Kin f m → Compares m g t d drafted r → Gives f g t d r
 compared_gives f m g t d drafted (Found e) kin told = (
   record {
-    same = record { accounts = told.0.same.accounts ∙ kin.same.accounts; account = told.0.same.account ∙ kin.same.account };
+    same = record { entries = told.0.same.entries ∙ kin.same.entries; first = told.0.same.first ∙ kin.same.first; room = told.0.same.room ∙ kin.same.room };
     adds = subst (λ ks. Adds ks t record { number = FIRST_NUMBER + e } g.knows) kin.knows told.0.adds;
     names = told.0.names;
     used_up = told.0.used_up;
@@ -197,15 +198,16 @@ compared_gives f m g t d drafted (Found e) kin told = (
     draft = told.0.draft;
   },
   told.1 ∙ kin.used,
-  subst (λ m. e < MOST_NAMES * m) kin.same.accounts told.2,
+  subst (λ m. e < m) kin.same.entries told.2,
+  subst (λ m. d ≤ m) kin.same.entries told.3,
 )
 compared_gives f m g t d drafted Made kin told = absurd told
 compared_gives f m g t d drafted (Other still) kin told = record {
-  same = record { accounts = told.0.same.accounts ∙ kin.same.accounts; account = told.0.same.account ∙ kin.same.account };
+  same = record { entries = told.0.same.entries ∙ kin.same.entries; first = told.0.same.first ∙ kin.same.first; room = told.0.same.room ∙ kin.same.room };
   used = told.0.used ∙ kin.used;
   knows = told.0.knows ∙ kin.knows;
   walks = subst (λ b. Walks g t (d + 1) b) (sym told.1) told.0.walks;
-  few = subst (λ m. d + 1 ≤ MOST_NAMES * m + 1) kin.same.accounts told.0.few;
+  few = subst (λ m. d + 1 ≤ m + 1) kin.same.entries told.0.few;
 }
 
 -- three steps, one after another
@@ -218,32 +220,32 @@ three_steps a b c d P Q R T one two three told = record {
 }
 
 -- a text is published
-pub published_now : (f g : Face) (i found : ℕ) → Publishes f g i found → found ≡ 0 → (g ≡ published_by f) × Listed g.accounts g.knows
+pub published_now : (f g : Face) (i found : ℕ) → Publishes f g i found → found ≡ 0 → (g ≡ published_by f) × Listed g.entries g.knows
 published_now f g i found publishes free = elim publishes [ inl made_it ↦ (made_it.1, made_it.2) | inr sees ↦ absurd (let s = sees.1 in omega arith) ]
 
 pub published_else : (f g : Face) (i found : ℕ) → Publishes f g i found → (found ≡ 0 → ⊥) → Sees f g i found
 published_else f g i found publishes full = elim publishes [ inl made_it ↦ absurd (full made_it.0) | inr sees ↦ sees ]
 
 -- a look-up at a free bucket, with its draft
-pub drafted_walks : (f g h : Face) (n i found : ℕ) (t : List ℕ) (d : ℕ) (drafted : Bool) → Looks f g i found → found ≤ 0 → Walks f t d drafted → f.accounts ≡ n → i ≡ further n t d → Drafts g h (words_to_end t) → Walks h t d true × (h.accounts ≡ n)
+pub drafted_walks : (f g h : Face) (n i found : ℕ) (t : List ℕ) (d : ℕ) (drafted : Bool) → Looks f g i found → found ≤ 0 → Walks f t d drafted → f.entries ≡ n → i ≡ further n t d → Drafts g h (words_to_end t) → Walks h t d true × (h.entries ≡ n)
 drafted_walks f g h n i found t d drafted looks none walks accounts way drafts =
     let free = looked_free f g n i found t d drafted looks none walks accounts way in
     let at_f : Drafts f h (words_to_end t) = subst (λ (x : Face). Drafts x h (words_to_end t)) free.same drafts in
-    (walks_drafted f h t d drafted walks free.room at_f, at_f.same.accounts ∙ accounts)
+    (walks_drafted f h t d drafted walks free.room at_f, at_f.same.entries ∙ accounts)
+
+-- as few buckets were passed as there are entries
+pub looked_few : (f g : Face) (n i found : ℕ) (t : List ℕ) (d : ℕ) (drafted : Bool) → Looks f g i found → Walks f t d drafted → f.entries ≡ n → d ≤ 2 * n → d ≤ n
+looked_few f g n i found t d drafted looks walks accounts within =
+    subst (λ m. d ≤ m) accounts (looks.few t d (subst (λ m. d ≤ 2 * m) (sym accounts) within) walks.passed)
 
 -- and with its text published
-pub published_walks : (f g h k : Face) (n i found at : ℕ) (t : List ℕ) (d : ℕ) (drafted : Bool) → Looks f g i found → found ≤ 0 → Walks f t d drafted → f.accounts ≡ n → i ≡ further n t d → Drafts g h (words_to_end t)
-    → Publishes h k i at → at ≡ 0 → Gives f k t d Made
-published_walks f g h k n i found at t d drafted looks none walks accounts way drafts publishes free_yet =
+pub published_walks : (f g h k : Face) (n i found at : ℕ) (t : List ℕ) (d : ℕ) (drafted : Bool) → Looks f g i found → found ≤ 0 → Walks f t d drafted → f.entries ≡ n → i ≡ further n t d → Drafts g h (words_to_end t)
+    → Publishes h k i at → at ≡ 0 → d ≤ 2 * n → Gives f k t d Made
+published_walks f g h k n i found at t d drafted looks none walks accounts way drafts publishes free_yet within =
     let free = looked_free f g n i found t d drafted looks none walks accounts way in
     let at_f : Drafts f h (words_to_end t) = subst (λ (x : Face). Drafts x h (words_to_end t)) free.same drafts in
     let now = published_now h k i at publishes free_yet in
-    made f h k t d drafted walks free.new at_f now.0 now.1
-
--- as few buckets were passed as there are entries
-pub looked_few : (f g : Face) (n i found : ℕ) (t : List ℕ) (d : ℕ) (drafted : Bool) → Looks f g i found → Walks f t d drafted → f.accounts ≡ n → d ≤ BUCKETS_EACH * n → d ≤ MOST_NAMES * n
-looked_few f g n i found t d drafted looks walks accounts within =
-    subst (λ m. d ≤ MOST_NAMES * m) accounts (looks.few t d (subst (λ m. d ≤ BUCKETS_EACH * m) (sym accounts) within) walks.passed)
+    made f h k t d drafted walks free.new at_f now.0 now.1 (subst (λ m. d ≤ m) (sym accounts) (looked_few f g n i found t d drafted looks walks accounts within))
 
 -- a step further on the way
 pub further_on : (a b c : Me (Unit {0}) View) (t : List ℕ) (d : ℕ) (drafted still : Bool) → Steps a b (λ f g. OnTheWay f g t d drafted) → Steps b c (λ f g. GoesOn f g t (d + 1) still) → Steps a c (λ f g. OnTheWay f g t (d + 1) still)
@@ -251,7 +253,7 @@ further_on a b c t d drafted still one two = record {
   slots = two.slots ∙ one.slots;
   faces = two.faces ∙ ap (λ fs. with_first fs (own c.0)) one.faces ∙ first_twice a.0.faces (own b.0) (own c.0);
   tells = record {
-    same = record { accounts = two.tells.same.accounts ∙ one.tells.same.accounts; account = two.tells.same.account ∙ one.tells.same.account };
+    same = record { entries = two.tells.same.entries ∙ one.tells.same.entries; first = two.tells.same.first ∙ one.tells.same.first; room = two.tells.same.room ∙ one.tells.same.room };
     used = two.tells.used ∙ one.tells.used;
     knows = two.tells.knows ∙ one.tells.knows;
     walks = two.tells.walks;
@@ -266,7 +268,7 @@ ends_at a b c t d number more drafted one two = record {
   faces = two.faces ∙ ap (λ fs. with_first fs (own c.0)) one.faces ∙ first_twice a.0.faces (own b.0) (own c.0);
   tells = (
     record {
-      same = record { accounts = two.tells.0.same.accounts ∙ one.tells.same.accounts; account = two.tells.0.same.account ∙ one.tells.same.account };
+      same = record { entries = two.tells.0.same.entries ∙ one.tells.same.entries; first = two.tells.0.same.first ∙ one.tells.same.first; room = two.tells.0.same.room ∙ one.tells.same.room };
       adds = subst (λ ks. Adds ks t record { number = number } (own c.0).knows) one.tells.knows two.tells.0.adds;
       names = two.tells.0.names;
       used_up = two.tells.0.used_up;
@@ -282,7 +284,7 @@ pub at_start : (a : Me (Unit {0}) View) (t : List ℕ) → IsTrue (has_first a.0
 at_start a t first walks = record {
   slots = refl;
   faces = same_first a.0.faces first;
-  tells = record { same = record { accounts = refl; account = refl }; used = refl; knows = refl; walks = walks };
+  tells = record { same = record { entries = refl; first = refl; room = refl }; used = refl; knows = refl; walks = walks };
 }
 
 -- a first face is left
@@ -313,7 +315,7 @@ pub record ReadName (views : List View) (n : ℕ) (ws : List ℕ) : Type 0 where
   pub name : IsTrue (is_text (bytes_of ws))
   pub text : text_by (face_in views).knows n ≡ Some (bytes_of ws)
 
-pub read_name : (views taken : List View) (v : View) (n e : ℕ) (ws : List ℕ) → taken ≡ views → taken ≡ v ∷ [] → IsSome (text_by (face_in views).knows n) → built_in_at n ≡ None → Listed (face_in views).accounts (face_in views).knows
+pub read_name : (views taken : List View) (v : View) (n e : ℕ) (ws : List ℕ) → taken ≡ views → taken ≡ v ∷ [] → IsSome (text_by (face_in views).knows n) → built_in_at n ≡ None → Listed (face_in views).entries (face_in views).knows
     → e ≡ n - FIRST_NUMBER → ((t : List ℕ) → text_in (own v).knows (FIRST_NUMBER + e) ≡ Some t → ws ≡ words_of name_words t) → ReadName views n ws
 read_name views taken v n e ws was one known none listed place read =
     let found = known_text (face_in views).knows n known none in

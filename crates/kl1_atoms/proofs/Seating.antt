@@ -1,58 +1,83 @@
 -- The shared table at its start, and seats cut off.
-use Rattle.std.proofs.Common.{◌≡◌, ◌≢◌, ℕ, zero, suc, ◌+◌, ◌-◌, ◌*◌, ◌<◌, ◌⊎◌, List, [], ◌∷◌, ◌++◌, length, take, drop, replicate, slice_index, slice_set, refl, sym, ap, ◌∙◌, subst, inl, inr, arith}
+use Rattle.std.proofs.Common.{◌≡◌, ◌≢◌, ℕ, zero, suc, ◌+◌, ◌-◌, ◌*◌, ◌<◌, ◌≤◌, ◌⊎◌, List, [], ◌∷◌, ◌++◌, length, take, drop, replicate, slice_index, slice_set, refl, sym, ap, ◌∙◌, subst, inl, inr, arith}
 use mathlib.Core.Option.{some, some-injective, some-ne-none}
 use lib.ListN.{get_elem?}
+use Rattle.std.proofs.lemmas.Bool.{cases_order}
 use Rattle.atomic_table.specs.Table.{opening, Splits}
 use Rattle.atomic_table.proofs.Lists.{at_set}
-use Rattle.kl1_atoms.specs.Rule.{words_each}
+use Rattle.kl1_atoms.specs.Rule.{words_each, Overlap}
 use Rattle.kl1_atoms.specs.declared.face.Face.{Face}
+use Rattle.kl1_atoms.specs.declared.face.Size.{Size}
 use Rattle.kl1_atoms.specs.declared.face.View.{View}
 use Rattle.kl1_atoms.specs.Rule.{Fits, Mine, Kept}
 use Rattle.kl1_atoms.specs.Seats.{new_face, faces_from, all_faces, own_part, other_part}
 
+one_more : (a r k : ℕ) → a + r + k * r ≡ a + suc k * r
+one_more a r k = omega arith
+
 -- the face at a place of the first view
-face_at : (n j count k : ℕ) (f : Face) → get_elem? (faces_from n j count) k ≡ some f → (f ≡ new_face n (j + k)) × (k < count)
-face_at n j zero k f e = absurd (some-ne-none f (sym e))
-face_at n j (suc count) zero f e = (sym (some-injective (new_face n j) f e) ∙ ap (new_face n) (let z : j ≡ j + 0 = omega arith in z), omega arith)
-face_at n j (suc count) (suc k) f e =
-    let r = face_at n (j + 1) count k f e in
-    (r.0 ∙ ap (new_face n) (let z : j + 1 + k ≡ j + suc k = omega arith in z), (let h = r.1 in omega arith))
+face_at : (n r a count k : ℕ) (f : Face) → get_elem? (faces_from n r a count) k ≡ some f → (f ≡ new_face n r (a + k * r)) × (k < count)
+face_at n r a zero k f e = absurd (some-ne-none f (sym e))
+face_at n r a (suc count) zero f e = (sym (some-injective (new_face n r a) f e) ∙ ap (new_face n r) (let z : a ≡ a + zero * r = omega arith in z), omega arith)
+face_at n r a (suc count) (suc k) f e =
+    let q = face_at n r (a + r) count k f e in
+    (q.0 ∙ ap (new_face n r) (one_more a r k), (let h = q.1 in omega arith))
 
 -- the only view is the first
 only_view : (v w : View) (id : ℕ) → get_elem? (v ∷ []) id ≡ some w → (id ≡ 0) × (v ≡ w)
 only_view v w zero e = (refl, some-injective v w e)
 only_view v w (suc id) e = absurd (some-ne-none w (sym e))
 
+-- an account's entries end where those of a later one begin, or before
+ends_before : (r k l : ℕ) → k < l → k * r + r ≤ l * r
+ends_before r k l lt =
+    let e : l ≡ suc k + (l - suc k) = omega (arith, lt) in
+    subst (λ m. k * r + r ≤ m * r) (sym e) (omega arith)
+
+-- so two accounts that have an entry in common are one
+one_account : (n r k l p q : ℕ) → p ≡ k * r → q ≡ l * r → Overlap (new_face n r (0 + p)) (new_face n r (0 + q)) → k ≡ l
+one_account n r k l p q is its o = elim (cases_order k l) [
+  | inl same ↦ same
+  | inr other ↦ elim other [
+    | inl before ↦ let e : p + r ≤ q = rw (is, its) (ends_before r k l before) in absurd (let b = o.1 in omega arith)
+    | inr after ↦ let e : q + r ≤ p = rw (is, its) (ends_before r l k after) in absurd (let a = o.0 in omega arith)
+  ]
+]
+
 -- words of zeros keep the rule, with one seat that speaks for all accounts
-pub kept_first : (n : ℕ) (ws : List ℕ) → length ws ≡ words_each * n → ((i : ℕ) → slice_index ws i ≡ 0) → Kept n (opening ws [] (all_faces n))
-kept_first n ws size zeros = record {
+pub kept_first : (s : Size) (ws : List ℕ) → s.entries ≡ s.accounts * s.room → length ws ≡ words_each * s.entries → ((i : ℕ) → slice_index ws i ≡ 0) → Kept s.entries (opening ws [] (all_faces s))
+kept_first s ws count size zeros = record {
   sound = record {
     size = size;
     stands = λ i e h points. let z = zeros i in absurd (omega arith);
     once = λ i j e h l points point. let z = zeros i in absurd (omega arith);
   };
   fits = λ id k f mine.
-      let o = only_view (all_faces n) mine.0 id mine.1 in
-      let r = face_at n 0 n k f (subst (λ (v : View). get_elem? v.faces k ≡ some f) (sym o.1) mine.2) in
-      subst (λ (g : Face). Fits n ws g) (sym r.0)
-      (let new : Fits n ws (new_face n (0 + k)) = record {
-        accounts = refl;
-        account = (let h = r.1 in omega arith);
-        used_up = omega arith;
-        free = λ j low high i h points. let z = zeros i in absurd (omega arith);
-        known = record { by_text = λ t m e. cc; by_number = λ t m e. cc };
-        heard = tt;
-        drafted = λ l h. absurd (omega arith);
-      } in new);
+      let n = s.entries in
+      let o = only_view (all_faces s) mine.0 id mine.1 in
+      let q = face_at n s.room 0 s.accounts k f (subst (λ (v : View). get_elem? v.faces k ≡ some f) (sym o.1) mine.2) in
+      subst (λ (g : Face). Fits n ws g) (sym q.0) (new_fits n s.room (k * s.room) ws (rw count (ends_before s.room k s.accounts q.1)) zeros);
   apart = λ id other k l f g mine its e.
-      let o = only_view (all_faces n) mine.0 id mine.1 in
-      let p = only_view (all_faces n) its.0 other its.1 in
-      let r = face_at n 0 n k f (subst (λ (v : View). get_elem? v.faces k ≡ some f) (sym o.1) mine.2) in
-      let q = face_at n 0 n l g (subst (λ (v : View). get_elem? v.faces l ≡ some g) (sym p.1) its.2) in
-      let a : 0 + k ≡ f.account = ap (λ (x : Face). x.account) (sym r.0) in
-      let b : 0 + l ≡ g.account = ap (λ (x : Face). x.account) (sym q.0) in
-      (o.0 ∙ sym p.0, omega arith);
+      let n = s.entries in
+      let o = only_view (all_faces s) mine.0 id mine.1 in
+      let p = only_view (all_faces s) its.0 other its.1 in
+      let a = face_at n s.room 0 s.accounts k f (subst (λ (v : View). get_elem? v.faces k ≡ some f) (sym o.1) mine.2) in
+      let b = face_at n s.room 0 s.accounts l g (subst (λ (v : View). get_elem? v.faces l ≡ some g) (sym p.1) its.2) in
+      let O : Face → Type 0 = λ x. Overlap x (new_face n s.room (0 + l * s.room)) in
+      let P : Face → Type 0 = λ x. Overlap f x in
+      (o.0 ∙ sym p.0, one_account n s.room k l (k * s.room) (l * s.room) refl refl (subst O a.0 (subst P b.0 e)));
 }
+  where
+    new_fits : (n r p : ℕ) (ws : List ℕ) → p + r ≤ n → ((i : ℕ) → slice_index ws i ≡ 0) → Fits n ws (new_face n r (0 + p))
+    new_fits n r p ws le zeros = record {
+      entries = refl;
+      range = omega (arith, le);
+      used_up = omega arith;
+      free = λ j low high i h points. let z = zeros i in absurd (omega arith);
+      known = record { by_text = λ t m e. cc; by_number = λ t m e. cc };
+      heard = tt;
+      drafted = λ l h. absurd (omega arith);
+    }
 
 -- an element of a list with one more after it
 at_end : {A : Type 0} (l : List A) (a b : A) (j : ℕ) → get_elem? (l ++ a ∷ []) j ≡ some b → (get_elem? l j ≡ some b) ⊎ ((j ≡ length l) × (a ≡ b))
@@ -117,8 +142,18 @@ splits n id v s kept at = record {
 }
 
 -- a seat cut off from the faces that are left
-pub part_from : (n a : ℕ) → a < n → (own_part record { faces = faces_from n a (n - a) } ≡ record { faces = new_face n a ∷ [] }) × (other_part record { faces = faces_from n a (n - a) } ≡ record { faces = faces_from n (a + 1) (n - (a + 1)) })
-part_from n a h = let e : n - a ≡ suc (n - (a + 1)) = omega arith in rw e (refl, refl)
+pub part_from : (n r first c a : ℕ) → a < c → (own_part record { faces = faces_from n r first (c - a) } ≡ record { faces = new_face n r first ∷ [] }) × (other_part record { faces = faces_from n r first (c - a) } ≡ record { faces = faces_from n r (first + r) (c - (a + 1)) })
+part_from n r first c a h = let e : c - a ≡ suc (c - (a + 1)) = omega arith in rw e (refl, refl)
+
+-- the entries of those that are left are the table's
+pub range_step : (n r first c a : ℕ) → a < c → first + (c - a) * r ≤ n → (first + r ≤ n) × (first + r + (c - (a + 1)) * r ≤ n)
+range_step n r first c a h le =
+    let e : c - a ≡ suc (c - (a + 1)) = omega arith in
+    let k : first + suc (c - (a + 1)) * r ≤ n = rw e at le in
+    both first r ((c - (a + 1)) * r) n (omega (arith, k))
+  where
+    both : (first r p n : ℕ) → first + (r + p) ≤ n → (first + r ≤ n) × (first + r + p ≤ n)
+    both first r p n le = (omega (arith, le), omega (arith, le))
 
 -- words of zeros
 pub zeros-length : (n : ℕ) → length {A = ℕ} (replicate n 0) ≡ n

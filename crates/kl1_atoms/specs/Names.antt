@@ -1,6 +1,6 @@
 -- What a seat knows: names that aren't built in, each with its number, in the order of their first use.
 use Rattle.std.specs.Prelude.{◌≡◌, ℕ, ◌+◌, ◌<◌, ◌≤◌, ◌==◌, ◌⊎◌, if◌then◌else◌, List, [], ◌∷◌, ◌++◌, length, Option, Some, None, IsTrue, IsSome, is_some, bytes_eq}
-use Rattle.kl1_model.specs.declared.limits.TheConstants.{FIRST_NUMBER, MOST_NAMES}
+use Rattle.kl1_model.specs.declared.limits.TheConstants.{FIRST_NUMBER}
 use Rattle.kl1_model.specs.declared.built_in.BuiltIn.{BuiltIn}
 use Rattle.kl1_model.specs.Text.{is_text, text_of}
 use Rattle.kl1_text.specs.declared.atom_no.AtomNo.{AtomNo}
@@ -35,9 +35,9 @@ number_by ks t = place_or (number_in ks t) (built_in_of t)
 abbrev pub text_by : List Known → ℕ → Option (List ℕ)
 text_by ks n = text_or (text_in ks n) (built_in_at n)
 
--- a text may be looked up: it is known, or there is room for one more
-abbrev pub HasRoom : List Known → List ℕ → Type 0
-HasRoom ks t = IsSome (number_by ks t) ⊎ (length ks < MOST_NAMES)
+-- a text may be looked up: it is known, or fewer names are than there is room for
+abbrev pub HasRoom : ℕ → List Known → List ℕ → Type 0
+HasRoom room ks t = IsSome (number_by ks t) ⊎ (length ks < room)
 
 -- what is known after a look-up: what was, and after it the pair asked for if it is new
 abbrev pub added : List Known → List ℕ → AtomNo → List Known

@@ -1,22 +1,24 @@
 -- The seats of the shared table: how they are made, and what one shows.
-use Rattle.std.specs.Prelude.{◌≡◌, ℕ, zero, suc, ◌+◌, ◌<◌, List, [], ◌∷◌, ◌++◌, take, drop}
+use Rattle.std.specs.Prelude.{◌≡◌, ℕ, zero, suc, ◌+◌, ◌*◌, ◌<◌, List, [], ◌∷◌, ◌++◌, take, drop}
 use Rattle.atomic_table.specs.Seated.{TableId}
 use Rattle.kl1_atoms.specs.declared.face.Face.{Face}
+use Rattle.kl1_atoms.specs.declared.face.Size.{Size}
 use Rattle.kl1_atoms.specs.declared.face.View.{View}
+use Rattle.kl1_atoms.specs.Rule.{words_each}
 use Rattle.kl1_atoms.specs.Plays.{own}
 
--- the face of an account that knows the built-in names alone
-abbrev pub new_face : ℕ → ℕ → Face
-new_face n account = record { accounts = n; account = account; used = 0; knows = []; heard = []; draft = [] }
+-- the face of an account that knows the built-in names alone: of a table with n entries it has `room` from `first` on
+abbrev pub new_face : ℕ → ℕ → ℕ → Face
+new_face n room first = record { entries = n; first = first; room = room; used = 0; knows = []; heard = []; draft = [] }
 
--- the faces of `count` accounts, from `account` on
-abbrev pub faces_from : ℕ → ℕ → ℕ → List Face
-faces_from n account zero = []
-faces_from n account (suc count) = new_face n account ∷ faces_from n (account + 1) count
+-- the faces of `count` accounts, whose entries follow each other from `first` on
+abbrev pub faces_from : ℕ → ℕ → ℕ → ℕ → List Face
+faces_from n room first zero = []
+faces_from n room first (suc count) = new_face n room first ∷ faces_from n room (first + room) count
 
 -- the view of the first seat: all accounts' faces
-abbrev pub all_faces : ℕ → View
-all_faces n = record { faces = faces_from n 0 n }
+abbrev pub all_faces : Size → View
+all_faces size = record { faces = faces_from size.entries size.room 0 size.accounts }
 
 -- the first part of a view that is cut in two: its own face
 abbrev pub own_part : View → View
@@ -47,10 +49,10 @@ face_in vs = own (view_in vs)
 abbrev pub resting : Face → List View
 resting f = record { faces = f ∷ [] } ∷ []
 
--- a seat is of a table: it is that table's, its face counts the table's accounts, and its account is one of them
+-- a seat is of a table: it is that table's, its face counts the table's entries, and its account is one of the table's
 pub record IsSharedSeat (table seat : TableId) (accounts : ℕ) (face : Face) (account : ℕ) : Type 0 where
   pub table_is : seat ≡ table
-  pub accounts_are : face.accounts ≡ accounts
+  pub entries_are : table.words ≡ words_each * face.entries
   pub within : account < accounts
 
 -- a seat as it is made: of the table, of its account, and with the built-in names alone

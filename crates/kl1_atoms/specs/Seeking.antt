@@ -1,6 +1,5 @@
 -- A look-up that publishes nothing.
 use Rattle.std.specs.Prelude.{◌≡◌, ℕ, ◌+◌, ◌*◌, ◌<◌, ◌≤◌, List, None}
-use Rattle.kl1_model.specs.declared.limits.TheConstants.{BUCKETS_EACH, MOST_NAMES}
 use Rattle.kl1_atoms.specs.declared.face.Face.{Face}
 use Rattle.kl1_atoms.specs.declared.face.Heard.{Heard}
 use Rattle.kl1_atoms.specs.declared.sought.Glance.{Glance}
@@ -32,9 +31,9 @@ HasNoted f t = (h : Heard) × In f.heard h × (h.text ≡ t)
 
 -- what a glance at a bucket tells, `d` after the first of the text's way
 abbrev pub Glances : Face → Face → List ℕ → ℕ → ℕ → Glance → Type 0
-Glances f g t i d Free = Saw f g × Passed g t d × (d ≤ MOST_NAMES * f.accounts) × (number_in f.knows t ≡ None)
-Glances f g t i d (Holds e) = Saw f g × HasSeen g t i e × (e < MOST_NAMES * f.accounts)
-Glances f g t i d Other = Saw f g × Passed g t (d + 1) × (d ≤ MOST_NAMES * f.accounts)
+Glances f g t i d Free = Saw f g × Passed g t d × (d ≤ f.entries) × (number_in f.knows t ≡ None)
+Glances f g t i d (Holds e) = Saw f g × HasSeen g t i e × (e < f.entries)
+Glances f g t i d Other = Saw f g × Passed g t (d + 1) × (d ≤ f.entries)
 
 -- what it tells of the accounts after a seat's own
 abbrev pub GlancesOthers : Face → List Face → List ℕ → Glance → Type 0
@@ -44,8 +43,8 @@ GlancesOthers f fs t Other = EachAgrees f.knows fs
 
 -- where a text's way ended
 abbrev pub Finds : Face → Face → List ℕ → Sought → Type 0
-Finds f g t (Found i e) = Saw f g × HasSeen g t i e × (i < BUCKETS_EACH * f.accounts) × (e < MOST_NAMES * f.accounts)
-Finds f g t (FreeAt d) = Saw f g × Passed g t d × (d ≤ MOST_NAMES * f.accounts) × (number_in f.knows t ≡ None)
+Finds f g t (Found i e) = Saw f g × HasSeen g t i e × (i < 2 * f.entries) × (e < f.entries)
+Finds f g t (FreeAt d) = Saw f g × Passed g t d × (d ≤ f.entries) × (number_in f.knows t ≡ None)
 
 -- what that tells of the accounts after a seat's own
 abbrev pub FindsOthers : Face → List Face → List ℕ → Sought → Type 0
@@ -54,5 +53,5 @@ FindsOthers f fs t (FreeAt d) = EachAgrees f.knows fs × NoneKnows fs t
 
 -- how many turns were added: one for each bucket that was looked at
 abbrev pub Ticks : ℕ → ℕ → ℕ → Sought → Type 0
-Ticks old new n (Found i e) = (old < new) × (new ≤ old + BUCKETS_EACH * n)
+Ticks old new n (Found i e) = (old < new) × (new ≤ old + 2 * n)
 Ticks old new n (FreeAt d) = new ≡ old + d + 1

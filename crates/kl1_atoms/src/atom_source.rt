@@ -14,8 +14,8 @@ pub trait AtomSource {
     /// Whether a seat is of this table.
     ghost is_of: { Self → Self.Seat → Type 0 };
 
-    /// Which table a seat is of, and which account's it is.
-    ghost place: { Self.Seat → ℕ × ℕ };
+    /// Which table a seat is of and how many names it may know besides the built-in ones, and which account's it is.
+    ghost place: { Self.Seat → (ℕ × ℕ) × ℕ };
 
     /// The names that a seat knows, in the order of their first use.
     ghost knows: { Self.Seat → List Known };
@@ -26,7 +26,7 @@ pub trait AtomSource {
     /// The number of a name, which the seat knows from then on.
     fn intern(&mut self, seat: &mut Self::Seat, text: AtomText) -> AtomNo
         requires of { is_of self.old seat.old }
-        requires room { HasRoom (knows seat.old) text }
+        requires room { HasRoom (place seat.old).0.1 (knows seat.old) text }
         ensures of { is_of self.new seat.new }
         ensures place { place seat.new ≡ place seat.old }
         ensures others { (other : Self.Seat) → is_of self.old other → place other ≢ place seat.old → is_of self.new other }

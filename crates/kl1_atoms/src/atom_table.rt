@@ -1,7 +1,7 @@
 // The table of names that threads share.
 
 ghost use Rattle.std.specs.Prelude.{◌≡◌, ℕ, suc, ◌+◌, ◌*◌, ◌<◌, ◌≤◌, List, [], IsTrue, length};
-ghost use Rattle.kl1_model.specs.declared.limits.TheConstants.{BUCKETS_EACH, MOST_ACCOUNTS, MOST_NAMES};
+ghost use Rattle.kl1_model.specs.declared.limits.TheConstants.{MOST_ACCOUNTS, MOST_NAMES};
 ghost use Rattle.kl1_atoms.specs.Rule.{words_each};
 ghost use Rattle.kl1_text.specs.Words.{name_words};
 ghost use Rattle.kl1_atoms.specs.declared.face.Heard.{Heard};
@@ -9,31 +9,33 @@ ghost use Rattle.kl1_atoms.specs.Rule.{word_place, own_entry};
 ghost use Rattle.kl1_atoms.specs.Seats.{own_part, other_part, joint_view};
 ghost use Rattle.kl1_atoms.specs.Plays.{own, others_of, has_first, Steps, In, Looks, Meets, Reads, drafted_more, IsReady, Publishes, Learns};
 
-use crate::face::View;
+use crate::face::{Size, View};
 use crate::law::{Draft, Joined, Law, Learn, Look, Parted, Publish, Read};
 use atomic_table::{Seat, Table};
-use kl1_model::limits::{BUCKETS_EACH, MOST_NAMES};
 use kl1_text::WORDS;
 use std::alloc::Global;
 
-/// The names that one account adds at most, as table places are counted.
-pub(crate) const NAMES_EACH: u64 = MOST_NAMES as u64;
+/// The buckets of the table for each entry.
+pub(crate) const BUCKETS_EACH: u64 = 2;
 
 /// The words of an entry, as table places are counted.
 const ENTRY_WORDS: u64 = WORDS as u64;
 
-/// The words of the table for each account: its buckets, and the words for each of its names.
-pub(crate) const WORDS_EACH: usize = BUCKETS_EACH as usize + WORDS * MOST_NAMES;
+/// The words of the table for each entry: its buckets, and its own words.
+pub(crate) const WORDS_EACH: usize = BUCKETS_EACH as usize + WORDS;
 
 /// A table of names for several accounts, in which many threads look names up at once, each with a seat of its own.
 #[derive(Drop)]
 pub struct AtomTable {
-    pub(crate) table: Table<(), View, u64, Law, Global>,
+    pub(crate) table: Table<(), View, Size, Law, Global>,
     pub(crate) accounts: u64,
-    pub ghost key: { table.shared.key ≡ accounts },
-    pub ghost size: { table.shared.table_id.words ≡ words_each * accounts },
-    pub ghost some: { 0 < accounts },
-    pub ghost few: { accounts ≤ MOST_ACCOUNTS },
+    pub(crate) room: u64,
+    pub(crate) entries: u64,
+    pub ghost key: { table.shared.key.entries ≡ entries },
+    pub ghost size: { table.shared.table_id.words ≡ words_each * entries },
+    pub ghost some: { 1 < entries },
+    pub ghost few: { entries ≤ (MOST_ACCOUNTS * MOST_NAMES) },
+    pub ghost counted: { accounts ≤ MOST_ACCOUNTS },
 }
 
 impl AtomTable {
@@ -41,7 +43,7 @@ impl AtomTable {
     pub(crate) fn look(&self, seat: &mut Seat<(), View>, bucket: u64) -> u64
         requires of { seat.old.table_id ≡ self.now.table.shared.table_id }
         requires first { IsTrue (has_first seat.old.me.0.faces) }
-        requires bucket { bucket < BUCKETS_EACH * self.now.accounts }
+        requires bucket { bucket < 2 * self.now.entries }
         ensures of { seat.new.table_id ≡ seat.old.table_id }
         ensures tells { Steps seat.old.me seat.new.me (λ f g. Looks f g bucket result) }
         ensures meets { Meets (own seat.old.me.0) (others_of seat.old.me.0.faces) bucket result }
@@ -53,13 +55,13 @@ impl AtomTable {
     pub(crate) fn read(&self, seat: &mut Seat<(), View>, entry: u64, word: u64) -> u64
         requires of { seat.old.table_id ≡ self.now.table.shared.table_id }
         requires first { IsTrue (has_first seat.old.me.0.faces) }
-        requires entry { entry < MOST_NAMES * self.now.accounts }
+        requires entry { entry < self.now.entries }
         requires word { word < name_words }
         ensures of { seat.new.table_id ≡ seat.old.table_id }
         ensures same { seat.new.me ≡ seat.old.me }
-        ensures tells { Reads (own seat.old.me.0) (word_place self.now.accounts entry word) result }
+        ensures tells { Reads (own seat.old.me.0) (word_place self.now.entries entry word) result }
     {
-        let place = BUCKETS_EACH * self.accounts + ENTRY_WORDS * entry + word;
+        let place = BUCKETS_EACH * self.entries + ENTRY_WORDS * entry + word;
         self.table.shared.load::<Read>(seat, place as usize)
     }
 
@@ -67,16 +69,16 @@ impl AtomTable {
     pub(crate) fn draft(&self, seat: &mut Seat<(), View>, entry: u64, word: u64, value: u64)
         requires of { seat.old.table_id ≡ self.now.table.shared.table_id }
         requires first { IsTrue (has_first seat.old.me.0.faces) }
-        requires room { (own seat.old.me.0).used < MOST_NAMES }
+        requires room { (own seat.old.me.0).used < (own seat.old.me.0).room }
         requires next { word ≡ length (own seat.old.me.0).draft }
         requires entry { entry ≡ own_entry (own seat.old.me.0) }
-        requires bound { entry < MOST_NAMES * self.now.accounts }
+        requires bound { entry < self.now.entries }
         requires word { word < name_words }
-        requires accounts { (own seat.old.me.0).accounts ≡ self.now.accounts }
+        requires entries { (own seat.old.me.0).entries ≡ self.now.entries }
         ensures of { seat.new.table_id ≡ seat.old.table_id }
         ensures tells { Steps seat.old.me seat.new.me (λ f g. g ≡ drafted_more f value) }
     {
-        let place = BUCKETS_EACH * self.accounts + ENTRY_WORDS * entry + word;
+        let place = BUCKETS_EACH * self.entries + ENTRY_WORDS * entry + word;
         self.table
             .shared
             .store::<Draft>(seat, place as usize, value);
@@ -86,9 +88,9 @@ impl AtomTable {
     pub(crate) fn publish(&self, seat: &mut Seat<(), View>, bucket: u64, entry: u64) -> u64
         requires of { seat.old.table_id ≡ self.now.table.shared.table_id }
         requires first { IsTrue (has_first seat.old.me.0.faces) }
-        requires bucket { bucket < BUCKETS_EACH * self.now.accounts }
+        requires bucket { bucket < 2 * self.now.entries }
         requires entry { entry ≡ own_entry (own seat.old.me.0) }
-        requires bound { entry < MOST_NAMES * self.now.accounts }
+        requires bound { entry < self.now.entries }
         requires ready { (t : List ℕ) × (d : ℕ) × IsReady (own seat.old.me.0) t d bucket }
         ensures of { seat.new.table_id ≡ seat.old.table_id }
         ensures tells { Steps seat.old.me seat.new.me (λ f g. Publishes f g bucket result) }
@@ -102,7 +104,7 @@ impl AtomTable {
     pub(crate) fn learn(&self, seat: &mut Seat<(), View>, bucket: u64)
         requires of { seat.old.table_id ≡ self.now.table.shared.table_id }
         requires first { IsTrue (has_first seat.old.me.0.faces) }
-        requires bucket { bucket < BUCKETS_EACH * self.now.accounts }
+        requires bucket { bucket < 2 * self.now.entries }
         requires seen { (h : Heard) × In (own seat.old.me.0).heard h × (h.bucket ≡ bucket) }
         ensures of { seat.new.table_id ≡ seat.old.table_id }
         ensures tells { Steps seat.old.me seat.new.me (λ f g. Learns f g bucket) }

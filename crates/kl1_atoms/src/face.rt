@@ -11,11 +11,20 @@ pub struct Heard {
     pub text: AtomText,
 }
 
-/// What one account knows: of how many accounts it is which, how many of its entries it has used, the names that it
-/// knows, what it has seen on the way, and the words that it has drafted. No value of it is made.
-pub struct Face {
+/// How many entries a table has, how many of them each account has, and how many accounts there are.
+#[derive(Clone, Copy)]
+pub struct Size {
+    pub entries: u64,
+    pub room: u64,
     pub accounts: u64,
-    pub account: u64,
+}
+
+/// What one account knows: how many entries the table has, the first of its own, how many these are, how many of them it has used,
+/// the names that it knows, what it has seen on the way, and the words that it has drafted. No value of it is made.
+pub struct Face {
+    pub entries: u64,
+    pub first: u64,
+    pub room: u64,
     pub used: u64,
     pub knows: LinkedList<Known>,
     pub heard: LinkedList<Heard>,

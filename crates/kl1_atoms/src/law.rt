@@ -4,16 +4,16 @@ ghost use Rattle.kl1_atoms.specs.Rule.{Kept};
 ghost use Rattle.kl1_atoms.specs.Plays.{LooksAt, ReadsAt, DraftsAt, PublishesAt, LearnsAt};
 ghost use Rattle.kl1_atoms.specs.Seats.{all_faces, own_part, other_part, joint_view, spent_view};
 
-use crate::face::View;
+use crate::face::{Size, View};
 use atomic_table::{Join, Play, Split, TableRule};
 
-/// The rule of the shared table; the key is the number of accounts.
+/// The rule of the shared table; the key is its size.
 pub struct Law;
 
-impl TableRule<(), View, u64> for Law {
-    ghost holds = { λ n. Kept n };
+impl TableRule<(), View, Size> for Law {
+    ghost holds = { λ size. Kept size.entries };
 
-    ghost first = { λ n. all_faces n };
+    ghost first = { λ size. all_faces size };
 }
 
 /// A look at a bucket.

@@ -6,7 +6,7 @@ ghost use Rattle.kl1_atoms.specs.declared.face.View.{View as Seen};
 ghost use Rattle.kl1_atoms.specs.Laws.{RuleShowsNames, ShowsNames};
 
 use crate::atom_table::AtomTable;
-use crate::face::View;
+use crate::face::{Size, View};
 use crate::law::Law;
 use atomic_table::{Table, TableRule};
 use std::alloc::Global;
@@ -20,9 +20,9 @@ pub fn words_show_names()
 impl AtomTable {
     /// Tells a caller's proof that whatever the rule of this table keeps between any two steps shows names. It does nothing.
     pub fn shows_names(&self)
-        ensures { (s : State (Unit {0}) Seen) → ⟦<Law as TableRule<(), View, u64>>⟧.holds self.now.accounts s → ShowsNames self.now.accounts s }
+        ensures { (s : State (Unit {0}) Seen) → ⟦<Law as TableRule<(), View, Size>>⟧.holds self.now.table.shared.key s → ShowsNames self.now.entries s }
     {
         // The type says that this is the table's rule.
-        let _table: &Table<(), View, u64, Law, Global> = &self.table;
+        let _table: &Table<(), View, Size, Law, Global> = &self.table;
     }
 }

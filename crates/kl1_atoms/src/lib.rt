@@ -22,7 +22,7 @@ mod walking;
 pub use atom_seat::AtomSeat;
 pub use atom_source::AtomSource;
 pub use atom_table::AtomTable;
-pub use face::{Face, Heard, View};
+pub use face::{Face, Heard, Size, View};
 pub use known::Known;
 pub use laws::words_show_names;
 pub use plain_seat::PlainSeat;

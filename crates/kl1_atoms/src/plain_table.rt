@@ -17,7 +17,7 @@ use kl1_model::limits::{FIRST_NUMBER, MOST_NAMES};
 use kl1_text::{AtomNo, AtomText, NameValue, built_in_at};
 use std::alloc::{AllocError, Global};
 
-/// A table of names for one thread: 1,024 places for each account, each of a name or free.
+/// A table of names for one thread: 4,096 places for each account, each of a name or free.
 #[derive(Drop)]
 pub struct PlainTable {
     places: Vec<Option<AtomText>>,
@@ -61,6 +61,7 @@ impl PlainTable {
 
 impl AtomSource for PlainTable {
     ghost use Rattle.std.specs.Prelude.{ℕ};
+    ghost use Rattle.kl1_model.specs.declared.limits.TheConstants.{MOST_NAMES};
     ghost use Rattle.kl1_atoms.specs.Plain.{IsSeatOf, StandsAt};
     ghost use Rattle.kl1_atoms.specs.Knowing.{are_names};
 
@@ -68,7 +69,7 @@ impl AtomSource for PlainTable {
 
     ghost is_of = { λ table seat. IsSeatOf table.places.items seat.account seat.used seat.known.items };
 
-    ghost place = { λ seat. (0, seat.account) };
+    ghost place = { λ seat. ((0, MOST_NAMES), seat.account) };
 
     ghost knows = { λ seat. seat.known.items };
 

@@ -20,7 +20,7 @@ impl<'t> AtomSource for SharedAtoms<'t> {
 
     ghost is_of = { λ atoms seat. IsSharedSeat atoms.table.now.table.shared.table_id seat.badge.table_id atoms.table.now.accounts (face_in seat.badge.views) seat.account };
 
-    ghost place = { λ seat. (seat.badge.table_id.views_name, seat.account) };
+    ghost place = { λ seat. ((seat.badge.table_id.views_name, (face_in seat.badge.views).room), seat.account) };
 
     ghost knows = { λ seat. (face_in seat.badge.views).knows };
 

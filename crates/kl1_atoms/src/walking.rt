@@ -1,7 +1,7 @@
 // A look-up in the shared table, bucket by bucket.
 
 ghost use Rattle.std.specs.Prelude.{◌≡◌, ◌≢◌, ℕ, suc, ◌+◌, ◌*◌, ◌%◌, ◌<◌, ◌≤◌, ◌↔◌, Bool, true, false, List, [], IsTrue, length};
-ghost use Rattle.kl1_model.specs.declared.limits.TheConstants.{BUCKETS_EACH, FIRST_NUMBER, MOST_ACCOUNTS, MOST_NAMES};
+ghost use Rattle.kl1_model.specs.declared.limits.TheConstants.{FIRST_NUMBER, MOST_ACCOUNTS, MOST_NAMES};
 ghost use Rattle.kl1_model.specs.Text.{is_text};
 ghost use Rattle.kl1_text.specs.Words.{words_to_end};
 ghost use Rattle.kl1_atoms.specs.declared.face.Face.{Face};
@@ -11,13 +11,13 @@ ghost use Rattle.kl1_atoms.specs.Rule.{own_entry};
 ghost use Rattle.kl1_atoms.specs.Plays.{own, has_first, with_first, Steps, In, Passed};
 ghost use Rattle.kl1_atoms.specs.Rounds.{Starts, Walks, Gives, SameAccount, Drafts, draft_of, Compares, Ends};
 
-use crate::atom_table::AtomTable;
+use crate::atom_table::{AtomTable, BUCKETS_EACH};
 use crate::face::View;
 use crate::round::{Ended, Round};
 use crate::sought::Sought;
 use crate::turns::Turns;
 use atomic_table::Seat;
-use kl1_model::limits::{BUCKETS_EACH, FIRST_NUMBER};
+use kl1_model::limits::FIRST_NUMBER;
 use kl1_text::{AtomNo, AtomText, NameValue};
 
 /// What each sum is multiplied by in a mix: 2 ^ 64 over the golden ratio, by which names that differ in a few bytes are spread out.
@@ -31,8 +31,8 @@ impl AtomTable {
     pub(crate) fn has_text(&self, seat: &mut Seat<(), View>, entry: u64, text: &AtomText) -> bool
         requires of { seat.old.table_id ≡ self.now.table.shared.table_id }
         requires first { IsTrue (has_first seat.old.me.0.faces) }
-        requires accounts { (own seat.old.me.0).accounts ≡ self.now.accounts }
-        requires entry { entry < MOST_NAMES * self.now.accounts }
+        requires entries { (own seat.old.me.0).entries ≡ self.now.entries }
+        requires entry { entry < self.now.entries }
         requires name { IsTrue (is_text text.now) }
         ensures of { seat.new.table_id ≡ seat.old.table_id }
         ensures same { seat.new.me ≡ seat.old.me }
@@ -59,12 +59,12 @@ impl AtomTable {
     ) -> Round
         requires of { seat.old.table_id ≡ self.now.table.shared.table_id }
         requires first { IsTrue (has_first seat.old.me.0.faces) }
-        requires accounts { (own seat.old.me.0).accounts ≡ self.now.accounts }
-        requires way { bucket ≡ further self.now.accounts text.now passed }
-        requires within { bucket < BUCKETS_EACH * self.now.accounts }
-        requires entry { entry < MOST_NAMES * self.now.accounts }
+        requires entries { (own seat.old.me.0).entries ≡ self.now.entries }
+        requires way { bucket ≡ further self.now.entries text.now passed }
+        requires within { bucket < 2 * self.now.entries }
+        requires entry { entry < self.now.entries }
         requires walks { Walks (own seat.old.me.0) text.now passed drafted }
-        requires small { passed ≤ MOST_NAMES * self.now.accounts }
+        requires small { passed ≤ self.now.entries }
         requires seen { (h : Heard) × In (own seat.old.me.0).heard h × (h.bucket ≡ bucket) × (h.entry ≡ entry) × IsTrue (is_text h.text) }
         ensures of { seat.new.table_id ≡ seat.old.table_id }
         ensures gives { Steps seat.old.me seat.new.me (λ f g. Compares f g text.now passed drafted result) }
@@ -81,11 +81,11 @@ impl AtomTable {
     fn have_draft(&self, seat: &mut Seat<(), View>, entry: u64, text: &AtomText, drafted: bool)
         requires of { seat.old.table_id ≡ self.now.table.shared.table_id }
         requires first { IsTrue (has_first seat.old.me.0.faces) }
-        requires accounts { (own seat.old.me.0).accounts ≡ self.now.accounts }
-        requires room { (own seat.old.me.0).used < MOST_NAMES }
+        requires entries { (own seat.old.me.0).entries ≡ self.now.entries }
+        requires room { (own seat.old.me.0).used < (own seat.old.me.0).room }
         requires draft { (own seat.old.me.0).draft ≡ draft_of drafted text.now }
         requires entry { entry ≡ own_entry (own seat.old.me.0) }
-        requires bound { entry < MOST_NAMES * self.now.accounts }
+        requires bound { entry < self.now.entries }
         ensures of { seat.new.table_id ≡ seat.old.table_id }
         ensures tells { Steps seat.old.me seat.new.me (λ f g. Drafts f g (words_to_end text.now)) }
     {
@@ -110,13 +110,13 @@ impl AtomTable {
     ) -> Round
         requires of { seat.old.table_id ≡ self.now.table.shared.table_id }
         requires first { IsTrue (has_first seat.old.me.0.faces) }
-        requires accounts { (own seat.old.me.0).accounts ≡ self.now.accounts }
-        requires way { bucket ≡ further self.now.accounts text.now passed }
-        requires within { bucket < BUCKETS_EACH * self.now.accounts }
+        requires entries { (own seat.old.me.0).entries ≡ self.now.entries }
+        requires way { bucket ≡ further self.now.entries text.now passed }
+        requires within { bucket < 2 * self.now.entries }
         requires entry { entry ≡ own_entry (own seat.old.me.0) }
-        requires account { (own seat.old.me.0).account < self.now.accounts }
+        requires range { (own seat.old.me.0).first + (own seat.old.me.0).room ≤ self.now.entries }
         requires walks { Walks (own seat.old.me.0) text.now passed drafted }
-        requires few { passed + 1 ≤ BUCKETS_EACH * self.now.accounts }
+        requires few { passed + 1 ≤ 2 * self.now.entries }
         ensures of { seat.new.table_id ≡ seat.old.table_id }
         ensures gives { Steps seat.old.me seat.new.me (λ f g. Gives f g text.now passed result) }
     {
@@ -134,20 +134,20 @@ impl AtomTable {
 
     /// The bucket where a look-up of a text starts.
     pub fn first_bucket(&self, text: &AtomText) -> u64
-        ensures value { result ≡ start self.now.accounts text.now }
-        ensures within { result < BUCKETS_EACH * self.now.accounts }
+        ensures value { result ≡ start self.now.entries text.now }
+        ensures within { result < 2 * self.now.entries }
     {
-        mixed(text.words()) / HALF * (BUCKETS_EACH * self.accounts) / HALF
+        mixed(text.words()) / HALF * (BUCKETS_EACH * self.entries) / HALF
     }
 
     /// The bucket that is `passed` after `start`, round the end.
     pub(crate) fn bucket_at(&self, start: u64, passed: u64) -> u64
-        requires start { start < BUCKETS_EACH * self.now.accounts }
-        requires passed { passed < BUCKETS_EACH * self.now.accounts }
-        ensures { result ≡ (start + passed) % (BUCKETS_EACH * self.now.accounts) }
+        requires start { start < 2 * self.now.entries }
+        requires passed { passed < 2 * self.now.entries }
+        ensures { result ≡ (start + passed) % (2 * self.now.entries) }
     {
         let bucket = start + passed;
-        let buckets = BUCKETS_EACH * self.accounts;
+        let buckets = BUCKETS_EACH * self.entries;
         if bucket < buckets {
             bucket
         } else {
@@ -167,22 +167,22 @@ impl AtomTable {
     ) -> Ended
         requires of { seat.old.table_id ≡ self.now.table.shared.table_id }
         requires first { IsTrue (has_first seat.old.me.0.faces) }
-        requires accounts { (own seat.old.me.0).accounts ≡ self.now.accounts }
-        requires account { (own seat.old.me.0).account < self.now.accounts }
+        requires entries { (own seat.old.me.0).entries ≡ self.now.entries }
+        requires range { (own seat.old.me.0).first + (own seat.old.me.0).room ≤ self.now.entries }
         requires entry { entry ≡ own_entry (own seat.old.me.0) }
         requires used { used ≡ (own seat.old.me.0).used }
-        requires bound { used ≤ MOST_NAMES }
+        requires bound { used ≤ (own seat.old.me.0).room }
         requires walks { Walks (own seat.old.me.0) text.now from false }
-        requires from { from ≤ MOST_NAMES * self.now.accounts }
+        requires from { from ≤ self.now.entries }
         ensures of { seat.new.table_id ≡ seat.old.table_id }
         ensures ends { Steps seat.old.me seat.new.me (λ f g. Ends f g text.now result.number.number × (g.used ≡ f.used + result.more)) }
-        ensures more { used + result.more ≤ MOST_NAMES }
-        ensures turns { turns.new + from ≤ turns.old + MOST_NAMES * self.now.accounts + 2 }
+        ensures more { used + result.more ≤ (own seat.old.me.0).room }
+        ensures turns { turns.new + from ≤ turns.old + self.now.entries + 1 }
         ensures grow { turns.old ≤ turns.new }
     {
         let start = self.first_bucket(text);
         let mut drafted = false;
-        for passed in from..BUCKETS_EACH * self.accounts {
+        for passed in from..BUCKETS_EACH * self.entries {
             turns.tick();
             let bucket = self.bucket_at(start, passed);
             match self.round(seat, text, bucket, entry, passed, drafted) {
@@ -205,16 +205,16 @@ impl AtomTable {
     ) -> Ended
         requires of { seat.old.table_id ≡ self.now.table.shared.table_id }
         requires first { IsTrue (has_first seat.old.me.0.faces) }
-        requires accounts { (own seat.old.me.0).accounts ≡ self.now.accounts }
-        requires account { (own seat.old.me.0).account < self.now.accounts }
+        requires entries { (own seat.old.me.0).entries ≡ self.now.entries }
+        requires range { (own seat.old.me.0).first + (own seat.old.me.0).room ≤ self.now.entries }
         requires entry { entry ≡ own_entry (own seat.old.me.0) }
         requires used { used ≡ (own seat.old.me.0).used }
-        requires bound { used ≤ MOST_NAMES }
+        requires bound { used ≤ (own seat.old.me.0).room }
         requires starts { Starts (own seat.old.me.0) text.now }
         ensures of { seat.new.table_id ≡ seat.old.table_id }
         ensures ends { Steps seat.old.me seat.new.me (λ f g. Ends f g text.now result.number.number × (g.used ≡ f.used + result.more)) }
-        ensures more { used + result.more ≤ MOST_NAMES }
-        ensures turns { (turns.old < turns.new) × (turns.new ≤ turns.old + BUCKETS_EACH * self.now.accounts) }
+        ensures more { used + result.more ≤ (own seat.old.me.0).room }
+        ensures turns { (turns.old < turns.new) × (turns.new ≤ turns.old + 2 * self.now.entries) }
     {
         match self.seek(seat, text, turns) {
             Sought::Found(bucket, found) => {

@@ -1,7 +1,7 @@
 // What the client knows of commands.
 
 /// The commands, those of the client first: of each its form, and what it does.
-const COMMANDS: [&str; 22] = [
+const COMMANDS: [&str; 23] = [
     "load FILE         load the module in FILE",
     "save FILE         write the whole journal to FILE, which is new, empty or a journal",
     "wait S [SECONDS]  wait until shoen S has ended, or can't go on, or SECONDS are over",
@@ -17,6 +17,7 @@ const COMMANDS: [&str; 22] = [
     "abort S           end shoen S",
     "allow S N         raise the allowance of shoen S by N",
     "answer S N GOAL   put GOAL in the place of the goal of report N of shoen S",
+    "forget S N        let the first N reports of shoen S go, or by 0 the shoen itself, if it has ended",
     "modules           list the modules",
     "journal F N       show N lines of the journal from the Fth on",
     "quiet             tell whether no goal can step",

@@ -8,13 +8,13 @@ const HINTS: [&str; 13] = [
     "there is no such shoen, or no start of yours made it",
     "this shoen has ended: start another",
     "this goal can't take this clause now",
-    "the account would use more than 1,024 names, and reset keeps them: use fewer",
+    "the account would use too many names, and reset keeps them: use fewer",
     "a limit of the account would be passed: reset begins it anew",
     "the journal is full: save it, then reset",
     "the server has no memory for this now: try again later",
     "the name or the key is wrong, or a session is open already",
     "the account has 4 open sessions: end one of them",
-    "this report waits for no answer, or has one",
+    "this report waits for no answer, or has one; or what was to be let go is still waited for, or gone",
 ];
 
 /// What is told of the refusal of a number, if it is known.

@@ -1,4 +1,5 @@
 pub mod Lines
+pub mod ShortLines
 pub mod Starts
 pub mod Runs
 pub mod Reductions

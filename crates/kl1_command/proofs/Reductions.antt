@@ -31,6 +31,7 @@ is_refusal (model.quiet_is b) r e = none_is _ r e
 is_refusal (model.welcome name) r e = none_is _ r e
 is_refusal model.bye r e = none_is _ r e
 is_refusal model.was_reset r e = none_is _ r e
+is_refusal model.forgot r e = none_is _ r e
 
 left_by : (j : Journal) (e : model.Event) (s : State) (c : Bool) → c ≡ true → (if c then j else with_event j e s) ≡ j
 left_by j e s true is = refl

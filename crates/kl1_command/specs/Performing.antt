@@ -22,6 +22,7 @@ refusal_in (model.quiet_is b) = None
 refusal_in (model.welcome name) = None
 refusal_in model.bye = None
 refusal_in model.was_reset = None
+refusal_in model.forgot = None
 
 -- only a run stops short: after some of its steps, fewer than it may do
 abbrev pub StopsShort : Kept → Command → ℕ → Kept → Type 0

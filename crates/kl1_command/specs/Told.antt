@@ -15,13 +15,14 @@ pub record Told : Type 0 where
 abbrev pub told_steps : ℕ → Told
 told_steps n = record { events = n; steps = n; is_reset = false }
 
--- how many events a reply tells: one of a load, a start, a message, an answer and a reduction, and those of a run
+-- how many events a reply tells: one of a load, a start, a message, an answer, a letting go and a reduction, and those of a run
 abbrev pub events_by : model.Reply → ℕ
 events_by (model.loaded name) = 1
 events_by (model.opened n) = 1
 events_by model.sent = 1
 events_by model.reduced = 1
 events_by (model.ran n) = n
+events_by model.forgot = 1
 events_by _ = 0
 
 -- how many steps a reply tells: one of a reduction, and those of a run

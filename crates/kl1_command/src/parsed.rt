@@ -4,18 +4,19 @@ ghost use Rattle.std.specs.Prelude.{◌≡◌, IfOk, Some, option_map};
 ghost use Rattle.kl1_model.specs.declared.limits.TheConstants.{MOST_STEPS};
 ghost use Rattle.kl1_model.specs.declared.message.Message.TheVariants.{Allow};
 ghost use Rattle.kl1_model.specs.Line.{only_number, up_to};
-ghost use Rattle.kl1_model.specs.Event.{value, status, control, reduce, read};
+ghost use Rattle.kl1_model.specs.Event.{value, status, control, reduce, read, forget};
 ghost use Rattle.kl1_model.specs.Module.{read_goal};
-ghost use Rattle.kl1_model_server.specs.Command.{parse, command_of, does, run, by_two, start_command, start_with, answer_command, answer_with, reports_command, journal_command, alone_command};
+ghost use Rattle.kl1_model.specs.Telling.{read_answer};
+ghost use Rattle.kl1_model_server.specs.Command.{parse, command_by, command_of, does, run, by_two, start_command, start_with, answer_command, answer_with, reports_command, journal_command, alone_command};
 ghost use Rattle.kl1_lines.specs.Records.{request_of};
 ghost use Rattle.kl1_user_events.specs.Views.{event_of};
 ghost use Rattle.kl1_command.specs.Commands.{parsed_view};
 
 use crate::command::Command;
 use kl1_lines::{Request, is_blank_line, is_same, number_in, only_number, split_word, up_to};
-use kl1_model::Message;
 use kl1_model::limits::{MOST_COMMAND_BYTES, MOST_LISTED, MOST_PRIORITY, MOST_STEPS};
-use kl1_read::{ReadFault, read_goal};
+use kl1_model::{Message, Rules};
+use kl1_read::{ReadFault, read_answer, read_goal};
 use kl1_user_events::{ClauseNo, Event, GoalNo, Query, ShoenNo};
 use std::alloc::{AllocError, Global};
 
@@ -28,9 +29,9 @@ pub enum Parsed {
     Refused,
 }
 
-/// The command of a record.
-pub fn command_in(alloc: Global, request: Request<'_>) -> Result<Parsed, AllocError>
-    ensures { IfOk result (λ parsed. parsed_view parsed ≡ command_of (request_of request.entry)) }
+/// The command of a record by these rules.
+pub fn command_in(alloc: Global, rules: Rules, request: Request<'_>) -> Result<Parsed, AllocError>
+    ensures { IfOk result (λ parsed. parsed_view parsed ≡ command_of rules (request_of request.entry)) }
 {
     match request {
         Request::Load(source) => {
@@ -38,18 +39,25 @@ pub fn command_in(alloc: Global, request: Request<'_>) -> Result<Parsed, AllocEr
             Ok(does(Event::Load { source }))
         }
         Request::SpoiledLoad => Ok(Parsed::Refused),
-        Request::Line(line) => parse(alloc, line),
+        Request::Line(line) => parse(alloc, rules, line),
     }
 }
 
-/// The command of a line, without its end. A load alone is none, since its source is not there.
-pub fn parse(alloc: Global, line: &[u8]) -> Result<Parsed, AllocError>
-    ensures { IfOk result (λ parsed. parsed_view parsed ≡ parse line.now) }
+/// The command of a line by these rules, without its end. A load alone is none, since its source is not there.
+pub fn parse(alloc: Global, rules: Rules, line: &[u8]) -> Result<Parsed, AllocError>
+    ensures { IfOk result (λ parsed. parsed_view parsed ≡ parse rules line.now) }
 {
     if line.len() > MOST_COMMAND_BYTES {
         return Ok(Parsed::Refused);
     }
     let (word, rest) = split_word(line);
+    parse_by(alloc, rules, word, rest)
+}
+
+/// The command of a line by its first word and what is after it, by these rules.
+fn parse_by(alloc: Global, rules: Rules, word: &[u8], rest: &[u8]) -> Result<Parsed, AllocError>
+    ensures { IfOk result (λ parsed. parsed_view parsed ≡ command_by rules word.now rest.now) }
+{
     if is_same(word, b"start") {
         parse_start(alloc, rest)
     } else if is_same(word, b"run") {
@@ -83,7 +91,9 @@ pub fn parse(alloc: Global, line: &[u8]) -> Result<Parsed, AllocError>
     } else if is_same(word, b"reset") {
         Ok(parse_alone(Event::Reset, rest))
     } else if is_same(word, b"answer") {
-        parse_answer(alloc, rest)
+        parse_answer(alloc, rules, rest)
+    } else if is_same(word, b"forget") && rules.has_forgetting() {
+        Ok(parse_forget(rest))
     } else {
         Ok(Parsed::Refused)
     }
@@ -269,9 +279,26 @@ fn start_of(
     }
 }
 
-/// What stands after `answer`: a shoen's number, a report's, from 1, and then a goal.
-fn parse_answer(alloc: Global, rest: &[u8]) -> Result<Parsed, AllocError>
-    ensures { IfOk result (λ parsed. parsed_view parsed ≡ answer_command rest.now) }
+/// What stands after `forget`: a shoen's number, and how many reports.
+fn parse_forget(rest: &[u8]) -> Parsed
+    ensures { parsed_view result ≡ by_two (λ n count. Some (does (forget n count))) rest.now }
+{
+    let (first, rest) = split_word(rest);
+    let Some(shoen) = number_in(first) else {
+        return Parsed::Refused;
+    };
+    let Some(count) = only_number(rest) else {
+        return Parsed::Refused;
+    };
+    does(Event::Forget {
+        shoen: ShoenNo(shoen),
+        count,
+    })
+}
+
+/// What stands after `answer`: a shoen's number, a report's, from 1, and then a goal, as these rules read it.
+fn parse_answer(alloc: Global, rules: Rules, rest: &[u8]) -> Result<Parsed, AllocError>
+    ensures { IfOk result (λ parsed. parsed_view parsed ≡ answer_command rules rest.now) }
 {
     let (first, rest) = split_word(rest);
     let (second, goal) = split_word(rest);
@@ -281,18 +308,24 @@ fn parse_answer(alloc: Global, rest: &[u8]) -> Result<Parsed, AllocError>
     let Some(report) = number_in(second) else {
         return Ok(Parsed::Refused);
     };
-    answer_of(alloc, shoen, report, goal)
+    answer_of(alloc, rules, shoen, report, goal)
 }
 
 /// The answer with the goal that bytes are, if the report's number is at least 1 and there is one.
 #[tactic(auto, using(crate::proofs::Starts::no_report))]
-fn answer_of(alloc: Global, shoen: u64, report: u64, goal: &[u8]) -> Result<Parsed, AllocError>
-    ensures { IfOk result (λ parsed. parsed_view parsed ≡ answer_with shoen report (read_goal goal.now)) }
+fn answer_of(
+    alloc: Global,
+    rules: Rules,
+    shoen: u64,
+    report: u64,
+    goal: &[u8],
+) -> Result<Parsed, AllocError>
+    ensures { IfOk result (λ parsed. parsed_view parsed ≡ answer_with shoen report (read_answer rules goal.now)) }
 {
     if report < 1 {
         return Ok(Parsed::Refused);
     }
-    match read_goal(alloc, goal) {
+    match read_answer(alloc, rules, goal) {
         Ok(goal) => Ok(does(Event::Answer {
             shoen: ShoenNo(shoen),
             report,

@@ -69,6 +69,7 @@ fn put_each(out: &mut Vec<u8>, prefix: Option<&[u8]>, reply: &Reply) -> Result<(
         Reply::Welcome(name) => put_line(out, prefix, b"+ welcome ", name.unpacked().as_slice()),
         Reply::Bye => put_line(out, prefix, b"+ bye", b""),
         Reply::Reset => put_line(out, prefix, b"+ reset", b""),
+        Reply::Forgotten => put_line(out, prefix, b"+ forgotten", b""),
         Reply::Refused(refusal) => put_refusal(out, prefix, *refusal),
     }
 }

@@ -2,6 +2,7 @@
 
 ghost use Rattle.std.specs.Prelude.{◌≡◌, ◌+◌, ◌<◌, not, [], ◌∷◌, ◌++◌, None, map, option_copied, option_map, IfSome, IfOk, OnOk, MatchOption};
 ghost use Rattle.std.specs.List.{filter, find, list_any, count_by};
+ghost use Rattle.std.specs.Option.{option_to_list};
 ghost use Rattle.kl1_goals.specs.Lists.{has_number, is_other, is_after, is_monitor, is_monitor_of, is_goal_of, is_in, stood_by, looked_at, enabled_in};
 ghost use Rattle.kl1_goals.specs.Readies.{first_from, chosen, stands};
 ghost use Rattle.kl1_goals.specs.Tables.{IsNext, IsKnown, IsOfShoen, AreInOrder, AreSingle};
@@ -239,6 +240,13 @@ impl<N: NameValue> GoalTable<N> {
         lower(&mut self.tallies, &goal);
         self.alive = lower_alive(self.alive, &goal);
         Ok(())
+    }
+
+    /// The number of the monitor of a shoen, if it has one.
+    pub fn monitor(&self, shoen: u64) -> Option<u64>
+        ensures { map (λ g. g.number) (filter (is_monitor_of shoen) self.now.goals) ≡ option_to_list result }
+    {
+        tally_of(&self.tallies, shoen).monitor
     }
 
     /// Removes the monitor of a shoen, if it has one.

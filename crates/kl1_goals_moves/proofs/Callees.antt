@@ -14,7 +14,7 @@ use Rattle.kl1_model.specs.declared.rules.Rules.{Rules}
 use Rattle.kl1_model.specs.State.{most_spelled}
 use Rattle.kl1_model.specs.Reduction.{Move, unifies, goes, execute_arguments, execute_move, built_in_move, becomes, move_found, names, opens}
 use Rattle.kl1_model.specs.code.Steps.{order_move}
-use Rattle.kl1_model.specs.code.Waits.{awaited_in_call, awaited_at_head, awaited_by_order, awaited_by_execute, awaited_by_built_in}
+use Rattle.kl1_model.specs.code.Waits.{awaited_in_call, awaited_at_head, awaited_by_order, awaited_by_execute, awaited_by_built_in, awaited_by_found}
 use Rattle.kl1_store.specs.declared.cell.Cell.{Cell}
 use Rattle.kl1_store.specs.declared.qualified.Qualified.{Qualified}
 use Rattle.kl1_store.specs.declared.cell.Cell.TheVariants.{Atom, Structure}
@@ -38,7 +38,6 @@ use Rattle.kl1_goals_moves.specs.declared.order.ExecuteArguments.{ExecuteArgumen
 use Rattle.kl1_goals_moves.specs.Orders.{order_at, IsOrder}
 use Rattle.kl1_goals_moves.specs.Calls.{atom_in, name_in, cell_in, cell_of, IsOf, IsNameless, CallsNothing, Calls, CalledIn, CalledBetween, CalledAs, CalledInside, IsCounted, is_order}
 use Rattle.kl1_goals_moves.specs.Kinds.{IsCall, IsUnification, IsAssignment, IsSpelling, IsExecution, IsTrueGoal, IsKind, KindIn, order_kind, callee_kind}
-use Rattle.kl1_model.specs.code.Awaited.{awaited_by_found}
 
 -- ---- under another name than `:`
 

@@ -19,7 +19,7 @@ use Rattle.kl1_goals_moves.specs.Shapes.{IsNoGoal}
 behind_front : (j n : ℕ) (c : Clause) (ps : List Replacement) (ks : List Candidate) (v : Answer) → n < j → numbered j (candidate_by n c ps v ++ ks) ≡ numbered j ks
 behind_front j n c ps ks yes lt = cond-false (n == j) (Some (record { number = n; clause = c; places = ps })) (numbered j ks) (ne_eqb n j (λ e. absurd (omega (arith, lt, e))))
 behind_front j n c ps ks no lt = refl
-behind_front j n c ps ks wait lt = refl
+behind_front j n c ps ks (wait vs) lt = refl
 
 -- after all clauses there is no candidate
 none_within : (section j n : ℕ) (cs : List Clause) (ts : Terms) → n + length cs ≤ j → numbered j (candidates_within section n cs ts) ≡ None

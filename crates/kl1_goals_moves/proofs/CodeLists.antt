@@ -5,7 +5,7 @@ use Rattle.std.specs.List.{list_all}
 use Rattle.std.proofs.lemmas.Bool.{cond-true, le-leb}
 use Rattle.kl1_model.specs.declared.limits.TheConstants.{MOST_NAME_BYTES, MOST_SPELLED_BEFORE}
 use Rattle.kl1_model.specs.declared.rules.Rules.{Rules}
-use Rattle.kl1_model.specs.declared.rules.Rules.TheVariants.{One, Two, Three, Four}
+use Rattle.kl1_model.specs.declared.rules.Rules.TheVariants.{One, Two, Three, Four, Five}
 use Rattle.kl1_model.specs.State.{most_spelled}
 use Rattle.kl1_model.specs.Text.{is_name_byte, is_text}
 use Rattle.kl1_model.specs.Term.{Term, variable, integer, atom, structure, none, more}
@@ -109,6 +109,7 @@ pub spelled_in_names : (rules : Rules) → most_spelled rules ≤ MOST_NAME_BYTE
 spelled_in_names One = let le : MOST_SPELLED_BEFORE ≤ MOST_NAME_BYTES = omega arith in le
 spelled_in_names Two = let le : MOST_SPELLED_BEFORE ≤ MOST_NAME_BYTES = omega arith in le
 spelled_in_names Four = let le : MOST_NAME_BYTES ≤ MOST_NAME_BYTES = omega arith in le
+spelled_in_names Five = let le : MOST_NAME_BYTES ≤ MOST_NAME_BYTES = omega arith in le
 spelled_in_names Three = let le : MOST_NAME_BYTES ≤ MOST_NAME_BYTES = omega arith in le
 
 -- the text is a name at the end

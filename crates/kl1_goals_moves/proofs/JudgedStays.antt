@@ -13,9 +13,8 @@ use Rattle.kl1_model.specs.declared.number.Number.TheVariants.{Value, Overflow, 
 use Rattle.kl1_model.specs.declared.rules.Rules.{Rules}
 use Rattle.kl1_model.specs.State.{most_spelled}
 use Rattle.kl1_model.specs.Reduction.{Move, raises, unifies, names, opens, illegal_input, move_found, becomes, execute_arguments, execute_move, built_in_move}
-use Rattle.kl1_model.specs.code.Awaited.{awaited_by_found}
+use Rattle.kl1_model.specs.code.Waits.{awaited_by_found, LeavesEach, awaited_by_order, awaited_by_execute, awaited_by_built_in, awaited_by_call, awaited_at_head, awaited_by_substitute, awaited_by_term}
 use Rattle.kl1_model.specs.code.Steps.{order_move}
-use Rattle.kl1_model.specs.code.Waits.{LeavesEach, awaited_by_order, awaited_by_execute, awaited_by_built_in, awaited_by_call, awaited_at_head, awaited_by_substitute, awaited_by_term}
 use Rattle.kl1_model.specs.laws.WaitsLaws.{call_substituted}
 use Rattle.kl1_model.proofs.Substitutions.{count-each_substituted}
 use Rattle.kl1_model.proofs.SameStays.{left_front, left_back}

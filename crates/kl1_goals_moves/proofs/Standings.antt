@@ -15,7 +15,7 @@ use Rattle.kl1_model.specs.declared.rules.Rules.{Rules}
 use Rattle.kl1_model.specs.State.{most_spelled}
 use Rattle.kl1_model.specs.Reduction as model_moves
 use Rattle.kl1_model.specs.Reduction.{raises, unifies, goes, illegal_input, built_in_move}
-use Rattle.kl1_model.specs.code.Waits.{awaited_by_term, awaited_by_call, awaited_by_clauses, awaited_at_head, awaited_by_built_in}
+use Rattle.kl1_model.specs.code.Waits.{awaited_by_term, awaited_by_call, awaited_by_clauses, awaited_at_head, awaited_by_built_in, awaited_by_found}
 use Rattle.kl1_model.proofs.LeastClause.{term_clause-call, term_clause-built_in, term_clause-none}
 use Rattle.kl1_text.specs.Reading.{Reads}
 use Rattle.kl1_store.specs.declared.cell.Cell.{Cell}
@@ -51,7 +51,6 @@ use Rattle.kl1_model.specs.Meaning.{pair}
 use Rattle.kl1_goals_moves.specs.Judged.{IsCalling, DoesAs}
 use Rattle.kl1_goals_moves.specs.Standing.{standing_by, becoming, StandsAs}
 use Rattle.kl1_model.specs.Found as looks
-use Rattle.kl1_model.specs.code.Awaited.{awaited_by_found}
 use Rattle.kl1_goals_moves.proofs.Taking.{positive}
 
 -- what a term waits for, by its head, its call and as a built-in goal

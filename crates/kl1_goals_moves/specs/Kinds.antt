@@ -7,7 +7,7 @@ use Rattle.kl1_model.specs.Look.{spelling, arguments_look}
 use Rattle.kl1_model.specs.declared.rules.Rules.{Rules}
 use Rattle.kl1_model.specs.State.{most_spelled}
 use Rattle.kl1_model.specs.Reduction.{unifies, goes, built_in_move, becomes, move_found, names, opens}
-use Rattle.kl1_model.specs.code.Waits.{awaited_at_head, awaited_by_built_in}
+use Rattle.kl1_model.specs.code.Waits.{awaited_at_head, awaited_by_built_in, awaited_by_found}
 use Rattle.kl1_store.specs.declared.cell.Cell.{Cell}
 use Rattle.kl1_store.specs.Held.{Held, IsIn, arguments_of}
 use Rattle.kl1_store.specs.Meaning.{term_of}
@@ -23,7 +23,6 @@ use Rattle.kl1_goals_moves.specs.Shapes.{IsNoGoal}
 use Rattle.kl1_match.specs.Waiting.{IsUnbound}
 use Rattle.kl1_goals_moves.specs.Orders.{order_at, IsOrder}
 use Rattle.kl1_goals_moves.specs.Calls.{cell_of, arguments_at, call_at, is_order}
-use Rattle.kl1_model.specs.code.Awaited.{awaited_by_found}
 
 -- a term is this call
 pub record IsCall {N : Type 0} (f : N → List ℕ) (h : Held N) (t : Term) (c : Call N) : Type 0 where

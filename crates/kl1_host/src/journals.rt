@@ -77,7 +77,7 @@ impl<'f, R: Files<File = File> + Clock + Eprint> FolderOpener<'f, R> {
             alloc,
             journals.as_str(),
             text.as_str(),
-            Rules::Four,
+            Rules::Five,
             repair,
         )?;
         if let Some(line) = opened.repaired() {

@@ -32,19 +32,23 @@ function show(name) {
   else $("login").elements.name.focus();
 }
 
+/** What is in use, beside each limit but those on what was ever made, to which no account comes by the fifth rules. */
 function showAccount(account) {
   const state = $("state");
   state.textContent = account.stopped ? `stopped: ${account.stopped}` : account.quiet ? "no goal can step" : "at work";
   state.className = `badge ${account.stopped ? "bad" : account.quiet ? "" : "running"}`;
-  const rows = Object.entries(account.usage).map(([what, { count, most }]) =>
-    make(
+  const rows = Object.entries(account.usage).map(([what, { count, most }]) => {
+    const isNear = most <= Number.MAX_SAFE_INTEGER;
+    const meter = isNear ? make("meter", { min: 0, max: most, high: most * 0.9, value: count, "aria-label": what }) : "";
+    const beside = isNear ? ` of ${most.toLocaleString("en")}` : "";
+    return make(
       "tr",
       {},
       make("th", { scope: "row" }, what),
-      make("td", {}, make("meter", { min: 0, max: most, high: most * 0.9, value: count, "aria-label": what })),
-      make("td", {}, `${count.toLocaleString("en")} of ${most.toLocaleString("en")}`),
-    ),
-  );
+      make("td", {}, meter),
+      make("td", {}, `${count.toLocaleString("en")}${beside}`),
+    );
+  });
   const modules = account.modules.map((module) => `${module.name} (${module.clauses} clauses)`).join(", ");
   rows.push(make("tr", {}, make("th", { scope: "row" }, "modules"), make("td", { colspan: 2 }, modules || "none")));
   fill($("limits").tBodies[0], rows);

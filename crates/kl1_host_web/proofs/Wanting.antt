@@ -1,6 +1,7 @@
 -- Of which account something is wanted.
 use Rattle.std.proofs.Common.{◌≡◌, ◌<◌, ℕ, nat_lt, Bool, true, false, if◌then◌else◌, List, codes, Option, Some, None, Result, Ok, Err, IfOk, refl, ap, sym, subst, ◌∙◌, inl, inr, arith}
 use Rattle.serde_json.specs.declared.value.Value.{Value}
+use Rattle.kl1_model.specs.declared.rules.Rules.TheVariants.{Five}
 use Rattle.kl1_model_server.specs.Command.{Command, parse}
 use Rattle.kl1_host_door.specs.declared.refusal.Refusal.TheVariants.{BadBody}
 use Rattle.kl1_host_door.specs.declared.ask.Ask.{Ask}
@@ -29,9 +30,9 @@ of_plain : (n a : ℕ) (parsed : Option Command) → a < n → IsOfOne n (plain 
 of_plain n a None w = tt
 of_plain n a (Some c) w = of_choice n a c (is_plain c) w
 
-of_line : (n a : ℕ) (line : Option (List ℕ)) → a < n → IsOfOne n (elim line [ None ↦ refuse BadBody | Some l ↦ plain a (parse l) ])
+of_line : (n a : ℕ) (line : Option (List ℕ)) → a < n → IsOfOne n (elim line [ None ↦ refuse BadBody | Some l ↦ plain a (parse Five l) ])
 of_line n a None w = tt
-of_line n a (Some l) w = of_plain n a (parse l) w
+of_line n a (Some l) w = of_plain n a (parse Five l) w
 
 of_text : (n a : ℕ) (text : Option (List ℕ)) → a < n → IsOfOne n (elim text [ None ↦ refuse BadBody | Some t ↦ load_into a t ])
 of_text n a None w = tt
@@ -141,6 +142,6 @@ no_file ask.Health path result other h = h
 
 -- ---- what a line and a text want
 
-pub command_is : (account : ℕ) (value : Option Value) (line : List ℕ) (parsed : Option Command) → Some line ≡ text_in (codes "line") value → parsed ≡ parse line → plain account parsed ≡ command_in account value
+pub command_is : (account : ℕ) (value : Option Value) (line : List ℕ) (parsed : Option Command) → Some line ≡ text_in (codes "line") value → parsed ≡ parse Five line → plain account parsed ≡ command_in account value
 command_is account value line parsed told is =
-    ap (plain account) is ∙ ap (λ o. let w : Wanted = elim o [ None ↦ refuse BadBody | Some l ↦ plain account (parse l) ] in w) told
+    ap (plain account) is ∙ ap (λ o. let w : Wanted = elim o [ None ↦ refuse BadBody | Some l ↦ plain account (parse Five l) ] in w) told

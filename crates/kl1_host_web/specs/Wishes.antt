@@ -4,6 +4,7 @@ use Rattle.serde_json.specs.Find.{get, as_str}
 use Rattle.serde_json.specs.Read.{read}
 use Rattle.serde_json.specs.View.{view}
 use Rattle.serde_json.specs.declared.value.Value.{Value}
+use Rattle.kl1_model.specs.declared.rules.Rules.TheVariants.{Five}
 use Rattle.kl1_model.specs.Event as event
 use Rattle.kl1_model_server.specs.Command as model
 use Rattle.kl1_model_server.specs.Command.{Command, parse}
@@ -72,9 +73,9 @@ abbrev pub plain : ℕ → Option Command → Wanted
 plain account None = syntax
 plain account (Some c) = if is_plain c then do_to account c else syntax
 
--- the command that the line of a value is, done to an account
+-- the command that the line of a value is by the rules of a host's accounts, done to an account
 abbrev pub command_in : ℕ → Option Value → Wanted
-command_in account value = elim (text_in (codes "line") value) [ None ↦ refuse BadBody | Some line ↦ plain account (parse line) ]
+command_in account value = elim (text_in (codes "line") value) [ None ↦ refuse BadBody | Some line ↦ plain account (parse Five line) ]
 
 -- the load of the text of a value into an account
 abbrev pub load_in : ℕ → Option Value → Wanted

@@ -6,6 +6,7 @@ ghost use Rattle.kl1_host_web.specs.Wishes.{wish_view, IsRead, text_in, login_in
 
 use kl1_command::{Command, Parsed, parse};
 use kl1_host_door::{Allowed, Ask, Refusal};
+use kl1_model::Rules;
 use kl1_user_events::Event;
 use serde_json::Value;
 use std::alloc::{AllocError, Global};
@@ -109,7 +110,7 @@ fn command_in(alloc: Global, account: usize, value: &Option<Value>) -> Result<Wi
 {
     match text_in(value, "line") {
         None => Ok(Wish::Refuse(Refusal::BadBody)),
-        Some(line) => Ok(plain_wish(account, parse(alloc, line.as_bytes())?)),
+        Some(line) => Ok(plain_wish(account, parse(alloc, Rules::Five, line.as_bytes())?)),
     }
 }
 

@@ -12,13 +12,15 @@ goes_on message.Start = true
 goes_on message.Abort = false
 goes_on (message.Allow n) = true
 
--- whether a command makes a journal's file grow: each that may add an entry to it, but a message after which a shoen stands or ends
+-- whether a command makes a journal's file grow: each that may add an entry to it, but a message after which a shoen stands or ends, and what
+-- lets go
 abbrev pub fills_disk : Command → Bool
 fills_disk (does (event.load text)) = true
 fills_disk (does (event.start allowance low high t)) = true
 fills_disk (does (event.control n m)) = goes_on m
 fills_disk (does (event.reduce goal clause)) = true
 fills_disk (does (event.answer n report t)) = true
+fills_disk (does (event.forget n count)) = false
 fills_disk (does (event.read q)) = false
 fills_disk (does event.login) = false
 fills_disk (does event.logout) = false

@@ -62,6 +62,11 @@ impl Seen {
         (self.sight, self.is_done())
     }
 
+    /// Since when it wasn't looked at though it was asked; `now` if it was.
+    fn unseen_since(&self, now: Duration) -> Duration {
+        if self.is_done() { now } else { self.since }
+    }
+
     /// For how long it is still waited that it is looked at.
     fn pause(&self, now: Duration) -> Duration {
         Duration::from_millis(WAITED_FOR_A_LOOK).saturating_sub(now.saturating_sub(self.since))
@@ -121,6 +126,12 @@ impl Outlook {
         self.bell.ring(rt);
     }
 
+    /// Since when the account wasn't looked at though it was asked; now if it was.
+    fn unseen_since<W: Wait + Clock>(&self, rt: &W) -> Duration {
+        let now = now_of(rt);
+        self.seen.lock(rt).unseen_since(now)
+    }
+
     /// What was seen last, once the account was looked at as often as it was asked, or a short time after it was asked; and whether it was.
     fn wait<W: Wait + Clock>(&self, rt: &W) -> (Option<Sight>, bool) {
         let now = now_of(rt);
@@ -176,6 +187,14 @@ impl Board {
         match self.outlooks.get(account) {
             Some(outlook) => outlook.wait(rt),
             None => (None, true),
+        }
+    }
+
+    /// Since when an account wasn't looked at though it was asked; now if it was.
+    pub(crate) fn unseen_since<W: Wait + Clock>(&self, rt: &W, account: usize) -> Duration {
+        match self.outlooks.get(account) {
+            Some(outlook) => outlook.unseen_since(rt),
+            None => now_of(rt),
         }
     }
 

@@ -51,7 +51,7 @@ where
     requires accounts { D.accounts door.old ≤ length host.keys.now }
     requires few { length host.keys.now ≤ K.accounts }
     requires named { names_in (entries_view host.keys.now) ≡ C.names }
-    ensures { (done : List Done) × Serves (D.opens door.old) PIECE result.0 (S.remaining source.old) (S.remaining source.new) (T.contents sink.old) (T.contents sink.new) [] done × AreAnswered K.rules C.names done share result.1 × IsTold K.rules C.names host.entry.syncing.replies_wait done result.2 }
+    ensures { (done : List Done) × Serves K.rules (D.opens door.old) PIECE result.0 (S.remaining source.old) (S.remaining source.new) (T.contents sink.old) (T.contents sink.new) [] done × AreAnswered K.rules C.names done share result.1 × IsTold K.rules C.names host.entry.syncing.replies_wait done result.2 }
 {
     let mut handler = HostHandler {
         rt,
@@ -61,7 +61,15 @@ where
         exchange: Exchange::new(share, host.syncing.replies_wait),
     };
     let mut buffer = [0u8; PIECE];
-    let served = kl1_session::serve(alloc, source, sink, &mut handler, door, &mut buffer);
+    let served = kl1_session::serve(
+        alloc,
+        pool.rules(),
+        source,
+        sink,
+        &mut handler,
+        door,
+        &mut buffer,
+    );
     let HostHandler { exchange, .. } = handler;
     let (share, notice) = exchange.into_parts();
     (served, share, notice)

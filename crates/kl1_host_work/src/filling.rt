@@ -37,6 +37,7 @@ pub(crate) fn fills_disk(command: &Command) -> bool
             Event::Load { .. } | Event::Start { .. } | Event::Answer { .. } => true,
             Event::Control { message, .. } => goes_on(message),
             Event::Reduce { .. } => true,
+            Event::Forget { .. } => false,
             Event::Read(_) | Event::Login | Event::Logout | Event::Reset => false,
         },
         Command::Run(_) => true,

@@ -266,7 +266,8 @@ where
     if setup.accounts == 0 || setup.places < setup.accounts || setup.places > MOST_ACCOUNTS {
         return Err(StartFault::Accounts);
     }
-    let (table, seats) = AtomTable::new(alloc, setup.places)?;
+    let room = Rules::Five.limits().names;
+    let (table, seats) = AtomTable::with_room(alloc, setup.places, room)?;
     let codes = CodeTable::new(alloc)?;
     let parts = PoolParts::new(
         alloc,
@@ -274,7 +275,7 @@ where
         &codes,
         // They come with their files.
         &[],
-        Rules::Four,
+        Rules::Five,
         seats,
         setup
             .workers

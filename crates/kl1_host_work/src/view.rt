@@ -137,12 +137,14 @@ impl<F: Front, N: Wait + Clock, R: Wait, K: PoolIds + Naming, C: Connecting> Hos
     }
 
     fn sight(&self, account: usize) -> (Option<Sight>, u64) {
-        let (sight, _) = self.desk.board.sight(self.rt, account);
-        let age = match sight {
-            Some(sight) => now_of(self.rt).saturating_sub(sight.at).as_secs(),
-            None => 0,
+        let board = self.desk.board;
+        let (sight, _) = board.sight(self.rt, account);
+        let at = match sight {
+            Some(sight) => sight.at,
+            // It was in the midst of a reduction since it came.
+            None => board.unseen_since(self.rt, account),
         };
-        (sight, age)
+        (sight, now_of(self.rt).saturating_sub(at).as_secs())
     }
 
     fn is_busy(&self, account: usize) -> bool {

@@ -177,7 +177,9 @@ pub(crate) fn tell_waits<'t, F: Front, W: Wait + Clock, R: Wait, K: PoolIds + Na
         desk.board.ask_all(rt);
         for account in 0..desk.pool.accounts() {
             let (_, is_new) = desk.board.sight(rt, account);
-            if account < told.len() && !is_new && !told[account] {
+            // A place where no account is has no name.
+            let is_awaited = !is_new && desk.host.is_open(account);
+            if account < told.len() && is_awaited && !told[account] {
                 told[account] = true;
                 desk.front.tell(HostEvent::AwaitsEnd { account });
             }

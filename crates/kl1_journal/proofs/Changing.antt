@@ -3,12 +3,13 @@ use Rattle.std.proofs.Common.{◌≡◌, ℕ, suc, ◌-◌, ◌<◌, nat_lt, Boo
 use Rattle.std.specs.Prelude.{◌⊎◌, Some, zero}
 use Rattle.std.proofs.lemmas.Bool.{ltb-true}
 use Rattle.kl1_model.specs.declared.limits.TheConstants.{MOST_SESSIONS}
+use Rattle.kl1_model.specs.declared.rules.Rules.{Rules}
 use Rattle.kl1_model.specs.State.{State}
 use Rattle.kl1_model.specs.Event as model
 use Rattle.kl1_model.specs.Event.{Transition, refuse, sessions_refused, is_refused}
 use Rattle.kl1_model.specs.Step.{step}
 use Rattle.kl1_model_server.specs.Journal.{Journal, steps, new_journal, with_event, noted, stepped}
-use Rattle.kl1_journal_entries.specs.Lined.{entry_of, if_lined, with_prepared, with_reduction}
+use Rattle.kl1_journal_entries.specs.Lined.{Pending, entry_of, if_lined, lined_entry, with_prepared, with_reduction}
 use Rattle.kl1_journal_entries.proofs.Accepted.{accepted_entries}
 use Rattle.kl1_journal.specs.declared.change.Change.{Change}
 use Rattle.kl1_journal.specs.declared.change.Change.TheVariants as change
@@ -21,6 +22,7 @@ entered_is j (model.start allowance low high goal) t h = refl
 entered_is j (model.control n m) t h = refl
 entered_is j (model.reduce goal clause) t h = absurd h
 entered_is j (model.answer n report goal) t h = refl
+entered_is j (model.forget n count) t h = refl
 entered_is j (model.read q) t h = absurd h
 entered_is j model.login t h = absurd h
 entered_is j model.logout t h = absurd h
@@ -34,12 +36,13 @@ asked_is j (model.start allowance low high goal) t h = absurd h
 asked_is j (model.control n m) t h = absurd h
 asked_is j (model.reduce goal clause) t h = absurd h
 asked_is j (model.answer n report goal) t h = absurd h
+asked_is j (model.forget n count) t h = absurd h
 asked_is j model.login t h = absurd h
 asked_is j model.logout t h = absurd h
 asked_is j model.reset t h = absurd h
 
 -- a reduction whose entry is lined
-pub reduction_is : (j : Journal) (goal clause run : ℕ) → if_lined (steps goal clause) ≡ Some (steps goal clause) → stepped j goal clause run ≡ with_reduction j goal clause run
+pub reduction_is : (j : Journal) (goal clause run : ℕ) → if_lined j.rules (steps goal clause) ≡ Some (steps goal clause) → stepped j goal clause run ≡ with_reduction j goal clause run
 reduction_is j goal clause zero lined = ap (with_prepared j) (sym lined)
 reduction_is j goal clause (suc n) lined = refl
 
@@ -68,7 +71,7 @@ accepted_is : (s : State) (names : List (List ℕ)) (j : Journal) (e : model.Eve
     with_event j e (step s e).state ≡ changed j c run (step s e).reply
 accepted_is s names j e change.Nothing run h used ruled same told a = asked_is j e (step s e).state h
 accepted_is s names j e (change.Entry entry) run h used ruled same told a =
-    entered_is j e (step s e).state h.1 ∙ ap (with_prepared j) (sym (accepted_entries s e a) ∙ sym h.0)
+    entered_is j e (step s e).state h.1 ∙ ap (with_prepared j) (sym (ap (λ (p : Pending). p.entry) h.0 ∙ ap (λ (r : Rules). lined_entry r e) ruled ∙ accepted_entries s e a))
 accepted_is s names j e (change.Reduction goal clause) run h used ruled same told a =
     subst (λ d. run ≡ (step s d).state.run → is_refused (step s d).reply ≡ false → with_event j d (step s d).state ≡ with_reduction j goal.0 clause.0 run) (sym h)
     (λ r b. ap (stepped j goal.0 clause.0) (sym r) ∙ reduction_is j goal.0 clause.0 run (accepted_entries s (model.reduce goal.0 clause.0) b)) told a

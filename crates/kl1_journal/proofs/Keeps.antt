@@ -11,6 +11,7 @@ use Rattle.kl1_model_server.specs.laws.ReplayLaws.{IsReplayable}
 use Rattle.kl1_model_server.specs.laws.TextLaws as texts
 use Rattle.kl1_model_server.proofs.ReplayReplies.{fresh_is_replayable, replayable_stays}
 use Rattle.kl1_model_server.proofs.NewNames.{no_names}
+use Rattle.kl1_model_server.proofs.Replays.{rules_stay}
 use Rattle.kl1_model_server.proofs.WrittenStays.{step_named}
 use Rattle.kl1_atoms.specs.declared.known.Known.{Known}
 use Rattle.std.proofs.lemmas.Option.{none-some}
@@ -46,6 +47,12 @@ done_change f old new j k e reply c was is h k_is =
     done_by f old new j k e reply is
     (noted_is (state_of f old) (texts_of old.names) j e c new.run h refl was.is.rules was.is.sessions (sym (ap (λ (x : Transition). x.state.run) is)) ∙ ap (λ (x : Transition). if is_refused x.reply then j else changed j c new.run x.reply) is ∙ sym k_is)
 
+-- an account keeps to its rules
+pub rules_same : (old new : Account) (e : model.Event) (reply : model.Reply) → AreNames new.names → Does old e new reply → new.rules ≡ old.rules
+rules_same old new e reply names does =
+    let f = reading_of new.names in
+    sym (ap (λ (x : Transition). x.state.rules) (does f (reading_fits new.names names))) ∙ rules_stay (state_of f old) e
+
 -- an account is the replay of its journal after an event
 kept_by : (old new : Account) (j k : Journal) (e : model.Event) (reply : model.Reply) → IsReplayed (old, j) → AreNames new.names → Does old e new reply → ((f : Reading) → Fits new.names f → Fits old.names f) →
     ((f : Reading) → Fits new.names f → done (kept_of f (old, j)) e ≡ record { kept = kept_of f (new, k); reply = reply }) → IsReplayed (new, k)
@@ -53,7 +60,7 @@ kept_by old new j k e reply was names does before is = record {
   replay = λ f fits. subst IsReplayable (ap (λ (x : Done). x.kept) (is f fits)) (replayable_stays (kept_of f (old, j)) e (was.replay f (before f fits)));
   names =
       let f = reading_of new.names in
-      subst texts.AreNames (ap (λ (x : Transition). x.state.names) (does f (reading_fits new.names names))) (step_named (state_of f old) e was.names);
+      subst (λ (x : Transition). texts.AreNames x.state.rules x.state.names) (does f (reading_fits new.names names)) (step_named (state_of f old) e was.names);
 }
 
 -- so by its change
@@ -91,17 +98,17 @@ kept_step old new j k goal clause o was names does before k_is =
 pub kept_fresh : (a : Account) (j : Journal) (rules : Rules) (name : List ℕ) → a.names ≡ [] → ((f : Reading) → kept_of f (a, j) ≡ fresh_kept rules name) → IsReplayed (a, j)
 kept_fresh a j rules name none is = record {
   replay = λ f fits. subst IsReplayable (sym (is f)) (fresh_is_replayable rules name);
-  names = subst (λ (ks : List Known). texts.AreNames (texts_of ks)) (sym none) no_names;
+  names = subst (λ (ks : List Known). texts.AreNames a.rules (texts_of ks)) (sym none) (no_names a.rules);
 }
 
 since_reset_is_replayable : (rules : Rules) (name : List ℕ) (names : List (List ℕ)) → IsReplayable (kept_since_reset rules name names)
 since_reset_is_replayable rules name names = record { is = record { is = refl; rules = refl; sessions = refl; run = λ m f. absurd (omega (arith, f)) }; accepted = refl }
 
 -- an account in which nothing has happened since a reset is the replay of its journal
-pub kept_named : (a : Account) (j : Journal) (rules : Rules) (name : List ℕ) (names : List (List ℕ)) → texts.AreNames names → AreNames a.names → ((f : Reading) → kept_of f (a, j) ≡ kept_since_reset rules name names) → IsReplayed (a, j)
+pub kept_named : (a : Account) (j : Journal) (rules : Rules) (name : List ℕ) (names : List (List ℕ)) → texts.AreNames rules names → AreNames a.names → ((f : Reading) → kept_of f (a, j) ≡ kept_since_reset rules name names) → IsReplayed (a, j)
 kept_named a j rules name names may known is = record {
   replay = λ f fits. subst IsReplayable (sym (is f)) (since_reset_is_replayable rules name names);
-  names = subst texts.AreNames (sym (ap (λ (k : Kept). k.state.names) (is (reading_of a.names)))) may;
+  names = subst (λ (k : Kept). texts.AreNames k.state.rules k.state.names) (sym (is (reading_of a.names))) may;
 }
 
 -- no names are one to one

@@ -5,6 +5,7 @@ use Rattle.std.proofs.lemmas.Bool.{and_parts}
 use Rattle.std.proofs.lemmas.List.{append_assoc, append-nil}
 use Rattle.std.proofs.lemmas.List.Folds.{list_any_at}
 use Rattle.std.proofs.lemmas.Slice.Eq.{bytes_eq-Decides}
+use Rattle.kl1_model.specs.declared.rules.Rules.{Rules}
 use Rattle.kl1_model.specs.Text.{is_text, is_built_in}
 use Rattle.kl1_model_server.specs.JournalText.{is_new_name}
 use Rattle.kl1_model_server.specs.laws.TextLaws.{are_new_names, AreNames}
@@ -54,5 +55,5 @@ all_more before (t ∷ ts) old new =
     subst IsNameList (append_assoc before (t ∷ []) ts) (all_more (before ++ t ∷ []) ts (names_more before t old q.1) p.1)
 
 -- names that an account may have used differ, and none is of the language
-pub list_of_names : (names : List (List ℕ)) → AreNames names → IsNameList names
-list_of_names names may = all_more [] names no_names may.new
+pub list_of_names : (rules : Rules) (names : List (List ℕ)) → AreNames rules names → IsNameList names
+list_of_names rules names may = all_more [] names no_names may.new

@@ -1,9 +1,9 @@
 -- What an event changes in a journal.
-use Rattle.std.specs.Prelude.{⊤, ◌≡◌, ℕ, suc, ◌-◌, ◌<◌, ◌⊎◌, List, IfSome, IsTrue}
+use Rattle.std.specs.Prelude.{⊤, ◌≡◌, ℕ, suc, ◌-◌, ◌<◌, ◌⊎◌, List, IfSome}
 use Rattle.kl1_model.specs.declared.limits.TheConstants.{MOST_SESSIONS}
 use Rattle.kl1_model.specs.Event as model
 use Rattle.kl1_model_server.specs.Journal.{Journal, new_journal}
-use Rattle.kl1_journal_entries.specs.Lined.{Rows, lined_entry, with_prepared, with_reduction}
+use Rattle.kl1_journal_entries.specs.Lined.{Rows, pending, lined_entry, with_prepared, with_reduction}
 use Rattle.kl1_journal.specs.declared.change.Change.{Change}
 use Rattle.kl1_journal.specs.declared.change.Change.TheVariants as change
 
@@ -16,7 +16,7 @@ sessions_after j _ = j
 -- a journal after a change, and the reply, of an account whose last run then has this many reductions
 abbrev pub changed : Journal → Change → ℕ → model.Reply → Journal
 changed j change.Nothing run reply = j
-changed j (change.Entry entry) run reply = with_prepared j entry
+changed j (change.Entry entry) run reply = with_prepared j entry.entry
 changed j (change.Reduction goal clause) run reply = with_reduction j goal.0 clause.0 run
 changed j change.Sessions run reply = sessions_after j reply
 changed j (change.Anew new) run reply = new.journal
@@ -32,12 +32,13 @@ IsEntered (model.load text) = ⊤
 IsEntered (model.start allowance low high t) = ⊤
 IsEntered (model.control n m) = ⊤
 IsEntered (model.answer n report t) = ⊤
+IsEntered (model.forget n count) = ⊤
 IsEntered _ = ⊥
 
 -- a change is that of an event in this journal, if the account uses these names
 abbrev pub IsChange : List (List ℕ) → Journal → model.Event → Change → Type 0
 IsChange names j e change.Nothing = IsQuery e
-IsChange names j e (change.Entry entry) = (entry ≡ lined_entry e) × IsEntered e
+IsChange names j e (change.Entry entry) = (entry ≡ pending j.rules (lined_entry j.rules e)) × IsEntered e
 IsChange names j e (change.Reduction goal clause) = e ≡ model.reduce goal.0 clause.0
 IsChange names j e change.Sessions = (e ≡ model.login) ⊎ (e ≡ model.logout)
 IsChange names j e (change.Anew new) = (e ≡ model.reset) × (new.journal ≡ new_journal j.rules names j.sessions)
@@ -45,7 +46,7 @@ IsChange names j e (change.Anew new) = (e ≡ model.reset) × (new.journal ≡ n
 -- there is room for the entry of a change
 abbrev pub HasRoom : Rows → Change → Type 0
 HasRoom rows change.Nothing = ⊤
-HasRoom rows (change.Entry entry) = IfSome entry (λ _. 0 < rows.room)
+HasRoom rows (change.Entry entry) = IfSome entry.entry (λ _. 0 < rows.room) × (entry.rules ≡ rows.journal.rules)
 HasRoom rows (change.Reduction goal clause) = 0 < rows.room
 HasRoom rows change.Sessions = ⊤
 HasRoom rows (change.Anew new) = ⊤

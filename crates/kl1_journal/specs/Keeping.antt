@@ -31,10 +31,10 @@ kept_since_reset rules name names = record { state = fresh_with rules name names
 -- may have been used
 pub record IsReplayed (k : Held) : Type 0 where
   pub replay : (f : Reading) → Fits k.0.names f → IsReplayable (kept_of f k)
-  pub names : AreNames (texts_of k.0.names)
+  pub names : AreNames k.0.rules (texts_of k.0.names)
 
 -- what is told of an account with its journal: it is replayed so, and the journal has a text, which reads back
 pub record IsKept (k : Held) : Type 0 where
   pub replay : (f : Reading) → Fits k.0.names f → IsReplayable (kept_of f k)
-  pub names : AreNames (texts_of k.0.names)
+  pub names : AreNames k.0.rules (texts_of k.0.names)
   pub written : IsWritten k.1

@@ -36,7 +36,7 @@ pub(crate) fn prepare(
     names: &[AtomText],
     event: &Event,
 ) -> Result<Change, AllocError>
-    requires { AreNames names.now }
+    requires { AreNames journal.old.journal.rules names.now }
     ensures same { journal.new.journal ≡ journal.old.journal }
     ensures change { IfOk result (λ change. IsChange names.now journal.old.journal (event_of event.now) change) }
     ensures room { IfOk result (λ change. HasRoom journal.new change) }
@@ -58,12 +58,13 @@ pub(crate) fn prepare(
         Event::Start { .. } => entered(alloc, journal, event),
         Event::Control { .. } => entered(alloc, journal, event),
         Event::Answer { .. } => entered(alloc, journal, event),
+        Event::Forget { .. } => entered(alloc, journal, event),
     }
 }
 
 /// The journal that a reset begins.
 fn anew(alloc: Global, journal: &Journal, names: &[AtomText]) -> Result<Journal, AllocError>
-    requires { AreNames names.now }
+    requires { AreNames journal.now.journal.rules names.now }
     ensures { IfOk result (λ new. new.journal ≡ new_journal journal.now.journal.rules names.now journal.now.journal.sessions) }
 {
     // This is called for the fact that it proves: at most 4 sessions are open.
@@ -78,7 +79,7 @@ fn entered(alloc: Global, journal: &mut Journal, event: &Event) -> Result<Change
     ensures change { IfOk result (λ change. (names : List (List ℕ)) → IsChange names journal.old.journal (event_of event.now) change) }
     ensures room { IfOk result (λ change. HasRoom journal.new change) }
 {
-    let entry = entry_for(alloc, event)?;
+    let entry = entry_for(alloc, journal.rules(), event)?;
     journal.reserve()?;
     Ok(Change::Entry(entry))
 }

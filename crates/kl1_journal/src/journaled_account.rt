@@ -2,8 +2,9 @@
 
 mod viewing;
 
-ghost use Rattle.std.specs.Prelude.{◌≡◌, ◌↔◌, ℕ, [], IfOk, IsOk, IsTrue, OnErr, option_map};
+ghost use Rattle.std.specs.Prelude.{◌≡◌, ◌↔◌, ◌≤◌, ℕ, [], IfOk, IsOk, IsTrue, OnErr, option_map};
 ghost use Rattle.kl1_model.specs.Event.{reduce as reduce_event};
+ghost use Rattle.kl1_model.specs.Rules.{limits_of};
 ghost use Rattle.kl1_model.specs.Choice.{first, quiet};
 ghost use Rattle.kl1_model_server.specs.Journal.{fresh_kept, done};
 ghost use Rattle.kl1_model_server.specs.JournalText.{page_of};
@@ -79,6 +80,7 @@ impl<A: AtomSource, C: CodeSource> JournaledAccount<A, C> {
         requires { A.knows seat ≡ [] }
         ensures seat { IfOk result (λ k. k.0 ≡ seat) }
         ensures fresh { IfOk result (λ k. (f : Reading) → kept_of f k.1 ≡ fresh_kept rules name) }
+        ensures rules { IfOk result (λ k. k.1.0.rules ≡ rules) }
         ensures names { IfOk result (λ k. k.1.0.names ≡ []) }
         ensures modules { IfOk result (λ k. k.1.0.modules ≡ []) }
     {
@@ -104,8 +106,10 @@ impl<A: AtomSource, C: CodeSource> JournaledAccount<A, C> {
     ) -> Result<Self, AllocError>
         requires of { A.is_of names.old seat }
         requires nothing { A.knows seat ≡ [] }
-        requires names { MayBeNames texts.now }
+        requires names { MayBeNames rules texts.now }
+        requires room { (limits_of rules).names ≤ (A.place seat).0.1 }
         ensures fresh { IfOk result (λ k. (f : Reading) → kept_of f k.1 ≡ kept_since_reset rules name texts.now) }
+        ensures rules { IfOk result (λ k. k.1.0.rules ≡ rules) }
         ensures knows { IfOk result (λ k. A.knows k.0 ≡ k.1.0.names) }
         ensures modules { IfOk result (λ k. k.1.0.modules ≡ []) }
         ensures of { IfOk result (λ k. A.is_of names.new k.0) }
@@ -143,10 +147,12 @@ impl<A: AtomSource, C: CodeSource> JournaledAccount<A, C> {
         event: &Event,
     ) -> Result<Reply, AllocError>
         requires of { A.is_of names.old self.old.0 }
+        requires room { (limits_of self.old.1.0.rules).names ≤ (A.place self.old.0).0.1 }
         requires placed { ArePlaced (C.has codes.old) self.old.1.0.modules }
         ensures step { IfOk result (λ reply. (f : Reading) → Fits self.new.1.0.names f → done (kept_of f self.old.1) (event_of event.now) ≡ record { kept = kept_of f self.new.1; reply = reply_of reply }) }
         ensures logout { IsTrue (is_logout event.now) → IsOk result }
         ensures err { OnErr result (self.new.1 ≡ self.old.1) }
+        ensures rules { self.new.1.0.rules ≡ self.old.1.0.rules }
         ensures published { OnErr result (A.published self.new.0 ≡ A.published self.old.0) }
         ensures of { A.is_of names.new self.new.0 }
         ensures place { A.place self.new.0 ≡ A.place self.old.0 }
@@ -170,9 +176,11 @@ impl<A: AtomSource, C: CodeSource> JournaledAccount<A, C> {
         clause: ClauseNo,
     ) -> Result<Option<Refusal>, AllocError>
         requires of { A.is_of names.old self.old.0 }
+        requires room { (limits_of self.old.1.0.rules).names ≤ (A.place self.old.0).0.1 }
         requires placed { ArePlaced (C.has codes.now) self.old.1.0.modules }
         ensures step { IfOk result (λ refused. (f : Reading) → Fits self.new.1.0.names f → done (kept_of f self.old.1) (reduce_event goal.0 clause.0) ≡ record { kept = kept_of f self.new.1; reply = reduced_or refused }) }
         ensures err { OnErr result (self.new.1 ≡ self.old.1) }
+        ensures rules { self.new.1.0.rules ≡ self.old.1.0.rules }
         ensures published { OnErr result (A.published self.new.0 ≡ A.published self.old.0) }
         ensures of { A.is_of names.new self.new.0 }
         ensures place { A.place self.new.0 ≡ A.place self.old.0 }

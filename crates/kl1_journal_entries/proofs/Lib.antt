@@ -5,5 +5,6 @@ pub mod Pages
 pub mod Joined
 pub mod Feeds
 pub mod BuiltIns
+pub mod ToldRead
 pub mod LinesRead
 pub mod TextsRead

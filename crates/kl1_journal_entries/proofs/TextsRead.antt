@@ -24,13 +24,13 @@ none_entry None h = refl
 none_entry (Some e) h = absurd (let f : ⊥ = cc in f)
 
 -- a line that is no entry's
-pub no_entry : (j : Journal) (text line after : List ℕ) → lines_of text ≡ with_line line (lines_of after) → None ≡ option_map (λ (e : Entry). let x : Option Entry = Some e in x) (entry_in line) → read_text j text ≡ None
+pub no_entry : (j : Journal) (text line after : List ℕ) → lines_of text ≡ with_line line (lines_of after) → None ≡ option_map (λ (e : Entry). let x : Option Entry = Some e in x) (entry_in j.rules line) → read_text j text ≡ None
 no_entry j text line after is h =
     ap (λ (ls : Lines). if length ls.rest == 0 then read_on j ls.whole else None) is
-    ∙ ap (λ (o : Option Entry). if length (lines_of after).rest == 0 then option_and_then (λ e. read_on (entered j e) (lines_of after).whole) o else None) (none_entry (entry_in line) h)
+    ∙ ap (λ (o : Option Entry). if length (lines_of after).rest == 0 then option_and_then (λ e. read_on (entered j e) (lines_of after).whole) o else None) (none_entry (entry_in j.rules line) h)
     ∙ neither (length (lines_of after).rest == 0)
 
-entry_put : (j k : Journal) (text line after : List ℕ) (o p : Option Entry) → entry_in line ≡ o → lines_of text ≡ with_line line (lines_of after) → Some p ≡ option_map (λ (e : Entry). let x : Option Entry = Some e in x) o → k ≡ with_prepared j p → read_text k after ≡ read_text j text
+entry_put : (j k : Journal) (text line after : List ℕ) (o p : Option Entry) → entry_in j.rules line ≡ o → lines_of text ≡ with_line line (lines_of after) → Some p ≡ option_map (λ (e : Entry). let x : Option Entry = Some e in x) o → k ≡ with_prepared j p → read_text k after ≡ read_text j text
 entry_put j k text line after None p read is h put = absurd (let f : ⊥ = cc in f)
 entry_put j k text line after (Some e) p read is h put =
     ap (λ (i : Journal). read_text i after) (put ∙ ap (with_prepared j) (same_Some p (Some e) h))
@@ -38,8 +38,8 @@ entry_put j k text line after (Some e) p read is h put =
     ∙ ap (λ (o : Option Entry). if length (lines_of after).rest == 0 then option_and_then (λ e. read_on (entered j e) (lines_of after).whole) o else None) read)
 
 -- a line of an entry, which is put
-pub entry_more : (j k : Journal) (text line after : List ℕ) (p : Option Entry) → lines_of text ≡ with_line line (lines_of after) → Some p ≡ option_map (λ (e : Entry). let x : Option Entry = Some e in x) (entry_in line) → k ≡ with_prepared j p → read_text k after ≡ read_text j text
-entry_more j k text line after p is h put = entry_put j k text line after (entry_in line) p refl is h put
+pub entry_more : (j k : Journal) (text line after : List ℕ) (p : Option Entry) → lines_of text ≡ with_line line (lines_of after) → Some p ≡ option_map (λ (e : Entry). let x : Option Entry = Some e in x) (entry_in j.rules line) → k ≡ with_prepared j p → read_text k after ≡ read_text j text
+entry_more j k text line after p is h put = entry_put j k text line after (entry_in j.rules line) p refl is h put
 
 -- ---- names
 
@@ -102,9 +102,9 @@ names_more names line t h read new = one_more [] names t h (strict_lines_are_nam
 -- ---- the journal after its names
 
 journal_from : Rules → ℕ → List (List ℕ) → List Entry → Journal
-journal_from rules sessions names es = record { rules = rules; sessions = sessions; names = names; entries = es }
+journal_from rules sessions names es = record { rules = rules; sessions = sessions; names = names; image = []; entries = es }
 
-after_none : (rules : Rules) (sessions : ℕ) (names lines : List (List ℕ)) → journal_after rules sessions names 0 lines ≡ option_map (journal_from rules sessions names) (entries_in lines)
+after_none : (rules : Rules) (sessions : ℕ) (names lines : List (List ℕ)) → journal_after rules sessions names 0 lines ≡ option_map (journal_from rules sessions names) (entries_in rules lines)
 unfolding journal_from
 after_none rules sessions names lines = refl
 
@@ -118,10 +118,10 @@ on_by j None w x is = refl
 on_by j (Some e) w None is = is e
 on_by j (Some e) w (Some es) is = is e ∙ ap (λ (ds : List Entry). let r : Option Journal = Some (record j { entries = ds }) in r) (append_assoc j.entries (e ∷ []) es)
 
-on_read : (j : Journal) (lines : List (List ℕ)) → read_on j lines ≡ option_map (joined j) (entries_in lines)
+on_read : (j : Journal) (lines : List (List ℕ)) → read_on j lines ≡ option_map (joined j) (entries_in j.rules lines)
 unfolding joined
 on_read j [] = ap (λ (ds : List Entry). let r : Option Journal = Some (record j { entries = ds }) in r) (sym (append-nil j.entries))
-on_read j (line ∷ lines) = on_by j (entry_in line) (λ e. read_on (entered j e) lines) (entries_in lines) (λ e. on_read (entered j e) lines)
+on_read j (line ∷ lines) = on_by j (entry_in j.rules line) (λ e. read_on (entered j e) lines) (entries_in j.rules lines) (λ e. on_read (entered j e) lines)
 
 same_from : (rules : Rules) (sessions : ℕ) (names : List (List ℕ)) (x : Option (List Entry)) → option_map (joined (new_journal rules names sessions)) x ≡ option_map (journal_from rules sessions names) x
 unfolding journal_from joined
@@ -132,5 +132,5 @@ same_from rules sessions names (Some es) = refl
 pub names_done : (rules : Rules) (sessions : ℕ) (names : List (List ℕ)) (n : ℕ) (text : List ℕ) (j : Journal) → j ≡ new_journal rules names sessions → n ≡ 0 → read_text j text ≡ read_after rules sessions names n text
 names_done rules sessions names n text j is none =
     ap (λ (i : Journal). read_text i text) is
-    ∙ ap (λ (o : Option Journal). if length (lines_of text).rest == 0 then o else None) (on_read (new_journal rules names sessions) (lines_of text).whole ∙ same_from rules sessions names (entries_in (lines_of text).whole) ∙ sym (after_none rules sessions names (lines_of text).whole))
+    ∙ ap (λ (o : Option Journal). if length (lines_of text).rest == 0 then o else None) (on_read (new_journal rules names sessions) (lines_of text).whole ∙ same_from rules sessions names (entries_in rules (lines_of text).whole) ∙ sym (after_none rules sessions names (lines_of text).whole))
     ∙ ap (λ (k : ℕ). read_after rules sessions names k text) (sym none)

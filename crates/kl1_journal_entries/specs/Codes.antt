@@ -1,15 +1,15 @@
 -- How entries and journals are told apart.
-use Rattle.std.specs.Prelude.{◌≡◌, ℕ, zero, suc, ◌⊎◌, List}
+use Rattle.std.specs.Prelude.{◌≡◌, ℕ, zero, suc, ◌⊎◌, List, Option}
 use Rattle.std.proofs.Common.{refl, inl, inr}
-use Rattle.std.specs.Coded.{Coded, code_by, coded×, coded⊎, coded_list, coded_ℕ}
+use Rattle.std.specs.Coded.{Coded, code_by, coded×, coded⊎, coded_list, coded_option, coded_ℕ}
 use Rattle.kl1_model.specs.declared.message.Message.{Message}
 use Rattle.kl1_model.specs.declared.message.Message.TheVariants.{Stop, Start, Abort, Allow}
 use Rattle.kl1_model.specs.declared.rules.Rules.{Rules}
-use Rattle.kl1_model.specs.declared.rules.Rules.TheVariants.{One, Two, Three, Four}
+use Rattle.kl1_model.specs.declared.rules.Rules.TheVariants.{One, Two, Three, Four, Five}
 use Rattle.kl1_model.specs.Term.{Term}
 use Rattle.kl1_model.specs.code.TermCode.{term_code}
-use Rattle.kl1_model_server.specs.Journal.{Entry, loads, starts, sends, steps, answers, runs, Journal}
-use Rattle.kl1_journal_entries.specs.Lined.{Rows}
+use Rattle.kl1_model_server.specs.Journal.{Entry, loads, starts, sends, steps, answers, forgets, runs, Journal}
+use Rattle.kl1_journal_entries.specs.Lined.{Pending, Rows}
 
 -- a message as the number of `allow`, or a number for each other
 abbrev pub message_parts : Message → ℕ ⊎ ℕ
@@ -42,9 +42,11 @@ rules_number One = 1
 rules_number Two = 2
 rules_number Three = 3
 rules_number Four = 4
+rules_number Five = 5
 
 -- the rules with a number
 abbrev pub rules_from : ℕ → Rules
+rules_from (suc (suc (suc (suc (suc n))))) = Five
 rules_from (suc (suc (suc (suc n)))) = Four
 rules_from (suc (suc (suc n))) = Three
 rules_from (suc (suc n)) = Two
@@ -56,6 +58,7 @@ rules_same One = refl
 rules_same Two = refl
 rules_same Three = refl
 rules_same Four = refl
+rules_same Five = refl
 
 -- rules are stored as their number
 abbrev pub rules_code : Coded Rules
@@ -63,7 +66,7 @@ rules_code = code_by ℕ coded_ℕ rules_number rules_from rules_same
 
 -- the parts of an entry
 abbrev pub Parts : Type 0
-Parts = (List ℕ ⊎ ((ℕ × (ℕ × (ℕ × Term))) ⊎ (ℕ × (ℕ × Term)))) ⊎ ((ℕ × Message) ⊎ ((ℕ × ℕ) ⊎ ℕ))
+Parts = (List ℕ ⊎ ((ℕ × (ℕ × (ℕ × Term))) ⊎ (ℕ × (ℕ × Term)))) ⊎ ((ℕ × Message) ⊎ ((ℕ × ℕ) ⊎ (ℕ ⊎ (ℕ × ℕ))))
 
 -- an entry as its parts
 abbrev pub parts_of : Entry → Parts
@@ -72,7 +75,8 @@ parts_of (starts a l h t) = inl (inr (inl (a, (l, (h, t)))))
 parts_of (answers n r t) = inl (inr (inr (n, (r, t))))
 parts_of (sends n m) = inr (inl (n, m))
 parts_of (steps g c) = inr (inr (inl (g, c)))
-parts_of (runs n) = inr (inr (inr n))
+parts_of (runs n) = inr (inr (inr (inl n)))
+parts_of (forgets n c) = inr (inr (inr (inr (n, c))))
 
 -- the entry of these parts
 abbrev pub entry_of_parts : Parts → Entry
@@ -81,7 +85,8 @@ entry_of_parts (inl (inr (inl p))) = starts p.0 p.1.0 p.1.1.0 p.1.1.1
 entry_of_parts (inl (inr (inr p))) = answers p.0 p.1.0 p.1.1
 entry_of_parts (inr (inl p)) = sends p.0 p.1
 entry_of_parts (inr (inr (inl p))) = steps p.0 p.1
-entry_of_parts (inr (inr (inr n))) = runs n
+entry_of_parts (inr (inr (inr (inl n)))) = runs n
+entry_of_parts (inr (inr (inr (inr p)))) = forgets p.0 p.1
 
 -- an entry is that of its parts
 pub parts_same : (e : Entry) → entry_of_parts (parts_of e) ≡ e
@@ -91,16 +96,21 @@ parts_same (answers n r t) = refl
 parts_same (sends n m) = refl
 parts_same (steps g c) = refl
 parts_same (runs n) = refl
+parts_same (forgets n c) = refl
 
 -- an entry is stored as its parts
 abbrev pub entry_code : Coded Entry
-entry_code = code_by Parts (coded⊎ (coded⊎ (coded_list coded_ℕ) (coded⊎ (coded× coded_ℕ (coded× coded_ℕ (coded× coded_ℕ term_code))) (coded× coded_ℕ (coded× coded_ℕ term_code)))) (coded⊎ (coded× coded_ℕ message_code) (coded⊎ (coded× coded_ℕ coded_ℕ) coded_ℕ))) parts_of entry_of_parts parts_same
+entry_code = code_by Parts (coded⊎ (coded⊎ (coded_list coded_ℕ) (coded⊎ (coded× coded_ℕ (coded× coded_ℕ (coded× coded_ℕ term_code))) (coded× coded_ℕ (coded× coded_ℕ term_code)))) (coded⊎ (coded× coded_ℕ message_code) (coded⊎ (coded× coded_ℕ coded_ℕ) (coded⊎ coded_ℕ (coded× coded_ℕ coded_ℕ))))) parts_of entry_of_parts parts_same
 
--- a journal is stored as its rules, sessions, names and entries
+-- a journal is stored as its rules, sessions, names, image and entries
 abbrev pub journal_code : Coded Journal
 journal_code =
-    code_by (Rules × (ℕ × (List (List ℕ) × List Entry))) (coded× rules_code (coded× coded_ℕ (coded× (coded_list (coded_list coded_ℕ)) (coded_list entry_code))))
-    (λ j. (j.rules, (j.sessions, (j.names, j.entries)))) (λ p. record { rules = p.0; sessions = p.1.0; names = p.1.1.0; entries = p.1.1.1 }) (λ j. refl)
+    code_by (Rules × (ℕ × (List (List ℕ) × (List ℕ × List Entry)))) (coded× rules_code (coded× coded_ℕ (coded× (coded_list (coded_list coded_ℕ)) (coded× (coded_list coded_ℕ) (coded_list entry_code)))))
+    (λ j. (j.rules, (j.sessions, (j.names, (j.image, j.entries))))) (λ p. record { rules = p.0; sessions = p.1.0; names = p.1.1.0; image = p.1.1.1.0; entries = p.1.1.1.1 }) (λ j. refl)
+
+-- what is to be put into a journal is stored as the rules and the entry
+abbrev pub pending_code : Coded Pending
+pending_code = code_by (Rules × Option Entry) (coded× rules_code (coded_option entry_code)) (λ p. (p.rules, p.entry)) (λ p. record { rules = p.0; entry = p.1 }) (λ p. refl)
 
 -- a journal with room is stored as the journal and the room
 abbrev pub rows_code : Coded Rows

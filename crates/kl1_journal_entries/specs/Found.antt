@@ -20,7 +20,7 @@ found_deed f = deed_in f.deed
 
 -- the entry that was found
 abbrev pub found_entry : Found → Option Entry
-found_entry f = f.prepared
+found_entry f = f.prepared.entry
 
 -- the journal that a text is of which the heading and the names were read, if it is one
 abbrev pub begun_at : Begun → Option Journal

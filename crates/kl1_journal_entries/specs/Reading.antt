@@ -37,7 +37,7 @@ is_line_of (Some e) line = bytes_eq (entry_line e) line
 -- a journal with the entries of lines after its own, if each is an entry's
 abbrev pub read_on : Journal → List (List ℕ) → Option Journal
 read_on j [] = Some j
-read_on j (line ∷ lines) = option_and_then (λ e. read_on (entered j e) lines) (entry_in line)
+read_on j (line ∷ lines) = option_and_then (λ e. read_on (entered j e) lines) (entry_in j.rules line)
 
 -- the journal that this one is after the entries whose lines a text is, if it is
 abbrev pub read_text : Journal → List ℕ → Option Journal

@@ -22,7 +22,7 @@ impl<'a> Model for Entries<'a> {
     ghost use Rattle.std.specs.List.{AllByRecursion};
     ghost use Rattle.kl1_model_server.specs.Journal.{Entry};
     ghost use Rattle.kl1_journal_entries.specs.Codes.{entry_code};
-    ghost use Rattle.kl1_journal_entries.specs.Slots.{entry_at, IsPlace, IsSound};
+    ghost use Rattle.kl1_journal_entries.specs.Slots.{entry_at, IsPlace, IsPrinted};
 
     ghost Value = { List Entry };
 
@@ -30,7 +30,7 @@ impl<'a> Model for Entries<'a> {
 
     ghost view = { λ e. map (entry_at e.wholes.now) e.slots.now };
 
-    ghost invariant = { λ e. AllByRecursion (IsPlace (length e.wholes.now)) e.slots.now × AllByRecursion IsSound e.wholes.now };
+    ghost invariant = { λ e. AllByRecursion (IsPlace (length e.wholes.now)) e.slots.now × AllByRecursion IsPrinted e.wholes.now };
 }
 
 impl<'a> Entries<'a> {

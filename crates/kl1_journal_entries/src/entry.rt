@@ -3,7 +3,7 @@
 ghost use Rattle.std.specs.Prelude.{◌≡◌, ◌<◌, length};
 ghost use Rattle.std.specs.List.{AllByRecursion};
 ghost use Rattle.kl1_model_server.specs.Journal.{sends};
-ghost use Rattle.kl1_journal_entries.specs.Slots.{entry_of_whole, entry_at, IsPlace, IsPrinted, IsSound};
+ghost use Rattle.kl1_journal_entries.specs.Slots.{entry_of_whole, entry_at, IsPlace, IsPrinted};
 ghost use Rattle.kl1_journal_entries.specs.Shown.{entry_shown, HasPrint};
 
 use crate::long_entry::LongEntry;
@@ -35,11 +35,18 @@ pub enum Entry<'a> {
     },
     /// First reductions, one after another: how many.
     Run(u64),
-    /// A goal, which is given as its print, as the answer to a report of a shoen, the first being 1.
+    /// A goal, which is given as its print, as the answer to a report of a shoen, the first being 1. `told` is whether it tells variables
+    /// of the account by their numbers.
     Answer {
         shoen: ShoenNo,
         report: u64,
         goal: &'a [u8],
+        told: bool,
+    },
+    /// The first reports of a shoen let go, or the shoen itself if `count` is 0.
+    Forget {
+        shoen: ShoenNo,
+        count: u64,
     },
 }
 
@@ -74,10 +81,16 @@ pub(crate) fn shown_whole(whole: &LongEntry) -> Entry<'_>
             shoen,
             report,
             goal,
+            told,
         } => Entry::Answer {
             shoen: ShoenNo(*shoen),
             report: *report,
             goal: goal.as_slice(),
+            told: *told,
+        },
+        LongEntry::Forget { shoen, count } => Entry::Forget {
+            shoen: ShoenNo(*shoen),
+            count: *count,
         },
     }
 }
@@ -96,7 +109,7 @@ fn sent(shoen: u32, message: Message) -> Entry<'static>
 /// The entry of a place in the row.
 pub(crate) fn shown_at<'a>(wholes: &'a [LongEntry], slot: PackedEntry) -> Entry<'a>
     requires place { IsPlace (length wholes.now) slot }
-    requires sound { AllByRecursion IsSound wholes.now }
+    requires printed { AllByRecursion IsPrinted wholes.now }
     ensures entry { entry_shown result ≡ entry_at wholes.now slot }
     ensures printed { HasPrint result }
 {

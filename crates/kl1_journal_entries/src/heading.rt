@@ -1,7 +1,8 @@
 // The first line of a journal's text.
 
 ghost use Rattle.std.specs.Prelude.{◌≡◌, ◌+◌, ◌≤◌, ◌++◌, length, bytes_eq, option_map, IfSome};
-ghost use Rattle.kl1_model.specs.declared.limits.TheConstants.{MOST_SESSIONS, MOST_NAMES};
+ghost use Rattle.kl1_model.specs.declared.limits.TheConstants.{MOST_SESSIONS};
+ghost use Rattle.kl1_model.specs.Rules.{limits_of};
 ghost use Rattle.kl1_model_server.specs.JournalText.{version, heading_line, rules_of, heading_in};
 ghost use Rattle.kl1_text.specs.declared.short_bytes.TheConstants.{MOST_SHORT_BYTES};
 ghost use Rattle.kl1_journal_entries.specs.Reading.{heading_view};
@@ -9,7 +10,7 @@ ghost use Rattle.kl1_journal_entries.specs.Reading.{heading_view};
 use itoa::Buffer;
 use kl1_lines::{is_same, number_in, split_name};
 use kl1_model::Rules;
-use kl1_model::limits::{MOST_NAMES, MOST_SESSIONS};
+use kl1_model::limits::MOST_SESSIONS;
 use kl1_text::ShortBytes;
 
 /// What the first line of a journal's text says: the rules of the account, how many sessions are open, and how many names follow.
@@ -30,6 +31,7 @@ pub(crate) fn version(rules: Rules) -> &'static [u8]
         Rules::Two => b"2",
         Rules::Three => b"3",
         Rules::Four => b"4",
+        Rules::Five => b"5",
     }
 }
 
@@ -48,6 +50,9 @@ fn rules_of(word: &[u8]) -> Option<Rules>
     }
     if is_same(word, version(Rules::Four)) {
         return Some(Rules::Four);
+    }
+    if is_same(word, version(Rules::Five)) {
+        return Some(Rules::Five);
     }
     None
 }
@@ -82,7 +87,7 @@ fn is_first_line(line: &[u8], rules: Rules, sessions: u64, names: u64) -> bool
 pub fn heading_of(line: &[u8]) -> Option<Heading>
     ensures value { option_map heading_view result ≡ heading_in line.now }
     ensures sessions { IfSome result (λ h. h.sessions ≤ MOST_SESSIONS) }
-    ensures names { IfSome result (λ h. h.names ≤ MOST_NAMES) }
+    ensures names { IfSome result (λ h. h.names ≤ (limits_of h.rules).names) }
 {
     let (_, behind) = split_name(line);
     let (number, rest) = split_name(behind);
@@ -91,7 +96,7 @@ pub fn heading_of(line: &[u8]) -> Option<Heading>
     let sessions = number_in(first)?;
     let names = number_in(second)?;
     if sessions <= MOST_SESSIONS
-        && names <= MOST_NAMES as u64
+        && names <= rules.limits().names as u64
         && is_first_line(line, rules, sessions, names)
     {
         Some(Heading {

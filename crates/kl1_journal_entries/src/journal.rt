@@ -1,10 +1,14 @@
 // The journal of an account.
 
-ghost use Rattle.std.specs.Prelude.{◌≡◌, ◌<◌, ◌≤◌, [], IfOk, OnOk, IfSome, IsTrue};
-ghost use Rattle.kl1_model.specs.declared.limits.TheConstants.{MOST_SESSIONS};
-ghost use Rattle.kl1_model_server.specs.Journal.{new_journal};
+ghost use Rattle.std.specs.Prelude.{◌≡◌, ◌<◌, ◌≤◌, List, [], length, map, IfOk, OnOk, IfSome, IsTrue};
+ghost use Rattle.std.specs.List.{AllByRecursion};
+ghost use Rattle.kl1_model.specs.declared.limits.TheConstants.{MOST_RUN, MOST_SESSIONS};
+ghost use Rattle.kl1_model.specs.declared.rules.Rules.{Rules as RulesSpec};
+ghost use Rattle.kl1_model_server.specs.Journal.{new_journal, run_length, last_run_of};
 ghost use Rattle.kl1_model_server.specs.laws.TextLaws.{AreNames, IsWritten};
-ghost use Rattle.kl1_journal_entries.specs.Lined.{with_prepared, with_reduction};
+ghost use Rattle.kl1_journal_entries.specs.Lined.{if_longer, lengthened, with_prepared, with_reduction};
+ghost use Rattle.kl1_journal_entries.specs.Slots.{entry_at, IsPlace, IsSound};
+ghost use Rattle.kl1_journal_entries.specs.declared.long_entry.LongEntry.{LongEntry as LongSpec};
 
 use crate::long_entry::LongEntry;
 use crate::packed_entry::PackedEntry;
@@ -39,7 +43,7 @@ impl Drop for Journal {
 }
 
 impl Model for Journal {
-    ghost use Rattle.std.specs.Prelude.{map, min, ◌-◌, ◌^◌, vec_len, vec_capacity};
+    ghost use Rattle.std.specs.Prelude.{map, min, [], ◌-◌, ◌^◌, vec_len, vec_capacity};
     ghost use Rattle.kl1_journal_entries.specs.Lined.{Rows};
     ghost use Rattle.kl1_journal_entries.specs.Codes.{rows_code};
     ghost use Rattle.kl1_journal_entries.specs.Slots.{entry_at, IsHeld};
@@ -49,11 +53,11 @@ impl Model for Journal {
     ghost coded = { rows_code };
 
     ghost view = { λ j. record {
-      journal = record { rules = j.rules; sessions = j.sessions; names = j.names.items; entries = map (entry_at j.wholes.items) j.slots.items };
+      journal = record { rules = j.rules; sessions = j.sessions; names = j.names.items; image = []; entries = map (entry_at j.wholes.items) j.slots.items };
       room = min (min (vec_capacity j.slots - vec_len j.slots) (vec_capacity j.wholes - vec_len j.wholes)) (2 ^ 32 - vec_len j.wholes);
     } };
 
-    ghost invariant = { λ j. IsHeld j.sessions j.names.items j.slots.items j.wholes.items };
+    ghost invariant = { λ j. IsHeld j.rules j.sessions j.names.items j.slots.items j.wholes.items };
 }
 
 impl Journal {
@@ -77,7 +81,7 @@ impl Journal {
         names: &[AtomText],
         sessions: u64,
     ) -> Result<Self, AllocError>
-        requires names { AreNames names.now }
+        requires names { AreNames rules names.now }
         requires sessions { sessions ≤ MOST_SESSIONS }
         ensures { IfOk result (λ j. j.journal ≡ new_journal rules names.now sessions) }
     {
@@ -135,10 +139,11 @@ impl Journal {
 
     /// Puts what is prepared after the entries. It takes no memory.
     pub fn put(&mut self, prepared: PendingEntry)
-        requires { IfSome prepared (λ _. 0 < self.old.room) }
-        ensures { self.new.journal ≡ with_prepared self.old.journal prepared }
+        requires room { IfSome prepared.entry (λ _. 0 < self.old.room) }
+        requires rules { prepared.rules ≡ self.old.journal.rules }
+        ensures { self.new.journal ≡ with_prepared self.old.journal prepared.entry }
     {
-        let PendingEntry { form } = prepared;
+        let PendingEntry { rules: _, form } = prepared;
         match form {
             EntryForm::Nothing => {}
             EntryForm::Short(slot) => self.slots.push_reserved(slot),
@@ -158,12 +163,12 @@ impl Journal {
     {
         match (u32::try_from(goal), u32::try_from(clause)) {
             (Ok(goal), Ok(clause)) => self.slots.push_reserved(PackedEntry::Step { goal, clause }),
-            _ => self.put(step_for(goal, clause)),
+            _ => self.put(step_for(self.rules, goal, clause)),
         }
     }
 
-    /// Puts a reduction after the entries, or into the last of them, which is a run then: `run` is how many reductions the last run has
-    /// with it, or 0 if it is in no run. It takes no memory.
+    /// Puts a reduction after the entries, or into the last of them, if that is a run that may be longer: `run` is how many reductions the
+    /// last run has with it, or 0 if it is in no run. It takes no memory.
     #[inline]
     pub fn put_reduction(&mut self, goal: u64, clause: u64, run: u32)
         requires { 0 < self.old.room }
@@ -172,11 +177,25 @@ impl Journal {
         if run == 0 {
             self.put_step(goal, clause);
         } else if run == 1 {
-            self.slots.push_reserved(PackedEntry::Run(1));
+            self.put_run(0);
         } else {
-            // The run as it was stands last.
+            let before = last_run(self.slots.as_slice());
+            self.put_run(before);
+        }
+    }
+
+    /// Puts a first reduction into the last entry, which is a run of this many, or after the entries if it is 0. It takes no memory.
+    #[inline]
+    fn put_run(&mut self, before: u32)
+        requires room { 0 < self.old.room }
+        requires few { before < MOST_RUN }
+        ensures { self.new.journal ≡ record self.old.journal { entries = lengthened self.old.journal.entries before } }
+    {
+        if before > 0 {
             self.slots.pop();
-            self.slots.push_reserved(PackedEntry::Run(run));
+            self.slots.push_reserved(PackedEntry::Run(before + 1));
+        } else {
+            self.slots.push_reserved(PackedEntry::Run(1));
         }
     }
 
@@ -203,11 +222,44 @@ impl Journal {
         self.sessions
     }
 
-    /// Tells a caller's proof that each journal has a text that reads back: at most 4 sessions are open, its names are at most 1,024
-    /// names, none built in and no two the same, and each entry has a line. It does nothing.
+    /// Tells a caller's proof that each journal has a text that reads back: at most 4 sessions are open, its names are no more than its
+    /// rules allow, none built in and no two the same, and each entry has a line. It does nothing.
     pub fn shows_written(&self)
         ensures { IsWritten self.now.journal }
     {
         let _slots = &self.slots;
+    }
+}
+
+/// How many reductions the run has that stands last, if it may have more; or 0.
+#[inline]
+fn last_run(slots: &[PackedEntry]) -> u32
+    ensures few { result < MOST_RUN }
+    ensures run { (rules : RulesSpec) (wholes : List LongSpec) → AllByRecursion (IsPlace (length wholes)) slots.now → AllByRecursion (IsSound rules) wholes → result ≡ if_longer (last_run_of (map (entry_at wholes) slots.now)) }
+{
+    match slots.last() {
+        None => 0,
+        Some(slot) => run_of(*slot),
+    }
+}
+
+/// How many reductions an entry is as a run that may have more, or 0.
+#[inline]
+fn run_of(slot: PackedEntry) -> u32
+    ensures few { result < MOST_RUN }
+    ensures run { (rules : RulesSpec) (wholes : List LongSpec) → IsPlace (length wholes) slot → AllByRecursion (IsSound rules) wholes → result ≡ if_longer (run_length (entry_at wholes slot)) }
+{
+    match slot {
+        PackedEntry::Run(reductions) => {
+            if reductions == u32::MAX {
+                return 0;
+            }
+            reductions
+        }
+        PackedEntry::Step { .. } => 0,
+        PackedEntry::Stop(_) => 0,
+        PackedEntry::Resume(_) => 0,
+        PackedEntry::Abort(_) => 0,
+        PackedEntry::Kept(_) => 0,
     }
 }

@@ -132,9 +132,14 @@ pub(crate) fn put_entry(out: &mut Vec<u8>, entry: Entry<'_>) -> Result<(), Alloc
             shoen,
             report,
             goal,
+            told: _,
         } => {
             put_answer(out, shoen.0, report)?;
             out.extend_from_slice(goal)
+        }
+        Entry::Forget { shoen, count } => {
+            out.extend_from_slice(b"forget ")?;
+            put_two(out, shoen.0, count)
         }
     }
 }
@@ -163,6 +168,7 @@ pub(crate) fn is_entry_line(
             shoen,
             report,
             goal,
+            told: _,
         } => {
             put_answer(&mut own, shoen.0, report)?;
             Ok(is_joined(line, own.as_slice(), goal))

@@ -25,9 +25,15 @@ pub(crate) enum LongEntry {
     },
     /// How many reductions the run has.
     Run(u64),
+    /// `told` is whether the goal tells variables by their numbers.
     Answer {
         shoen: u64,
         report: u64,
         goal: Vec<u8>,
+        told: bool,
+    },
+    Forget {
+        shoen: u64,
+        count: u64,
     },
 }

@@ -3,7 +3,7 @@
 ghost use Rattle.std.specs.Prelude.{◌≡◌, ◌<◌, false, Some, option_map, option_and_then, bytes_eq, codes, IfOk, IsTrue};
 ghost use Rattle.std.specs.List.{list_all};
 ghost use Rattle.kl1_model.specs.Line.{before_space, behind_space, number_in};
-ghost use Rattle.kl1_model_server.specs.Journal.{sends, steps};
+ghost use Rattle.kl1_model_server.specs.Journal.{sends, steps, forgets};
 ghost use Rattle.kl1_model_server.specs.JournalText.{is_hex_digit, hex_value, hex_bytes, load_in, of_two, start_in, answer_in, run_of, entry_by};
 ghost use Rattle.kl1_user_events.specs.Views.{event_of};
 ghost use Rattle.kl1_journal_entries.specs.Reading.{two_in, message_by};
@@ -12,8 +12,8 @@ ghost use Rattle.kl1_journal_entries.specs.Found.{deed_in};
 
 use crate::deed::Deed;
 use kl1_lines::{is_same, number_in, split_name};
-use kl1_model::Message;
-use kl1_read::{ReadFault, read_goal};
+use kl1_model::{Message, Rules};
+use kl1_read::{ReadFault, read_answer, read_goal};
 use kl1_user_events::{ClauseNo, Event, GoalNo, ShoenNo};
 use std::alloc::{AllocError, Global};
 
@@ -93,9 +93,9 @@ fn start_in(alloc: Global, rest: &[u8]) -> Result<Option<Event>, AllocError>
     }
 }
 
-/// An answer of two numbers and a goal.
-fn answer_in(alloc: Global, rest: &[u8]) -> Result<Option<Event>, AllocError>
-    ensures { IfOk result (λ e. option_and_then entry_of (option_map event_of e) ≡ (answer_in rest.now)) }
+/// An answer of two numbers and a goal, as these rules read it.
+fn answer_in(alloc: Global, rules: Rules, rest: &[u8]) -> Result<Option<Event>, AllocError>
+    ensures { IfOk result (λ e. option_and_then entry_of (option_map event_of e) ≡ (answer_in rules rest.now)) }
 {
     let (first, rest) = split_name(rest);
     let Some(shoen) = number_in(first) else {
@@ -105,7 +105,7 @@ fn answer_in(alloc: Global, rest: &[u8]) -> Result<Option<Event>, AllocError>
     let Some(report) = number_in(second) else {
         return Ok(None);
     };
-    match read_goal(alloc, text) {
+    match read_answer(alloc, rules, text) {
         Ok(goal) => Ok(Some(Event::Answer {
             shoen: ShoenNo(shoen),
             report,
@@ -132,6 +132,17 @@ fn reduce_in(rest: &[u8]) -> Option<Event>
     Some(Event::Reduce {
         goal: GoalNo(goal),
         clause: ClauseNo(clause),
+    })
+}
+
+/// A letting go of two numbers.
+fn forget_in(rest: &[u8]) -> Option<Event>
+    ensures { option_and_then entry_of (option_map event_of result) ≡ (of_two forgets rest.now) }
+{
+    let (shoen, count) = two_in(rest)?;
+    Some(Event::Forget {
+        shoen: ShoenNo(shoen),
+        count,
     })
 }
 
@@ -177,9 +188,14 @@ fn run_in(rest: &[u8]) -> Option<Deed>
 }
 
 /// The event that a line may be, by its first word and what is after that, if it is no run.
-fn event_by(alloc: Global, word: &[u8], rest: &[u8]) -> Result<Option<Event>, AllocError>
+fn event_by(
+    alloc: Global,
+    rules: Rules,
+    word: &[u8],
+    rest: &[u8],
+) -> Result<Option<Event>, AllocError>
     requires { bytes_eq word.now (codes "run") ≡ false }
-    ensures { IfOk result (λ e. option_and_then entry_of (option_map event_of e) ≡ entry_by word.now rest.now) }
+    ensures { IfOk result (λ e. option_and_then entry_of (option_map event_of e) ≡ entry_by rules word.now rest.now) }
 {
     if is_same(word, b"reduce") {
         return Ok(reduce_in(rest));
@@ -191,29 +207,41 @@ fn event_by(alloc: Global, word: &[u8], rest: &[u8]) -> Result<Option<Event>, Al
         return start_in(alloc, rest);
     }
     if is_same(word, b"answer") {
-        return answer_in(alloc, rest);
+        return answer_in(alloc, rules, rest);
+    }
+    if is_same(word, b"forget") && rules.has_forgetting() {
+        return Ok(forget_in(rest));
     }
     Ok(message_in(word, rest))
 }
 
-/// What a line may say, by its first word and what is after that.
+/// What a line of a journal of these rules may say, by its first word and what is after that.
 #[tactic(auto, using(crate::proofs::LinesRead::run_word))]
-fn deed_by(alloc: Global, word: &[u8], rest: &[u8]) -> Result<Option<Deed>, AllocError>
-    ensures { IfOk result (λ e. option_and_then deed_in e ≡ entry_by word.now rest.now) }
+fn deed_by(
+    alloc: Global,
+    rules: Rules,
+    word: &[u8],
+    rest: &[u8],
+) -> Result<Option<Deed>, AllocError>
+    ensures { IfOk result (λ e. option_and_then deed_in e ≡ entry_by rules word.now rest.now) }
 {
     if is_same(word, b"run") {
         return Ok(run_in(rest));
     }
-    match event_by(alloc, word, rest)? {
+    match event_by(alloc, rules, word, rest)? {
         None => Ok(None),
         Some(event) => Ok(Some(Deed::Event(event))),
     }
 }
 
-/// What a line may say.
-pub(crate) fn parse_entry(alloc: Global, line: &[u8]) -> Result<Option<Deed>, AllocError>
-    ensures { IfOk result (λ e. option_and_then deed_in e ≡ entry_by (before_space line.now) (behind_space line.now)) }
+/// What a line of a journal of these rules may say.
+pub(crate) fn parse_entry(
+    alloc: Global,
+    rules: Rules,
+    line: &[u8],
+) -> Result<Option<Deed>, AllocError>
+    ensures { IfOk result (λ e. option_and_then deed_in e ≡ entry_by rules (before_space line.now) (behind_space line.now)) }
 {
     let (word, rest) = split_name(line);
-    deed_by(alloc, word, rest)
+    deed_by(alloc, rules, word, rest)
 }

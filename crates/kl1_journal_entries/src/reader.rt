@@ -1,11 +1,12 @@
 // The reader of a journal's text.
 
-ghost use Rattle.std.specs.Prelude.{◌≡◌, ◌≤◌, [], Some, IfOk, bytes_eq, option_map, option_and_then, is_some};
+ghost use Rattle.std.specs.Prelude.{◌≡◌, ◌≤◌, [], Some, IfOk, IfSome, bytes_eq, option_map, option_and_then, is_some};
 ghost use Rattle.std.specs.List.{list_any};
-ghost use Rattle.kl1_model.specs.declared.limits.TheConstants.{MOST_SESSIONS, MOST_NAMES};
+ghost use Rattle.kl1_model.specs.declared.limits.TheConstants.{MOST_SESSIONS};
+ghost use Rattle.kl1_model.specs.Rules.{limits_of};
 ghost use Rattle.kl1_model.specs.Text.{is_built_in};
 ghost use Rattle.kl1_model_server.specs.JournalText.{is_new_name, entry_in, journal_in};
-ghost use Rattle.kl1_journal_entries.specs.Lined.{if_lined};
+ghost use Rattle.kl1_journal_entries.specs.Lined.{pending, if_lined};
 ghost use Rattle.kl1_journal_entries.specs.Reading.{read_text, read_after};
 ghost use Rattle.kl1_journal_entries.specs.Found.{deed_in, found_deed, found_entry, begun_at};
 
@@ -16,6 +17,7 @@ use crate::loose::parse_entry;
 use crate::name::name_of;
 use crate::pending_entry::{PendingEntry, entry_for, run_for};
 use crate::text::next_line;
+use kl1_model::Rules;
 use kl1_model::limits::MOST_LINE_BYTES;
 use kl1_text::AtomText;
 use std::alloc::{AllocError, Global};
@@ -28,39 +30,40 @@ pub(crate) struct Found {
 }
 
 /// The entry that asks for this, if there is one and it has a line that reads back.
-fn prepared_for(alloc: Global, deed: &Deed) -> Result<PendingEntry, AllocError>
-    ensures { IfOk result (λ entry. entry ≡ option_and_then if_lined (deed_in deed.now)) }
+fn prepared_for(alloc: Global, rules: Rules, deed: &Deed) -> Result<PendingEntry, AllocError>
+    ensures { IfOk result (λ entry. entry ≡ pending rules (option_and_then (if_lined rules) (deed_in deed.now))) }
 {
     match deed {
-        Deed::Event(event) => entry_for(alloc, event),
-        Deed::Run(reductions) => Ok(run_for(*reductions)),
+        Deed::Event(event) => entry_for(alloc, rules, event),
+        Deed::Run(reductions) => Ok(run_for(rules, *reductions)),
     }
 }
 
-/// The entry whose line this is, if there is one.
-fn found_in(alloc: Global, line: &[u8]) -> Result<Option<Found>, AllocError>
-    ensures deed { IfOk result (λ found. option_and_then found_deed found ≡ entry_in line.now) }
-    ensures entry { IfOk result (λ found. option_map found_entry found ≡ option_map (λ e. Some e) (entry_in line.now)) }
+/// The entry of a journal of these rules whose line this is, if there is one.
+fn found_in(alloc: Global, rules: Rules, line: &[u8]) -> Result<Option<Found>, AllocError>
+    ensures deed { IfOk result (λ found. option_and_then found_deed found ≡ entry_in rules line.now) }
+    ensures entry { IfOk result (λ found. option_map found_entry found ≡ option_map (λ e. Some e) (entry_in rules line.now)) }
+    ensures rules { IfOk result (λ found. IfSome found (λ f. f.prepared.rules ≡ rules)) }
 {
     if line.len() > MOST_LINE_BYTES {
         return Ok(None);
     }
-    let Some(deed) = parse_entry(alloc, line)? else {
+    let Some(deed) = parse_entry(alloc, rules, line)? else {
         return Ok(None);
     };
-    let prepared = prepared_for(alloc, &deed)?;
+    let prepared = prepared_for(alloc, rules, &deed)?;
     if !prepared.is_canonical(alloc, line)? {
         return Ok(None);
     }
     Ok(Some(Found { deed, prepared }))
 }
 
-/// What the entry asks for whose line this is, if there is one. A line that isn't written as the journal's own is none.
-pub fn entry_of(alloc: Global, line: &[u8]) -> Result<Option<Deed>, AllocError>
-    ensures deed { IfOk result (λ deed. option_and_then deed_in deed ≡ entry_in line.now) }
-    ensures some { IfOk result (λ deed. is_some deed ≡ is_some (entry_in line.now)) }
+/// What the entry of a journal of these rules asks for whose line this is, if there is one. A line that isn't written as the journal's own is none.
+pub fn entry_of(alloc: Global, rules: Rules, line: &[u8]) -> Result<Option<Deed>, AllocError>
+    ensures deed { IfOk result (λ deed. option_and_then deed_in deed ≡ entry_in rules line.now) }
+    ensures some { IfOk result (λ deed. is_some deed ≡ is_some (entry_in rules line.now)) }
 {
-    match found_in(alloc, line)? {
+    match found_in(alloc, rules, line)? {
         None => Ok(None),
         Some(Found { deed, .. }) => Ok(Some(deed)),
     }
@@ -102,7 +105,7 @@ fn read_names<'a>(
     text: &'a [u8],
 ) -> Result<Option<Begun<'a>>, AllocError>
     requires sessions { heading.sessions ≤ MOST_SESSIONS }
-    requires names { heading.names ≤ MOST_NAMES }
+    requires names { heading.names ≤ (limits_of heading.rules).names }
     ensures { IfOk result (λ begun. option_and_then begun_at begun ≡ read_after heading.rules heading.sessions [] heading.names text.now) }
 {
     let mut names: Vec<AtomText> = Vec::new(alloc);
@@ -134,7 +137,7 @@ fn read_entries(
 {
     let mut rest = text;
     while let Some((line, after)) = next_line(rest) {
-        let Some(Found { prepared, .. }) = found_in(alloc, line)? else {
+        let Some(Found { prepared, .. }) = found_in(alloc, journal.rules(), line)? else {
             return Ok(None);
         };
         journal.reserve()?;

@@ -1,10 +1,12 @@
 -- How journals grow.
 use Rattle.std.proofs.Common.{◌≡◌, ℕ, zero, suc, ◌≤◌, Bool, true, false, if◌then◌else◌, List, [], ◌∷◌, ◌++◌, refl, sym, ap, ◌∙◌, subst, arith, inl, inr}
+use Rattle.std.specs.Prelude.{nat_lt}
+use Rattle.kl1_model.specs.declared.limits.TheConstants.{MOST_RUN}
 use Rattle.kl1_model.specs.State.{State}
-use Rattle.kl1_model.specs.Event.{Event, load, start, control, reduce, read, login, logout, reset, answer, is_refused}
+use Rattle.kl1_model.specs.Event.{Event, load, start, control, reduce, read, login, logout, reset, answer, forget, is_refused}
 use Rattle.kl1_model.specs.Choice.{is_in_run}
 use Rattle.kl1_model.specs.Step.{step}
-use Rattle.kl1_model_server.specs.Journal.{Entry, loads, starts, sends, steps, answers, runs, Journal, without_last, entered, stepped, with_event}
+use Rattle.kl1_model_server.specs.Journal.{Entry, loads, starts, sends, steps, answers, forgets, runs, run_length, last_run_of, run_longer, Journal, without_last, entered, stepped, with_event}
 use Rattle.kl1_model_server.specs.laws.HistoryLaws.{EndsInRun}
 use Rattle.kl1_model_server.proofs.RunsKept.{run_with, reduction_run, run_goes_on}
 use Rattle.kl1_journal_stamps.specs.Later.{Grows, GrowsBefore, AreLater, IsLater}
@@ -25,15 +27,6 @@ one_later (d ∷ ds) e = (stays_before ds d, one_later ds e)
 run_later : (es : List Entry) (m n : ℕ) → m ≤ n → AreLater (es ++ runs m ∷ []) (es ++ runs n ∷ [])
 run_later [] m n more = (inr (m, n, refl, refl, more), tt)
 run_later (d ∷ ds) m n more = (stays_before (ds ++ runs m ∷ []) d, run_later ds m n more)
-
--- how many reductions an entry has if it is a run, or else 0
-abbrev run_length : Entry → ℕ
-run_length (loads text) = 0
-run_length (starts allowance low high t) = 0
-run_length (sends n m) = 0
-run_length (steps goal clause) = 0
-run_length (answers n report t) = 0
-run_length (runs n) = n
 
 same_run : (m n : ℕ) → runs m ≡ runs n → m ≡ n
 same_run m n h = ap run_length h
@@ -68,12 +61,17 @@ growth_goes_on i j k l m = record { rules = l.rules ∙ m.rules; names = l.names
 pub entered_later : (j : Journal) (e : Entry) → IsLater j (entered j e)
 entered_later j e = record { rules = refl; names = refl; entries = one_later j.entries e }
 
+-- entries whose last run is longer by one, or that have a new run
+longer_later : (es : List Entry) (n : ℕ) (b : Bool) → without_last es ++ runs (suc n) ∷ [] ≡ es → AreLater es (if b then without_last es ++ runs (suc (suc n)) ∷ [] else es ++ runs 1 ∷ [])
+longer_later es n true is = subst (λ (ds : List Entry). AreLater ds (without_last es ++ runs (suc (suc n)) ∷ [])) is (run_later (without_last es) (suc n) (suc (suc n)) (omega arith))
+longer_later es n false is = one_later es (runs 1)
+
 -- a reduction that makes the last run longer by one
 pub run_later_by_one : (j : Journal) (goal clause m : ℕ) → EndsInRun j.entries (suc m) → IsLater j (stepped j goal clause (suc (suc m)))
 run_later_by_one j goal clause m ends = record {
   rules = refl;
   names = refl;
-  entries = subst (λ (es : List Entry). AreLater es (without_last j.entries ++ runs (suc (suc m)) ∷ [])) (ends m refl) (run_later (without_last j.entries) (suc m) (suc (suc m)) (omega arith));
+  entries = subst (λ n. AreLater j.entries (run_longer j.entries n)) (sym (ends m refl).0) (longer_later j.entries m (nat_lt (suc m) MOST_RUN) (ends m refl).1);
 }
 
 -- a reduction by the length of the last run after it
@@ -93,6 +91,7 @@ accepted_later j s login none a ends = record { rules = refl; names = refl; entr
 accepted_later j s logout none a ends = record { rules = refl; names = refl; entries = same_later j.entries }
 accepted_later j s reset none a ends = absurd (none refl)
 accepted_later j s (answer n report t) none a ends = entered_later j _
+accepted_later j s (forget n count) none a ends = entered_later j _
 
 later_by : (j : Journal) (s : State) (e : Event) (c : Bool) → (e ≡ reset → ⊥) → is_refused (step s e).reply ≡ c → EndsInRun j.entries s.run → IsLater j (if c then j else with_event j e (step s e).state)
 later_by j s e true none a ends = growth_begins j

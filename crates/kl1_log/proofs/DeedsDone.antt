@@ -5,7 +5,7 @@ use Rattle.std.proofs.Math.Seq.{take-append_seam}
 use Rattle.std.proofs.lemmas.List.{take-append-drop}
 use Rattle.kl1_model.specs.State.{State, has_runs, fresh_with}
 use Rattle.kl1_model.specs.Event.{Transition, syntax, refuse}
-use Rattle.kl1_model_server.specs.Journal.{Entry, loads, starts, sends, steps, answers, runs, first_step, first_steps, entry_step}
+use Rattle.kl1_model_server.specs.Journal.{Entry, loads, starts, sends, steps, answers, forgets, runs, first_step, first_steps, entry_step}
 use Rattle.kl1_model_server.proofs.RulesKept.{entry_rules}
 use Rattle.kl1_log.specs.Deeds.{deeds_of_entry, deeds_of, after_entries}
 use Rattle.kl1_log.specs.laws.LogLaws.{ReplaysOfFronts}
@@ -57,6 +57,7 @@ deed_done s (starts allowance low high t) = refl
 deed_done s (sends n m) = refl
 deed_done s (steps goal clause) = refl
 deed_done s (answers n report t) = refl
+deed_done s (forgets n count) = refl
 deed_done s (runs n) = run_done s n
 
 -- an account after the deeds of entries is as after the entries

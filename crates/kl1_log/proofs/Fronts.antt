@@ -5,6 +5,7 @@ use Rattle.std.specs.List.{AllByRecursion}
 use Rattle.std.proofs.Math.Seq.{take-append-add, take-append_seam}
 use Rattle.std.proofs.lemmas.List.{append-nil, length-append, length-map, take-append-drop}
 use Rattle.std.proofs.lemmas.Option.{none-some, same_Some}
+use Rattle.kl1_model.specs.declared.rules.Rules.{Rules}
 use Rattle.kl1_model_server.specs.Command.{written_lines}
 use Rattle.kl1_model_server.specs.Journal.{Entry, Journal}
 use Rattle.kl1_model_server.specs.JournalText.{entry_line, name_line, heading_line, journal_lines, Lines, lines_of, entries_in, journal_of}
@@ -64,7 +65,7 @@ appends_are_fronts text bytes j k n was is =
     let new = drop (length ls) (plain_lines (ls ++ bs)) in
     let both : lines_of (text ++ bytes) ≡ record { whole = ls ++ bs; rest = (lines_of bytes).rest } = ap (λ (x : List ℕ). lines_of (x ++ bytes)) t.whole ∙ lines_then ls bytes t.unbroken in
     let of_both : journal_of (plain_lines ls ++ new) ≡ Some k = ap journal_of (sym (lines_both ls bs)) ∙ ap (λ (x : Lines). journal_of (plain_lines x.whole)) (sym both) ∙ u.of in
-    let more = more_are j k (entries_in new) (sym (journal_then (plain_lines ls) new j t.of) ∙ of_both) in
+    let more = more_are j k (entries_in j.rules new) (sym (journal_then (plain_lines ls) new j t.of) ∙ of_both) in
     let es = more.0 in
     let ts = texts_are_lines bytes in
     let none : (lines_of bytes).rest ≡ [] = ap (λ (x : Lines). x.rest) (sym both) ∙ u.none in
@@ -76,7 +77,7 @@ appends_are_fronts text bytes j k n was is =
     ∙ ap (λ (x : Lines). x.whole) (lines_then ls (take n bytes) t.unbroken)
     ∙ ap (λ (x : List (List ℕ)). ls ++ x) (ap (λ (x : List ℕ). whole_lines (take n x)) written ∙ c.lines) in
     let found : recovered (text ++ take n bytes) ≡ Some (with_more j (take m es)) =
-    ap (λ (x : List (List ℕ)). journal_of (plain_lines x)) lines ∙ ap journal_of (lines_front ls bs m) ∙ journal_then (plain_lines ls) (take m new) j t.of ∙ ap (option_map (with_more j)) (entries_front new m es more.1) in
+    ap (λ (x : List (List ℕ)). journal_of (plain_lines x)) lines ∙ ap journal_of (lines_front ls bs m) ∙ journal_then (plain_lines ls) (take m new) j t.of ∙ ap (option_map (with_more j)) (entries_front j.rules new m es more.1) in
     let at : with_more j (take m es) ≡ front_of k (length j.entries + m) = front_more j es m ∙ ap (λ (i : Journal). front_of i (length j.entries + m)) more.2 in (
       length j.entries + m,
       found ∙ ap (λ (i : Journal). let r : Option Journal = Some i in r) at,
@@ -104,14 +105,14 @@ front_lines j n =
     ∙ ap (λ (x : List (List ℕ)). opening_lines j ++ x) (take_map j.entries n)
     ∙ sym (lines_are (front_of j n))
 
-all_front : (es : List Entry) (n : ℕ) → AllByRecursion HasLine es → AllByRecursion HasLine (take n es)
-all_front es zero h = tt
-all_front [] (suc n) h = tt
-all_front (e ∷ es) (suc n) h = (h.0, all_front es n h.1)
+all_front : (rules : Rules) (es : List Entry) (n : ℕ) → AllByRecursion (HasLine rules) es → AllByRecursion (HasLine rules) (take n es)
+all_front rules es zero h = tt
+all_front rules [] (suc n) h = tt
+all_front rules (e ∷ es) (suc n) h = (h.0, all_front rules es n h.1)
 
 -- a front of a journal that has a text has one
 pub front_written : (j : Journal) (n : ℕ) → IsWritten j → IsWritten (front_of j n)
-front_written j n w = record { sessions = w.sessions; names = w.names; entries = all_front j.entries n w.entries }
+front_written j n w = record { sessions = w.sessions; names = w.names; image = w.image; entries = all_front j.rules j.entries n w.entries }
 
 -- the lines of a journal are read as it
 lines_read : (j : Journal) → IsWritten j → journal_of (journal_lines j) ≡ Some j

@@ -8,7 +8,7 @@ use Rattle.kl1_model.specs.declared.rules.Rules.{Rules}
 use Rattle.kl1_model.specs.declared.limits.TheConstants.{MOST_LINE_BYTES}
 use Rattle.kl1_model_server.specs.Command.{written_line, written_lines}
 use Rattle.kl1_model_server.specs.Journal.{Entry, runs, Journal}
-use Rattle.kl1_model_server.specs.JournalText.{entry_line, name_line, heading_line, journal_lines, Lines, lines_of, journal_of, journal_in}
+use Rattle.kl1_model_server.specs.JournalText.{entry_line, name_line, heading_line, journal_lines, Lines, lines_of, journal_of, journal_in, entries_in}
 use Rattle.kl1_model_server.specs.laws.TextLaws.{HasLine, is_unbroken, IsWritten}
 use Rattle.kl1_model_server.proofs.TextEntries.{entries_read_back}
 use Rattle.kl1_model_server.proofs.TextJournals.{journals_read_back}
@@ -67,46 +67,46 @@ none_by : (b : Bool) → (if◌then◌else◌ {A = Option Entry} b None None) �
 none_by true = refl
 none_by false = refl
 
-name_run : (t : List ℕ) → run_of_line (name_line t) ≡ 0
-name_run t = ap run_if (none_by (nat_le (length (name_line t)) MOST_LINE_BYTES))
+name_run : (rules : Rules) (t : List ℕ) → run_of_line rules (name_line t) ≡ 0
+name_run rules t = ap run_if (none_by (nat_le (length (name_line t)) MOST_LINE_BYTES))
 
-heading_run : (rules : Rules) (sessions names : ℕ) → run_of_line (heading_line rules sessions names) ≡ 0
+heading_run : (rules : Rules) (sessions names : ℕ) → run_of_line rules (heading_line rules sessions names) ≡ 0
 heading_run rules sessions names = ap run_if (none_by (nat_le (length (heading_line rules sessions names)) MOST_LINE_BYTES))
 
-entry_run : (e : Entry) → HasLine e → run_of_line (entry_line e) ≡ run_length e
-entry_run e h = ap run_if (entries_read_back e h)
+entry_run : (rules : Rules) (e : Entry) → HasLine rules e → run_of_line rules (entry_line e) ≡ run_length e
+entry_run rules e h = ap run_if (entries_read_back rules e h)
 
 -- the last line of entries has the last run
-pub entries_run : (e : Entry) (es : List Entry) → AllByRecursion HasLine (e ∷ es) → run_of_lines (map entry_line (e ∷ es)) ≡ last_run (e ∷ es)
-entries_run e [] h = entry_run e h.0
-entries_run e (f ∷ fs) h = entries_run f fs h.1
+pub entries_run : (rules : Rules) (e : Entry) (es : List Entry) → AllByRecursion (HasLine rules) (e ∷ es) → run_of_lines rules (map entry_line (e ∷ es)) ≡ last_run (e ∷ es)
+entries_run rules e [] h = entry_run rules e h.0
+entries_run rules e (f ∷ fs) h = entries_run rules f fs h.1
 
-lines_run : (x : List ℕ) (es : List Entry) → run_of_line x ≡ 0 → AllByRecursion HasLine es → run_of_lines (x ∷ map entry_line es) ≡ last_run es
-lines_run x [] none h = none
-lines_run x (e ∷ es) none h = entries_run e es h
+lines_run : (rules : Rules) (x : List ℕ) (es : List Entry) → run_of_line rules x ≡ 0 → AllByRecursion (HasLine rules) es → run_of_lines rules (x ∷ map entry_line es) ≡ last_run es
+lines_run rules x [] none h = none
+lines_run rules x (e ∷ es) none h = entries_run rules e es h
 
 -- the last line before the entries, and then those of the entries
-pub record Opens (page : List (List ℕ)) (lines : List (List ℕ)) : Type 0 where
+pub record Opens (rules : Rules) (page : List (List ℕ)) (lines : List (List ℕ)) : Type 0 where
   pub last : List ℕ
   pub is : page ≡ last ∷ lines
-  pub none : run_of_line last ≡ 0
+  pub none : run_of_line rules last ≡ 0
 
-opened : (h : List ℕ) (names : List (List ℕ)) (lines : List (List ℕ)) → run_of_line h ≡ 0 → Opens (drop (length names) ((h ∷ map name_line names) ++ lines)) lines
-opened h [] lines none = record { last = h; is = refl; none = none }
-opened h (t ∷ ts) lines none = opened (name_line t) ts lines (name_run t)
+opened : (rules : Rules) (h : List ℕ) (names : List (List ℕ)) (lines : List (List ℕ)) → run_of_line rules h ≡ 0 → Opens rules (drop (length names) ((h ∷ map name_line names) ++ lines)) lines
+opened rules h [] lines none = record { last = h; is = refl; none = none }
+opened rules h (t ∷ ts) lines none = opened rules (name_line t) ts lines (name_run rules t)
 
 -- ---- the file
 
-all_unbroken : (es : List Entry) → AllByRecursion HasLine es → list_all is_unbroken (map entry_line es) ≡ true
-all_unbroken [] h = refl
-all_unbroken (e ∷ es) h = and_from (is_unbroken (entry_line e)) (list_all is_unbroken (map entry_line es)) (entry_unbroken e h.0) (all_unbroken es h.1)
+all_unbroken : (rules : Rules) (es : List Entry) → AllByRecursion (HasLine rules) es → list_all is_unbroken (map entry_line es) ≡ true
+all_unbroken rules [] h = refl
+all_unbroken rules (e ∷ es) h = and_from (is_unbroken (entry_line e)) (list_all is_unbroken (map entry_line es)) (entry_unbroken rules e h.0) (all_unbroken rules es h.1)
 
 -- the lines of more entries are put after a file
-pub file_grows : (text : List ℕ) (old j : Journal) (xs : List Entry) → IsPlainFile text old → old.rules ≡ j.rules → old.names ≡ j.names → AllByRecursion HasLine xs → deeds_of old.entries ++ deeds_of xs ≡ deeds_of j.entries → IsPlainFile (text ++ written_lines (map entry_line xs)) j
+pub file_grows : (text : List ℕ) (old j : Journal) (xs : List Entry) → IsPlainFile text old → old.rules ≡ j.rules → old.names ≡ j.names → AllByRecursion (HasLine j.rules) xs → deeds_of old.entries ++ deeds_of xs ≡ deeds_of j.entries → IsPlainFile (text ++ written_lines (map entry_line xs)) j
 file_grows text old j xs f rules names h deeds =
     let t = text_of_journal text f.read f.is in
     let lines = map entry_line xs in
-    let none = all_unbroken xs h in
+    let none = all_unbroken j.rules xs h in
     let own : lines_of (written_lines lines) ≡ record { whole = lines; rest = [] } = ap lines_of (sym (append-nil (written_lines lines))) ∙ lines_of_lines lines [] none refl in
     let all : lines_of (text ++ written_lines lines) ≡ record { whole = (lines_of text).whole ++ lines; rest = [] } =
     ap (λ (x : List ℕ). lines_of (x ++ written_lines lines)) t.whole
@@ -117,7 +117,7 @@ file_grows text old j xs f rules names h deeds =
       is =
           ap (λ (ls : Lines). if◌then◌else◌ {A = Option Journal} (length ls.rest == 0) (journal_of ls.whole) None) all
           ∙ journal_then (lines_of text).whole lines f.read t.of
-          ∙ ap (option_map (with_more f.read)) (entries_back xs h);
+          ∙ ap (option_map (with_more f.read)) (ap (λ (of : Rules). entries_in of lines) (f.says.rules ∙ rules) ∙ entries_back j.rules xs h);
       closed = f.closed;
       says = record {
         rules = f.says.rules ∙ rules;
@@ -176,28 +176,28 @@ grown_deeds d e (inr h) =
         ∙ ap (λ (k : ℕ). replicate k (let e : Entry = runs 1 in e)) same
 
 -- what is put has a line
-grown_lined : (d e : Entry) → Grows d e → HasLine e → AllByRecursion HasLine (longer_run (run_length d) (run_length e))
-grown_lined d e (inl same) h = subst (AllByRecursion HasLine) (sym (ap (λ (x : Entry). longer_run (run_length d) (run_length x)) (sym same) ∙ no_longer (run_length d))) tt
-grown_lined d e (inr g) h =
-    subst (AllByRecursion HasLine) (sym (ap (λ (x : Entry). longer_run (run_length x) (run_length e)) g.2 ∙ ap (λ (x : Entry). longer_run g.0 (run_length x)) g.3))
-    (both g.0 g.1 (cases_lt g.0 g.1) g.4 (subst HasLine g.3 h))
+grown_lined : (rules : Rules) (d e : Entry) → Grows d e → HasLine rules e → AllByRecursion (HasLine rules) (longer_run (run_length d) (run_length e))
+grown_lined rules d e (inl same) h = subst (AllByRecursion (HasLine rules)) (sym (ap (λ (x : Entry). longer_run (run_length d) (run_length x)) (sym same) ∙ no_longer (run_length d))) tt
+grown_lined rules d e (inr g) h =
+    subst (AllByRecursion (HasLine rules)) (sym (ap (λ (x : Entry). longer_run (run_length x) (run_length e)) g.2 ∙ ap (λ (x : Entry). longer_run g.0 (run_length x)) g.3))
+    (both g.0 g.1 (cases_lt g.0 g.1) g.4 (subst (HasLine rules) g.3 h))
   where
-    both : (m n : ℕ) → (m < n) ⊎ (n ≤ m) → m ≤ n → HasLine (runs n) → AllByRecursion HasLine (longer_run m n)
+    both : (m n : ℕ) → (m < n) ⊎ (n ≤ m) → m ≤ n → HasLine rules (runs n) → AllByRecursion (HasLine rules) (longer_run m n)
     both m n (inl less) le l =
         let a = l.0 in
         let b = l.1 in
-        subst (AllByRecursion HasLine) (sym (longer m n less)) ((omega (arith, less), omega (arith, less, b)), tt)
+        subst (AllByRecursion (HasLine rules)) (sym (longer m n less)) ((omega (arith, less), omega (arith, less, b)), tt)
     both m n (inr more) le l =
         let same : m ≡ n = omega (arith, le, more) in
-        subst (AllByRecursion HasLine) (sym (ap (longer_run m) (sym same) ∙ no_longer m)) tt
+        subst (AllByRecursion (HasLine rules)) (sym (ap (longer_run m) (sym same) ∙ no_longer m)) tt
 
-all_more : (xs ys : List Entry) → AllByRecursion HasLine xs → AllByRecursion HasLine ys → AllByRecursion HasLine (xs ++ ys)
-all_more [] ys h k = k
-all_more (x ∷ xs) ys h k = (h.0, all_more xs ys h.1 k)
+all_more : (rules : Rules) (xs ys : List Entry) → AllByRecursion (HasLine rules) xs → AllByRecursion (HasLine rules) ys → AllByRecursion (HasLine rules) (xs ++ ys)
+all_more rules [] ys h k = k
+all_more rules (x ∷ xs) ys h k = (h.0, all_more rules xs ys h.1 k)
 
-all_after : (xs ys : List Entry) → AllByRecursion HasLine (xs ++ ys) → AllByRecursion HasLine ys
-all_after [] ys h = h
-all_after (x ∷ xs) ys h = all_after xs ys h.1
+all_after : (rules : Rules) (xs ys : List Entry) → AllByRecursion (HasLine rules) (xs ++ ys) → AllByRecursion (HasLine rules) ys
+all_after rules [] ys h = h
+all_after rules (x ∷ xs) ys h = all_after rules xs ys h.1
 
 -- the lines before those of the entries
 abbrev opening_lines : Journal → List (List ℕ)
@@ -218,10 +218,10 @@ no_entry es h = ap (length {A = Entry}) h
 -- What is read of a page from the last line that was put on: it is there, and what is after it is new.
 pub record IsPage (was : Journal) (j : Journal) (run : ℕ) (last : List ℕ) (more : List (List ℕ)) : Type 0 where
   pub put : List Entry
-  pub lined : AllByRecursion HasLine put
+  pub lined : AllByRecursion (HasLine j.rules) put
   pub deeds : deeds_of was.entries ++ deeds_of put ≡ deeds_of j.entries
-  pub lines : run_line run (run_of_line last) ++ written_lines more ≡ written_lines (map entry_line put)
-  pub newest : run_of_lines (last ∷ more) ≡ last_run j.entries
+  pub lines : run_line run (run_of_line j.rules last) ++ written_lines more ≡ written_lines (map entry_line put)
+  pub newest : run_of_lines j.rules (last ∷ more) ≡ last_run j.entries
 
 first_is : (a b : List ℕ) (xs ys : List (List ℕ)) → a ∷ xs ≡ b ∷ ys → a ≡ b
 first_is a b xs ys h = ap (λ (ls : List (List ℕ)). elim ls [ [] ↦ a | x ∷ rest ↦ x ]) h
@@ -237,7 +237,7 @@ page_opens old j m last more w mark l none page =
     let empty = no_entry old.entries none in
     let at : m.lines - 1 ≡ length j.names = omega (arith, lines, lines_count old, empty, same) in
     let all = map entry_line j.entries in
-    let o = opened (heading_line j.rules j.sessions (length j.names)) j.names all (heading_run j.rules j.sessions (length j.names)) in
+    let o = opened j.rules (heading_line j.rules j.sessions (length j.names)) j.names all (heading_run j.rules j.sessions (length j.names)) in
     let here : last ∷ more ≡ o.last ∷ all = page ∙ ap (λ (k : ℕ). drop k (journal_lines j)) at ∙ o.is in
     let first = first_is last o.last more all here in
     let others = others_are last o.last more all here in
@@ -247,10 +247,10 @@ page_opens old j m last more w mark l none page =
       lined = w.entries;
       deeds = ap (λ (x : List Entry). deeds_of x ++ deeds_of j.entries) none;
       lines =
-          ap (λ (n : ℕ). run_line n (run_of_line last) ++ written_lines more) no_run
-          ∙ ap (λ (n : ℕ). run_line 0 n ++ written_lines more) (ap run_of_line first ∙ o.none)
+          ap (λ (n : ℕ). run_line n (run_of_line j.rules last) ++ written_lines more) no_run
+          ∙ ap (λ (n : ℕ). run_line 0 n ++ written_lines more) (ap (run_of_line j.rules) first ∙ o.none)
           ∙ ap written_lines others;
-      newest = ap run_of_lines here ∙ lines_run o.last j.entries o.none w.entries;
+      newest = ap (run_of_lines j.rules) here ∙ lines_run j.rules o.last j.entries o.none w.entries;
     }
 
 -- some entry was there
@@ -271,13 +271,13 @@ page_goes_on old j m last more w mark l p page =
     let here : last ∷ more ≡ rest = page ∙ ap (drop (m.lines - 1)) split ∙ drop_at (opening_lines j ++ front) rest (m.lines - 1) at in
     let first = first_is last (entry_line p.is) more (map entry_line p.more) here in
     let others = others_are last (entry_line p.is) more (map entry_line p.more) here in
-    let all = all_after p.front (p.is ∷ p.more) (subst (AllByRecursion HasLine) p.new w.entries) in
+    let all = all_after j.rules p.front (p.is ∷ p.more) (subst (AllByRecursion (HasLine j.rules)) p.new w.entries) in
     let run : m.run ≡ run_length p.was = mark.run ∙ ap last_run p.old ∙ last_of p.front p.was [] in
     let grown = longer_run (run_length p.was) (run_length p.is) in
     let did : deeds_of old.entries ≡ deeds_of p.front ++ deeds_of_entry p.was = ap deeds_of p.old ∙ deeds_more p.front (p.was ∷ []) ∙ ap (λ (x : List Entry). deeds_of p.front ++ x) (append-nil (deeds_of_entry p.was)) in
     record {
       put = grown ++ p.more;
-      lined = all_more grown p.more (grown_lined p.was p.is p.grows all.0) all.1;
+      lined = all_more j.rules grown p.more (grown_lined j.rules p.was p.is p.grows all.0) all.1;
       deeds =
           ap (λ (x : List Entry). x ++ deeds_of (grown ++ p.more)) did
           ∙ ap (λ (x : List Entry). (deeds_of p.front ++ deeds_of_entry p.was) ++ x) (deeds_more grown p.more)
@@ -286,11 +286,11 @@ page_goes_on old j m last more w mark l p page =
           ∙ append_assoc (deeds_of p.front) (deeds_of_entry p.is) (deeds_of p.more)
           ∙ sym (ap deeds_of p.new ∙ deeds_more p.front (p.is ∷ p.more));
       lines =
-          ap (λ (n : ℕ). run_line n (run_of_line last) ++ written_lines more) run
-          ∙ ap (λ (n : ℕ). run_line (run_length p.was) n ++ written_lines more) (ap run_of_line first ∙ entry_run p.is all.0)
+          ap (λ (n : ℕ). run_line n (run_of_line j.rules last) ++ written_lines more) run
+          ∙ ap (λ (n : ℕ). run_line (run_length p.was) n ++ written_lines more) (ap (run_of_line j.rules) first ∙ entry_run j.rules p.is all.0)
           ∙ ap (λ (x : List (List ℕ)). run_line (run_length p.was) (run_length p.is) ++ written_lines x) others
           ∙ lines_put (run_length p.was) (run_length p.is) p.more;
-      newest = ap run_of_lines here ∙ entries_run p.is p.more all ∙ sym (ap last_run p.new ∙ last_of p.front p.is p.more);
+      newest = ap (run_of_lines j.rules) here ∙ entries_run j.rules p.is p.more all ∙ sym (ap last_run p.new ∙ last_of p.front p.is p.more);
     }
 
 page_by : (old j : Journal) (m : Mark) (last : List ℕ) (more : List (List ℕ)) → IsWritten j → IsMark m old → IsLater old j → (old.entries ≡ []) ⊎ Parts old.entries j.entries → last ∷ more ≡ drop (m.lines - 1) (journal_lines j) → IsPage old j m.run last more
@@ -309,7 +309,7 @@ page_all old j m page most mark is few =
     is ∙ take_all most left (omega (arith, was, few, long, lines_count old, length-take most left))
 
 -- the file of the journal that has grown
-pub grown_file : (old j : Journal) (m : Mark) (text last : List ℕ) (more : List (List ℕ)) (bytes : List ℕ) → IsWritten j → last ∷ more ≡ drop (m.lines - 1) (journal_lines j) → bytes ≡ run_line m.run (run_of_line last) ++ written_lines more → IsMark m old → IsLater old j → IsPlainFile text old → IsPlainFile (text ++ bytes) j
+pub grown_file : (old j : Journal) (m : Mark) (text last : List ℕ) (more : List (List ℕ)) (bytes : List ℕ) → IsWritten j → last ∷ more ≡ drop (m.lines - 1) (journal_lines j) → bytes ≡ run_line m.run (run_of_line j.rules last) ++ written_lines more → IsMark m old → IsLater old j → IsPlainFile text old → IsPlainFile (text ++ bytes) j
 grown_file old j m text last more bytes w page put mark l f =
     let p = page_read old j m last more w mark l page in
     subst (λ (x : List ℕ). IsPlainFile (text ++ x) j) (sym (put ∙ p.lines)) (file_grows text old j p.put f l.rules l.names p.lined p.deeds)
@@ -321,7 +321,7 @@ later_count (d ∷ ds) [] l = absurd l
 later_count (d ∷ ds) (e ∷ es) l = let less = later_count ds es l.1 in omega (arith, less)
 
 -- and up to where it is in its file
-pub grown_mark : (old j : Journal) (m : Mark) (last : List ℕ) (more : List (List ℕ)) (end run : ℕ) → IsWritten j → last ∷ more ≡ drop (m.lines - 1) (journal_lines j) → end ≡ m.lines + length (last ∷ more) → run ≡ run_of_lines (last ∷ more) → IsMark m old → IsLater old j → IsMark (record { lines = end - 1; run = run }) j
+pub grown_mark : (old j : Journal) (m : Mark) (last : List ℕ) (more : List (List ℕ)) (end run : ℕ) → IsWritten j → last ∷ more ≡ drop (m.lines - 1) (journal_lines j) → end ≡ m.lines + length (last ∷ more) → run ≡ run_of_lines j.rules (last ∷ more) → IsMark m old → IsLater old j → IsMark (record { lines = end - 1; run = run }) j
 grown_mark old j m last more end run w page count newest mark l =
     let p = page_read old j m last more w mark l page in
     let was = mark.lines in
@@ -345,7 +345,7 @@ page_some old j m mark l page =
 -- ---- the text of a journal
 
 shut_written : (j : Journal) → IsWritten j → IsWritten (record j { sessions = 0 })
-shut_written j w = record { sessions = omega arith; names = w.names; entries = w.entries }
+shut_written j w = record { sessions = omega arith; names = w.names; image = w.image; entries = w.entries }
 
 -- the text of a journal is a file of it
 pub shut_file : (j : Journal) (bytes : List ℕ) → IsWritten j → bytes ≡ shut_text j → IsPlainFile bytes j
@@ -353,12 +353,12 @@ shut_file j bytes w text =
     let shut = record j { sessions = 0 } in
     record { read = shut; is = ap journal_in text ∙ journals_read_back shut (shut_written j w); closed = refl; says = record { rules = refl; names = refl; deeds = refl } }
 
-names_run : (h : List ℕ) (names : List (List ℕ)) (es : List Entry) → run_of_line h ≡ 0 → AllByRecursion HasLine es → run_of_lines ((h ∷ map name_line names) ++ map entry_line es) ≡ last_run es
-names_run h [] es none all = lines_run h es none all
-names_run h (t ∷ ts) es none all = names_run (name_line t) ts es (name_run t) all
+names_run : (rules : Rules) (h : List ℕ) (names : List (List ℕ)) (es : List Entry) → run_of_line rules h ≡ 0 → AllByRecursion (HasLine rules) es → run_of_lines rules ((h ∷ map name_line names) ++ map entry_line es) ≡ last_run es
+names_run rules h [] es none all = lines_run rules h es none all
+names_run rules h (t ∷ ts) es none all = names_run rules (name_line t) ts es (name_run rules t) all
 
-pub begun_mark : (j : Journal) (lines : List (List ℕ)) (count run : ℕ) → IsWritten j → lines ≡ journal_lines j → count ≡ length lines → run ≡ run_of_lines lines → IsMark (record { lines = count; run = run }) j
+pub begun_mark : (j : Journal) (lines : List (List ℕ)) (count run : ℕ) → IsWritten j → lines ≡ journal_lines j → count ≡ length lines → run ≡ run_of_lines j.rules lines → IsMark (record { lines = count; run = run }) j
 begun_mark j lines count run w page many newest = record {
   lines = many ∙ ap (length {A = List ℕ}) page;
-  run = newest ∙ ap run_of_lines page ∙ names_run (heading_line j.rules j.sessions (length j.names)) j.names j.entries (heading_run j.rules j.sessions (length j.names)) w.entries;
+  run = newest ∙ ap (run_of_lines j.rules) page ∙ names_run j.rules (heading_line j.rules j.sessions (length j.names)) j.names j.entries (heading_run j.rules j.sessions (length j.names)) w.entries;
 }

@@ -39,11 +39,11 @@ pub counted : (o : Option ℕ) (end a b : ℕ) → o ≡ Some end → SomeIff o 
 counted o end a b is sum = subst (λ (x : Option ℕ). SomeIff x (a + b < 2 ^ 64) (a + b)) is sum
 
 -- the bytes that a file gets, piece by piece
-pub grown_put : (none one two : List ℕ) (was is : ℕ) (line last : List ℕ) (more : List (List ℕ)) → none ≡ [] → one ≡ none ++ run_line was is → two ≡ one ++ written_lines more → is ≡ run_of_line line → line ≡ last → two ≡ run_line was (run_of_line last) ++ written_lines more
-grown_put none one two was is line last more p q r s t =
+pub grown_put : (rules : Rules) (none one two : List ℕ) (was is : ℕ) (line last : List ℕ) (more : List (List ℕ)) → none ≡ [] → one ≡ none ++ run_line was is → two ≡ one ++ written_lines more → is ≡ run_of_line rules line → line ≡ last → two ≡ run_line was (run_of_line rules last) ++ written_lines more
+grown_put rules none one two was is line last more p q r s t =
     r
     ∙ ap (λ (x : List ℕ). x ++ written_lines more) (q ∙ ap (λ (x : List ℕ). x ++ run_line was is) p)
-    ∙ ap (λ (n : ℕ). run_line was n ++ written_lines more) (s ∙ ap run_of_line t)
+    ∙ ap (λ (n : ℕ). run_line was n ++ written_lines more) (s ∙ ap (run_of_line rules) t)
 
 -- the first line of a journal with no session open, piece by piece
 pub heading_put : (rules : Rules) (n : ℕ) (out a b d new line : List ℕ) → a ≡ out ++ codes "journal " → b ≡ a ++ version rules → d ≡ b ++ codes " 0 " → line ≡ decimal n → new ≡ d ++ written_line line → new ≡ out ++ written_line (heading_line rules 0 n)
@@ -61,7 +61,7 @@ heading_put rules n out a b d new line p q r s t =
     pieces out v line = simp append_assoc
 
 -- the last of lines that are read one by one
-pub last_read : {E : Type 0} (r : Result ℕ E) (line last : List ℕ) (rest : List (Vec ℕ Global)) (lines : List (List ℕ)) → IfOk r (λ n. n ≡ run_of_line line) → line ≡ last → run_of_lines (last ∷ bytes_in rest) ≡ run_of_lines lines → length rest < 1 → IfOk r (λ n. n ≡ run_of_lines lines)
-last_read (Err e) line last rest lines is same all none = tt
-last_read (Ok n) line last [] lines is same all none = is ∙ ap run_of_line same ∙ all
-last_read (Ok n) line last (x ∷ xs) lines is same all none = absurd (omega (arith, none))
+pub last_read : {E : Type 0} (rules : Rules) (r : Result ℕ E) (line last : List ℕ) (rest : List (Vec ℕ Global)) (lines : List (List ℕ)) → IfOk r (λ n. n ≡ run_of_line rules line) → line ≡ last → run_of_lines rules (last ∷ bytes_in rest) ≡ run_of_lines rules lines → length rest < 1 → IfOk r (λ n. n ≡ run_of_lines rules lines)
+last_read rules (Err e) line last rest lines is same all none = tt
+last_read rules (Ok n) line last [] lines is same all none = is ∙ ap (run_of_line rules) same ∙ all
+last_read rules (Ok n) line last (x ∷ xs) lines is same all none = absurd (omega (arith, none))

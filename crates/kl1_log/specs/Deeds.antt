@@ -1,7 +1,7 @@
 -- What the entries of a journal do, one deed after another, and which texts are files of a journal.
 use Rattle.std.specs.Prelude.{◌≡◌, ℕ, List, [], ◌∷◌, ◌++◌, take, replicate, fold, Option, Some}
 use Rattle.kl1_model.specs.State.{State, fresh_with}
-use Rattle.kl1_model_server.specs.Journal.{Entry, loads, starts, sends, steps, answers, runs, Journal, entry_step}
+use Rattle.kl1_model_server.specs.Journal.{Entry, loads, starts, sends, steps, answers, forgets, runs, Journal, entry_step}
 use Rattle.kl1_model_server.specs.JournalText.{journal_in}
 use Rattle.kl1_model_server.specs.laws.TextLaws.{journal_text}
 use Rattle.kl1_sums.specs.Sums.{summed_text, plain_text}
@@ -13,6 +13,7 @@ deeds_of_entry (starts allowance low high t) = starts allowance low high t ∷ [
 deeds_of_entry (sends n m) = sends n m ∷ []
 deeds_of_entry (steps goal clause) = steps goal clause ∷ []
 deeds_of_entry (answers n report t) = answers n report t ∷ []
+deeds_of_entry (forgets n count) = forgets n count ∷ []
 deeds_of_entry (runs n) = replicate n (runs 1)
 
 -- the deeds of entries, in order

@@ -19,10 +19,10 @@ const FILE_MODE: u32 = 0o600;
 
 /// The bytes for which there is room in the new file that is kept beside a file: what a reset writes has fewer than `KEPT_BYTES`, and what
 /// is more may go to what has to be written before.
-const RESERVED_BYTES: u64 = 393_216;
+const RESERVED_BYTES: u64 = 1_048_576;
 
-/// The bytes of it that stay for the reset itself: a heading and 1,024 names of 127 bytes, each with its sum.
-const KEPT_BYTES: u64 = 196_608;
+/// The bytes of it that stay for the reset itself: a heading and 4,096 names of 127 bytes, each with its sum.
+const KEPT_BYTES: u64 = 786_432;
 
 /// The bytes that are written at a time where nothing but their number counts.
 const PIECE: usize = 4_096;

@@ -38,11 +38,11 @@ fn put_run(out: &mut Vec<u8>, reductions: u64) -> Result<(), AllocError>
     put_line(out, buffer.format(reductions).as_bytes())
 }
 
-/// How many reductions the entry of a line has if it is a run, or else 0.
-fn run_of(alloc: Global, line: &[u8]) -> Result<u64, AllocError>
-    ensures { IfOk result (λ n. n ≡ run_of_line line.now) }
+/// How many reductions the entry of a line has by these rules if it is a run, or else 0.
+fn run_of(alloc: Global, rules: Rules, line: &[u8]) -> Result<u64, AllocError>
+    ensures { IfOk result (λ n. n ≡ run_of_line rules line.now) }
 {
-    match entry_of(alloc, line)? {
+    match entry_of(alloc, rules, line)? {
         Some(Deed::Run(reductions)) => Ok(reductions),
         _ => Ok(0),
     }
@@ -61,8 +61,8 @@ fn put_lines(out: &mut Vec<u8>, lines: &[Vec<u8>]) -> Result<(), AllocError>
 }
 
 /// How many reductions the entry of the last line has if it is a run, or else 0.
-fn last_run_of(alloc: Global, lines: &[Vec<u8>]) -> Result<u64, AllocError>
-    ensures { IfOk result (λ n. n ≡ run_of_lines (map (λ t. t.items) lines.now)) }
+fn last_run_of(alloc: Global, rules: Rules, lines: &[Vec<u8>]) -> Result<u64, AllocError>
+    ensures { IfOk result (λ n. n ≡ run_of_lines rules (map (λ t. t.items) lines.now)) }
 {
     let [first, others @ ..] = lines else {
         return Ok(0);
@@ -73,7 +73,7 @@ fn last_run_of(alloc: Global, lines: &[Vec<u8>]) -> Result<u64, AllocError>
         last = next;
         rest = more;
     }
-    run_of(alloc, last)
+    run_of(alloc, rules, last)
 }
 
 /// Puts the line of the reductions by which a run has grown, if it has.
@@ -102,9 +102,10 @@ pub fn grown(alloc: Global, journal: &Journal, mark: Mark) -> Result<Growth, All
     let [last, more @ ..] = page.texts() else {
         return Ok(Growth { bytes, mark });
     };
-    put_longer(&mut bytes, mark.run, run_of(alloc, last)?)?;
+    let rules = journal.rules();
+    put_longer(&mut bytes, mark.run, run_of(alloc, rules, last)?)?;
     put_lines(&mut bytes, more)?;
-    let run = last_run_of(alloc, page.texts())?;
+    let run = last_run_of(alloc, rules, page.texts())?;
     Ok(Growth {
         bytes,
         mark: Mark {
@@ -123,6 +124,7 @@ fn version(rules: Rules) -> &'static [u8]
         Rules::Two => b"2",
         Rules::Three => b"3",
         Rules::Four => b"4",
+        Rules::Five => b"5",
     }
 }
 
@@ -162,7 +164,7 @@ pub fn begun(alloc: Global, journal: &Journal) -> Result<Growth, AllocError>
     journal.shows_written();
     let text = journal.text_lines(alloc)?;
     let bytes = shut_text(alloc, journal, text.texts())?;
-    let run = last_run_of(alloc, text.texts())?;
+    let run = last_run_of(alloc, journal.rules(), text.texts())?;
     let lines = text.len() as u64;
     Ok(Growth {
         bytes,

@@ -1,5 +1,5 @@
 -- Changes of states one after another, goals that go, and shoens that end.
-use Rattle.kl1_machine.proofs.Words.{◌≡◌, ℕ, ◌+◌, ◌<◌, ◌≤◌, not, Bool, List, ◌∷◌, ◌++◌, refl, sym, ap, ◌∙◌, subst, arith, count_by, nat_lt, filter, list_any, State, change_shoen, path, without_monitor, ending_of, newly_exhausted, settle, terminate_each, CellName, Goal, is_monitor_of, Shoen, Tree, changed, path_in, path_zero, Numbered, Reading, meaning, shoen_with, IsShoenIn, worked, ended_each, ended_in, reached_in, terminates_apart, StillEnds, next_end, last_end, monitors_read, path_read, ending_read, reached_read, ends_turn, reached_after, paths_all, turns_then, turns_as, turns_none, changed_turns, Machine, made, IsMachine, Becomes, TurnsAs, having_goals, shifting_shoens, LifeEnds, LivesEnd, inl, inr, cases_Bool, ltb-true, ltb-false, count_none, count_some, None, finished_each_late}
+use Rattle.kl1_machine.proofs.Words.{◌≡◌, ℕ, not, Bool, List, ◌∷◌, refl, sym, ap, ◌∙◌, subst, arith, count_by, nat_lt, filter, list_any, State, change_shoen, path, without_monitor, ending_of, newly_exhausted, settle, terminate_each, CellName, Goal, is_monitor_of, Shoen, Tree, changed, path_in, path_zero, Numbered, Reading, meaning, shoen_with, IsShoenIn, worked, ended_each, ended_in, reached_in, terminates_apart, StillEnds, next_end, last_end, monitors_read, path_read, ending_read, reached_read, ends_turn, reached_after, paths_all, turns_then, turns_as, turns_none, changed_turns, Machine, made, IsMachine, Becomes, TurnsAs, having_goals, shifting_shoens, LifeEnds, LivesEnd, inl, inr, cases_Bool, ltb-true, ltb-false, count_none, count_some, None, finished_each_late, [], HasNoMonitor}
 use Rattle.kl1_model.specs.State as model
 use Rattle.kl1_user_effects.specs.Works as works
 
@@ -42,6 +42,11 @@ unmonitored m n k l =
       machine = i;
       named = record { name = refl; spelled = refl };
     })
+
+-- no monitor is left then
+pub none_left : (k : ℕ) (gs : List (Goal CellName)) → HasNoMonitor k (filter (λ g. not (is_monitor_of k g)) gs)
+none_left k [] = tt
+none_left k (g ∷ gs) = elim (cases_Bool (is_monitor_of k g)) [ inl is ↦ rw is (none_left k gs) | inr other ↦ rw other (other, none_left k gs) ]
 
 -- ---- a shoen that changes
 

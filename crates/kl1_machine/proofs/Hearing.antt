@@ -1,8 +1,11 @@
 -- What messages to shoens do to a machine, and what monitors read.
-use Rattle.kl1_machine.proofs.Words.{Held, subst, ◌≡◌, ℕ, ◌+◌, ◌-◌, ◌<◌, ◌≤◌, ◌==◌, not, ◌&&◌, Bool, true, false, if◌then◌else◌, List, [], ◌∷◌, length, map, drop, get_or, refl, sym, ap, ◌∙◌, find, Option, Some, option_map, filter, drop_more, drop_all, Aborted, is_among, State, change_shoen, is_living, path_within, report, close, exception, illegal_input, aborted_report, without_monitor, ended_below, Abort, Allow, Message, tells, tells_other, breaks_off, obeyed, heard, allowed_more, CellName, Cell, Goal, is_in, is_monitor_of, Shoen, has_number, changed, is_on_path_in, aborted_below_in, AreBelow, Means, meaning, goal_with, shoen_with, is_of_any, worked, below_tells, halted, allowing, controlled, all_stay, below_read, parents_read, path_read, finds, changes, Machine, made, IsMachine, Becomes, TurnsAs, having_goals, having_shoens, shifting_shoens, inl, inr, cases_Bool, maps_both, length-map, Term}
+use Rattle.kl1_machine.proofs.Words.{Held, subst, ◌≡◌, ℕ, ◌+◌, ◌-◌, ◌<◌, ◌≤◌, ◌==◌, not, ◌&&◌, Bool, true, false, if◌then◌else◌, List, [], ◌∷◌, length, map, drop, get_or, refl, sym, ap, ◌∙◌, find, Option, Some, option_map, filter, drop_more, drop_all, Aborted, is_among, State, change_shoen, is_living, path_within, report, close, exception, illegal_input, aborted_report, without_monitor, ended_below, Abort, Allow, Message, tells, tells_other, breaks_off, obeyed, heard, allowed_more, CellName, Cell, Goal, is_in, is_monitor_of, Shoen, has_number, changed, is_on_path_in, aborted_below_in, AreBelow, Means, meaning, goal_with, shoen_with, is_of_any, worked, below_tells, halted, allowing, controlled, all_stay, below_read, parents_read, path_read, finds, changes, Machine, made, IsMachine, Becomes, TurnsAs, having_goals, having_shoens, shifting_shoens, inl, inr, cases_Bool, maps_both, length-map, Term, AllByRecursion, Atom, EmptyList, built, nil, left_by, left_means, control_read, AreElsewhere}
 use Rattle.kl1_model.specs.State as model
 use Rattle.kl1_model.specs.Reduction.{with_control}
 use Rattle.kl1_model.specs.code.Steps as steps
+use Rattle.kl1_model.specs.declared.rules.Rules.{Rules}
+use Rattle.kl1_model.specs.Ending.{ended_as}
+use Rattle.kl1_shoen.specs.Shoens.{ended_with}
 use Rattle.kl1_machine.proofs.Ending.{as_then, as_same, as_none, changed_as, unmonitored}
 
 -- ---- a shoen that is stopped, or goes on
@@ -76,19 +79,20 @@ last_rid ns i m u le r = record {
 
 -- ---- aborts: as `kl1_user_effects` has it, where these are private
 
-if_aborted : (c : Bool) (t : Means) (h : Shoen CellName) → (if c then record (shoen_with t h) { life = Aborted } else shoen_with t h) ≡ shoen_with t (if c then record h { life = Aborted } else h)
-if_aborted true t h = refl
-if_aborted false t h = refl
+if_aborted : (c : Bool) (t : Means) (rules : Rules) (h : Shoen CellName) → t (Atom (built EmptyList)) ≡ nil → (if c then ended_as rules Aborted (shoen_with t h) else shoen_with t h) ≡ shoen_with t (if c then ended_with (left_by rules) Aborted h else h)
+if_aborted true t rules h is = ap (λ (x : Term). let z : model.Shoen = record (shoen_with t h) { life = Aborted; control = x } in z) (control_read t is rules h.origin h.control)
+if_aborted false t rules h is = refl
 
-aborted_read : (t : Means) (all : List (Shoen CellName)) (n : ℕ) (ss : List (Shoen CellName)) → map (steps.aborted_below (map (shoen_with t) all) n) (map (shoen_with t) ss) ≡ map (shoen_with t) (map (aborted_below_in all n) ss)
-aborted_read t all n ss =
-    maps_both (steps.aborted_below (map (shoen_with t) all) n) (shoen_with t) (shoen_with t) (aborted_below_in all n)
-    (λ h. ap (λ (ns : List ℕ). if is_living h.life && is_among n ns then record (shoen_with t h) { life = Aborted } else shoen_with t h) (path_read t all h.number) ∙ if_aborted (is_living h.life && is_on_path_in all n h.number) t h)
+aborted_read : (t : Means) (rules : Rules) (all : List (Shoen CellName)) (n : ℕ) (ss : List (Shoen CellName)) → t (Atom (built EmptyList)) ≡ nil →
+    map (steps.aborted_below rules (map (shoen_with t) all) n) (map (shoen_with t) ss) ≡ map (shoen_with t) (map (aborted_below_in (left_by rules) all n) ss)
+aborted_read t rules all n ss is =
+    maps_both (steps.aborted_below rules (map (shoen_with t) all) n) (shoen_with t) (shoen_with t) (aborted_below_in (left_by rules) all n)
+    (λ h. ap (λ (ns : List ℕ). if is_living h.life && is_among n ns then ended_as rules Aborted (shoen_with t h) else shoen_with t h) (path_read t all h.number) ∙ if_aborted (is_living h.life && is_on_path_in all n h.number) t rules h is)
     ss
 
 -- a machine with a shoen and all below it aborted, and their goals gone
 abbrev pub with_aborted : ℕ → List ℕ → Machine → Machine
-with_aborted k below m = shifting_shoens (map (aborted_below_in m.shoens.shoens k) m.shoens.shoens) (having_goals (rid_of below m.goals.goals) m)
+with_aborted k below m = shifting_shoens (map (aborted_below_in (left_by m.rules) m.shoens.shoens k) m.shoens.shoens) (having_goals (rid_of below m.goals.goals) m)
 
 aborts : (m : Machine) (k : ℕ) (below : List ℕ) → IsMachine m → AreBelow m.shoens.shoens k below → IsMachine (with_aborted k below m) → TurnsAs (λ f. ended_below k) m (with_aborted k below m)
 aborts m k below i b j =
@@ -101,17 +105,25 @@ aborts m k below i b j =
             let t = meaning f h in
             let S = worked f s h (made m) in
             let left = rid_of below m.goals.goals in
-            ap (λ (ps : List ℕ). let z : State = record S { goals = filter (λ g. not (is_among k (path_within g.shoen ps g.shoen))) S.goals; shoens = map (steps.aborted_below S.shoens k) S.shoens } in z) (parents_read t ss)
-            ∙ ap (λ (gs : List model.Goal). let z : State = record S { goals = gs; shoens = map (steps.aborted_below S.shoens k) S.shoens } in z) (below_read t (is_on_path_in ss k) below m.goals.goals (below_tells k ss below m.goals.goals b i.inside.owned))
-            ∙ ap (λ (xs : List model.Shoen). let z : State = record S { goals = map (goal_with t) left; shoens = xs } in z) (aborted_read t ss k ss)
-            ∙ ap (λ c. let z : State = record S { goals = map (goal_with t) left; shoens = map (shoen_with t) (map (aborted_below_in ss k) ss); last_shoen = c } in z) (sym (length-map ss (aborted_below_in ss k)));
+            ap (λ (ps : List ℕ). let z : State = record S { goals = filter (λ g. not (is_among k (path_within g.shoen ps g.shoen))) S.goals; shoens = map (steps.aborted_below m.rules S.shoens k) S.shoens } in z) (parents_read t ss)
+            ∙ ap (λ (gs : List model.Goal). let z : State = record S { goals = gs; shoens = map (steps.aborted_below m.rules S.shoens k) S.shoens } in z) (below_read t (is_on_path_in ss k) below m.goals.goals (below_tells k ss below m.goals.goals b i.inside.owned))
+            ∙ ap (λ (xs : List model.Shoen). let z : State = record S { goals = map (goal_with t) left; shoens = xs } in z) (aborted_read t m.rules ss k ss (left_means f h knows.reads))
+            ∙ ap (λ c. let z : State = record S { goals = map (goal_with t) left; shoens = map (shoen_with t) (map (aborted_below_in (left_by m.rules) ss k) ss); last_shoen = c } in z) (sym (length-map ss (aborted_below_in (left_by m.rules) ss k)));
       };
       machine = j;
       named = record { name = refl; spelled = refl };
     }
 
+-- the goals that are left are of shoens elsewhere
+elsewhere_by : (n : ℕ) (ss : List (Shoen CellName)) (below : List ℕ) (gs : List (Goal CellName)) → AllByRecursion (λ g. is_on_path_in ss n g.shoen ≡ is_of_any below g) gs → AreElsewhere ss n (rid_of below gs)
+elsewhere_by n ss below [] these = tt
+elsewhere_by n ss below (g ∷ gs) these = elim (cases_Bool (is_of_any below g)) [ inl gone ↦ rw gone (elsewhere_by n ss below gs these.1) | inr left ↦ rw left (these.0 ∙ left, elsewhere_by n ss below gs these.1) ]
+
+pub elsewhere_after : (m n : Machine) (k : ℕ) (below : List ℕ) → IsMachine m → AreBelow m.shoens.shoens k below → Becomes (having_goals (rid_of below m.goals.goals) m) n → AreElsewhere n.shoens.shoens k n.goals.goals
+elsewhere_after m n k below i b gone = rw gone.is (elsewhere_by k m.shoens.shoens below m.goals.goals (below_tells k m.shoens.shoens below m.goals.goals b i.inside.owned))
+
 -- one step after the other
-pub aborts_after : (m n u : Machine) (k : ℕ) (below : List ℕ) → IsMachine m → AreBelow m.shoens.shoens k below → Becomes (having_goals (rid_of below m.goals.goals) m) n → Becomes (shifting_shoens (map (aborted_below_in n.shoens.shoens k) n.shoens.shoens) n) u → TurnsAs (λ f. ended_below k) m u
+pub aborts_after : (m n u : Machine) (k : ℕ) (below : List ℕ) → IsMachine m → AreBelow m.shoens.shoens k below → Becomes (having_goals (rid_of below m.goals.goals) m) n → Becomes (shifting_shoens (map (aborted_below_in (left_by n.rules) n.shoens.shoens k) n.shoens.shoens) n) u → TurnsAs (λ f. ended_below k) m u
 aborts_after m n u k below i b gone ended =
     rw (ended.is, gone.is) (aborts m k below i b (rw (ended.is, gone.is) at ended.machine))
 

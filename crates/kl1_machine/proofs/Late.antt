@@ -1,5 +1,5 @@
 -- What comes after the effects of a reduction; if a variable becomes a name at the end, it is still unbound.
-use Rattle.kl1_machine.proofs.Words.{◌≡◌, ℕ, ◌+◌, ◌-◌, ◌<◌, ◌≤◌, not, Bool, true, false, if◌then◌else◌, List, [], ◌∷◌, ◌++◌, length, take, get_or, refl, sym, ap, ◌∙◌, subst, find, Option, None, option_map, OnOk, take_more, take_all, Term, State, shoen_at, path, broken_at, report, close, exhausted_report, terminated_report, without_monitor, newly_exhausted, after_reduction, CellName, Held, has_number, changed, Reading, meaning, shoen_with, worked, ended_each, is_late_tail, HasLate, KeepsLate, KeepsFree, report_late, report_each_late, close_late, finished_late, finished_each_late, settle_charged_late, finds, torn, changed_turns, changed_count, is_monitor_of, free_same, free_then, free_by, still_within, settles_early, Machine, made, IsMachine, Since, Turns, TurnsAs, Becomes, having_goals, having_shoens, LivesEnd, LateAs}
+use Rattle.kl1_machine.proofs.Words.{◌≡◌, ℕ, ◌+◌, ◌-◌, ◌<◌, ◌≤◌, not, Bool, true, false, if◌then◌else◌, List, [], ◌∷◌, ◌++◌, length, take, get_or, refl, sym, ap, ◌∙◌, subst, find, Option, None, option_map, OnOk, take_more, take_all, Term, State, shoen_at, path, broken_at, report, close, exhausted_report, terminated_report, without_monitor, newly_exhausted, after_reduction, CellName, Held, has_number, changed, Reading, meaning, shoen_with, worked, ended_each, is_late_tail, HasLate, KeepsLate, KeepsFree, report_late, report_each_late, close_late, finished_late, finished_each_late, settle_charged_late, finds, torn, changed_count, is_monitor_of, free_same, free_then, free_by, still_within, settles_early, Machine, made, IsMachine, Since, Turns, TurnsAs, Becomes, having_goals, having_shoens, LivesEnd, LateAs, change_shoen, turns_as, changed_turns_by, broken_as, left_as, left_means, torn_in, torn_read, leaving, leaving_in, leaving_read, left_at}
 use Rattle.std.specs.Prelude.{filter, Result}
 use Rattle.kl1_user_effects.proofs.Frames.{on_ok_both}
 use Rattle.kl1_machine.proofs.Sincing.{since_same}
@@ -32,7 +32,7 @@ tail_by m n v b f s is = ap (is_late_tail v) (finds s (meaning f m.store.held) (
 
 -- a machine of which a shoen's stream is broken
 abbrev pub with_torn : ℕ → Machine → Machine
-with_torn n m = having_shoens (changed n torn m.shoens.shoens) m
+with_torn n m = having_shoens (changed n (torn m.rules) m.shoens.shoens) m
 
 -- a stream that breaks in place of a report, as its tail becomes a name
 pub late_torn : (m : Machine) (n : ℕ) (v : Option ℕ) (message : Term) → IsMachine m → IsTail v n true m → LateAs v (λ f. report_late v n message) m (with_torn n m)
@@ -40,10 +40,11 @@ late_torn m n v message i is =
     let h = m.store.held in
     let w = made m in
     let B : State → State = λ s. broken_at n s in
-    let turns : Turns (λ f. B) m (with_torn n m) = λ ms. changed_turns ms h w n torn (λ x. record x { is_broken = true }) i.inside (λ s k. record { control = k.control; tail = k.tail; origin = k.origin; low = k.low; high = k.high }) (λ r s. refl) in
+    let turns : Turns (λ f. B) m (with_torn n m) = λ ms. turns_as ms (λ f. change_shoen n (broken_as m.rules)) (λ f. B) h h w (made (with_torn n m)) (λ f knows s. refl)
+    (changed_turns_by ms h w n (torn m.rules) (broken_as m.rules) i.inside (torn_in m.rules h) (λ f reads. torn_read (meaning f h) (left_means f h reads) m.rules)) in
     late_as v (λ f. B) (λ f. report_late v n message) m (with_torn n m) (λ f s. let S = worked f s h w in ap (λ c. if c then broken_at n S else report n message S) (tail_by m n v true f s is))
     (record {
-      does = record { turns = turns; machine = record { inside = (turns []).inside; last = i.last; placed = i.placed; known = i.known ∙ sym (changed_count n torn m.shoens.shoens) }; named = record { name = refl; spelled = refl } };
+      does = record { turns = turns; machine = record { inside = (turns []).inside; last = i.last; placed = i.placed; known = i.known ∙ sym (changed_count n (torn m.rules) m.shoens.shoens) }; named = record { name = refl; spelled = refl } };
       free = free_same v h;
     })
 
@@ -69,11 +70,30 @@ late_else r m o n v there ever within is does free =
     (record { does = p; free = free_by v n m.shoens.shoens m.store.held o.store.held within is q }))
     does free
 
+-- what is left of a control stream
+left_turns : (m n : Machine) (k : ℕ) → IsMachine m → Becomes (having_shoens (changed k (leaving m.rules) m.shoens.shoens) m) n → TurnsAs (λ f. left_at k) m n
+left_turns m n k i left =
+    let h = m.store.held in
+    let w = made m in
+    let gone : Machine = having_shoens (changed k (leaving m.rules) m.shoens.shoens) m in
+    rw left.is (record {
+      turns = λ ms. turns_as ms (λ f. change_shoen k (left_as m.rules)) (λ f. left_at k) h h w (made gone) (λ f knows s. refl)
+          (changed_turns_by ms h w k (leaving m.rules) (left_as m.rules) i.inside (leaving_in m.rules h) (λ f reads. leaving_read (meaning f h) (left_means f h reads) m.rules));
+      machine = rw left.is at left.machine;
+      named = record { name = refl; spelled = refl };
+    })
+
+-- a monitor is gone, and what is left of the control stream is left
+pub late_left : (m n l : Machine) (k : ℕ) (v : Option ℕ) → Becomes (having_goals (filter (λ g. not (is_monitor_of k g)) m.goals.goals) m) n → Becomes (having_shoens (changed k (leaving n.rules) n.shoens.shoens) n) l → LateAs v (λ f s. left_at k (without_monitor k s)) m l
+late_left m n l k v gone left =
+    late_then v (λ f. without_monitor k) (λ f. left_at k) m n l (late_same v (λ f. without_monitor k) m n (ap (λ (x : Machine). x.store.held) gone.is) (unmonitored m n k gone))
+    (late_same v (λ f. left_at k) n l (ap (λ (x : Machine). x.store.held) left.is) (left_turns n l k gone.machine left))
+
 -- what is left of a termination
-pub late_finished : (m n o u : Machine) (k : ℕ) (v : Option ℕ) → Becomes (having_goals (filter (λ g. not (is_monitor_of k g)) m.goals.goals) m) n → LateAs v (λ f. report_late v k terminated_report) n o → LateAs v (λ f. close_late v k) o u → LateAs v (λ f. finished_late v k) m u
-late_finished m n o u k v gone told closed =
-    late_then v (λ f s. report_late v k terminated_report (without_monitor k s)) (λ f. close_late v k) m o u
-    (late_then v (λ f. without_monitor k) (λ f. report_late v k terminated_report) m n o (late_same v (λ f. without_monitor k) m n (ap (λ (x : Machine). x.store.held) gone.is) (unmonitored m n k gone)) told) closed
+pub late_finished : (m l o u : Machine) (k : ℕ) (v : Option ℕ) → LateAs v (λ f s. left_at k (without_monitor k s)) m l → LateAs v (λ f. report_late v k terminated_report) l o → LateAs v (λ f. close_late v k) o u → LateAs v (λ f. finished_late v k) m u
+late_finished m l o u k v left told closed =
+    late_then v (λ f s. report_late v k terminated_report (left_at k (without_monitor k s))) (λ f. close_late v k) m o u
+    (late_then v (λ f s. left_at k (without_monitor k s)) (λ f. report_late v k terminated_report) m l o left told) closed
 
 -- ---- each of some shoens
 

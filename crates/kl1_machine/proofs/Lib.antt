@@ -12,6 +12,7 @@ mod Shifting
 pub mod Resting
 mod Flags
 mod Shoens
+mod Emptying
 mod Reaching
 mod Unifying
 mod Opening

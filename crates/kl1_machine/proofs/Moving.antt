@@ -1,5 +1,5 @@
 -- What a goal's move does to a machine, and a move with the charge before it.
-use Rattle.kl1_machine.proofs.Words.{◌≡◌, ℕ, suc, Bool, List, [], length, refl, sym, ap, ◌∙◌, subst, Some, Candidate, State, charge, commits, unifies, names, opens, gives_way, moved, CellName, Cell, Qualified, IsIn, Move, ExecuteArguments, order_at, IsOrder, IsCandidate, IsMove, Reduces, Goal, Numbered, Reading, meaning, goal_with, aim, IsOwned, worked, Knows, name_for, turns_as, replaced_turns, Machine, made, IsMachine, goal_at, Turns, with_goal, Puts, Charges, TurnsAs, Commits, UnifiesAs, OpensChild, Making, IsMade, MovesAs, ReadsAll, StandsFor, Predicate, taken_places}
+use Rattle.kl1_machine.proofs.Words.{most_names, ◌≡◌, ℕ, suc, Bool, List, [], length, refl, sym, ap, ◌∙◌, subst, Some, Candidate, State, charge, commits, unifies, opens, gives_way, moved, CellName, Cell, Qualified, IsIn, Move, ExecuteArguments, order_at, IsOrder, IsCandidate, IsMove, Reduces, Goal, Numbered, Reading, meaning, goal_with, aim, IsOwned, worked, Knows, name_for, turns_as, replaced_turns, Machine, made, IsMachine, goal_at, with_goal, Puts, Charges, TurnsAs, Commits, UnifiesAs, OpensChild, Making, IsMade, MovesAs, ReadsAll, StandsFor, Predicate, taken_places}
 use Rattle.kl1_model.specs.Term as term
 use Rattle.kl1_model.specs.Reduction as model
 use Rattle.kl1_goals_moves.specs.declared.moves.Move.TheVariants as move
@@ -68,10 +68,10 @@ moves_giving_way a goal x m n is i inside own p =
 
 -- a goal has made a move, after a charge of its shoen; a name that is new has been used
 pub record RunsAs (a : Making) (goal : Goal CellName) (x : Qualified CellName) (m n : Machine) : Type 0 where
-  pub turns : (ms : List Numbered) (k : Reading → model.Move) (key : CellName) → ReadsAll a.move ms m.store.held m.names.names a.text key → IsMade a ms m k →
+  pub turns : (ms : List Numbered) (k : Reading → model.Move) (key : CellName) → ReadsAll (most_names m) a.move ms m.store.held m.names.names a.text key → IsMade a ms m k →
       works.Turns ms (λ f s. moved (goal_with (meaning f m.store.held) goal) (aim f m.store.held x) (k f) (charge goal.shoen s)) m.store.held n.store.held (made m) (made n)
   pub machine : IsMachine n
-  pub name : n.name ≡ name_for a.move m.names.names a.text
+  pub name : n.name ≡ name_for (most_names m) a.move m.names.names a.text
   pub spelled : n.spelled ≡ m.spelled
 
 pub runs : (a : Making) (b : Move CellName) (goal : Goal CellName) (x : Qualified CellName) (m c d u : Machine) (reached : Bool) → Charges goal.shoen m c reached → StandsFor b a c d → MovesAs (record a { move = b }) goal x d u → RunsAs a goal x m u

@@ -1,7 +1,9 @@
 -- Cells that stand in goals and shoens, when a shoen reports or joins.
-use Rattle.kl1_machine.proofs.Words.{◌≡◌, ℕ, suc, true, List, [], ◌∷◌, ◌++◌, map, refl, sym, ap, ap₂, ◌∙◌, map-append, variable, CellName, Cell, Kept, Shoen, Tree, has_number, changed, Reading, goal_with, shoen_with, torn, tailed, Machine, bare, IsPlain, IsPlainShoen, ArePlain}
+use Rattle.kl1_machine.proofs.Words.{◌≡◌, ℕ, suc, true, List, [], ◌∷◌, ◌++◌, map, refl, sym, ap, ap₂, ◌∙◌, map-append, variable, CellName, Cell, Kept, Shoen, Tree, has_number, changed, Reading, goal_with, shoen_with, torn, tailed, Machine, bare, IsPlain, IsPlainShoen, ArePlain, Bool, false, if◌then◌else◌, Some, None, Term, atom, EmptyList, has_forgetting, Reads, built, Atom}
 use Rattle.std.proofs.lemmas.Bool.{cases_Bool}
 use Rattle.std.proofs.Common.{inl, inr}
+use Rattle.std.specs.Prelude.{unwrap_or}
+use Rattle.kl1_model.specs.declared.rules.Rules.{Rules}
 use Rattle.kl1_model.specs.State as model
 use Rattle.kl1_machine.proofs.Opening.{monitor_for, goal_for, Joins, joined_is}
 
@@ -25,8 +27,17 @@ pub reported_plain : (f g : Reading) (m : Machine) (k : Kept CellName) (t : Tree
 reported_plain f g m k t n reports F is stays p =
     record { goals = p.goals; shoens = rw is (changed_plain f g n F stays m.shoens.shoens p.shoens) }
 
-pub torn_plain : (f g : Reading) (h : Shoen CellName) → IsPlainShoen f g h → IsPlainShoen f g (torn h)
-torn_plain f g h p = ap (λ (k : model.Shoen). let z : model.Shoen = record k { is_broken = true } in z) p
+-- what is left of a stream is read the same by all that read the names of the language
+nil_plain : (f g : Reading) → Reads built f → Reads built g → bare f (Atom (built EmptyList)) ≡ bare g (Atom (built EmptyList))
+nil_plain f g one two = ap atom (one.texts EmptyList ∙ sym (two.texts EmptyList))
+
+pub torn_plain : (rules : Rules) (f g : Reading) → Reads built f → Reads built g → (h : Shoen CellName) → IsPlainShoen f g h → IsPlainShoen f g (torn rules h)
+torn_plain rules f g one two h p =
+    ap₂ (λ (k : model.Shoen) (t : Term). let z : model.Shoen = record k { is_broken = true; tail = t } in z) p (by_rules (has_forgetting rules))
+  where
+    by_rules : (b : Bool) → bare f (unwrap_or (if b then Some (Atom (built EmptyList)) else None) h.tail) ≡ bare g (unwrap_or (if b then Some (Atom (built EmptyList)) else None) h.tail)
+    by_rules true = nil_plain f g one two
+    by_rules false = ap (λ (k : model.Shoen). k.tail) p
 
 pub tailed_plain : (f g : Reading) (next : ℕ) (h : Shoen CellName) → IsPlainShoen f g h → IsPlainShoen f g (tailed next h)
 tailed_plain f g next h p = ap (λ (k : model.Shoen). let z : model.Shoen = record k { tail = variable next } in z) p

@@ -1,5 +1,5 @@
 -- What a reduction has left when its name is published.
-use Rattle.kl1_machine.proofs.Words.{◌≡◌, ℕ, ◌&&◌, false, List, refl, sym, ap, ◌∙◌, subst, Option, Some, None, State, is_in_run, reduce, reduced, Transition, is_full, needs_entry, with_reduction, step, Action, acted, CellName, Known, number_by, Cell, Atom, Binding, Held, IsIn, with_binding, contents, Program, Spelled, Reading, Fits, meaning, goal_with, texts_of, names_with, NameShelf, AreSmall, spare, IsNewName, AreSettled, Made, IsMadeIn, worked, Machine, made, Trail, Keeps, IsRested, IsBoundLast, HoldsSpare, Patches, CanPublish, IsNamed, Publishes, Judges, exchanged, ReadsAlike, goals_in_by, shoens_in_by, with_spare, spare_texts, spare_fits, spare_reads, exchanged_fits, settled_alike, inl, inr}
+use Rattle.kl1_machine.proofs.Words.{most_names, ◌≡◌, ℕ, ◌&&◌, false, List, refl, sym, ap, ◌∙◌, subst, Option, Some, None, State, is_in_run, reduce, reduced, Transition, is_full, needs_entry, with_reduction, step, Action, acted, CellName, Known, number_by, Cell, Atom, Binding, Held, IsIn, with_binding, contents, Program, Spelled, Reading, Fits, meaning, goal_with, texts_of, names_with, NameShelf, AreSmall, spare, IsNewName, AreSettled, Made, IsMadeIn, worked, Machine, made, Trail, Keeps, IsRested, IsBoundLast, HoldsSpare, Patches, CanPublish, IsNamed, Publishes, Judges, exchanged, ReadsAlike, goals_in_by, shoens_in_by, with_spare, spare_texts, spare_fits, spare_reads, exchanged_fits, settled_alike, inl, inr}
 use Rattle.std.proofs.lemmas.List.{same_from_push}
 use Rattle.kl1_model.specs.State as model
 use Rattle.kl1_atoms.specs.Knowing.{option_cases}
@@ -115,7 +115,7 @@ module _ (program : Program) (n c : ℕ) (m u v : Machine) (q : Comes program n 
         let stays : v.store.held ≡ u.store.held = rw none at q.published.patches in
         rw stays (q.rests.settled f (q.published.named.fits f fits))
     | inr is ↦
-        let new : IsNewName u.names.names (Some is.0) = rw is.1 at q.can.name in
+        let new : IsNewName (most_names u) u.names.names (Some is.0) = rw is.1 at q.can.name in
         settled_named is.0 is.1 (ap (λ (x : NameShelf). number_by x.names is.0) (sym names_are) ∙ new.1.0) f fits
   ]
 

@@ -1,13 +1,13 @@
 -- A name that is published.
-use Rattle.kl1_machine.proofs.Words.{◌≡◌, ℕ, ◌+◌, ◌≤◌, ◌<◌, ◌^◌, true, List, [], ◌∷◌, length, refl, sym, ap, ◌∙◌, subst, inr, arith, leb-true, length-map, length_push, map-append, MOST_NAMES, with_name, AtomNo, CellName, Known, number_by, Adds, HasRoom, still_known, Kept, Spelled, texts_of, NameShelf, AreSmall, keeps_names, added_new, fits_less, new_named, Machine, made, Patches, CanPublish, IsNamed, Publishes, all_append}
+use Rattle.kl1_machine.proofs.Words.{◌≡◌, ℕ, ◌+◌, ◌≤◌, ◌<◌, ◌^◌, true, List, [], ◌∷◌, length, refl, sym, ap, ◌∙◌, subst, inr, arith, leb-true, length-map, length_push, map-append, with_name, AtomNo, CellName, Known, number_by, Adds, HasRoom, still_known, Kept, Spelled, texts_of, NameShelf, AreSmall, keeps_names, added_new, fits_less, new_named, Machine, made, Patches, CanPublish, IsNamed, Publishes, all_append}
 use Rattle.std.proofs.Common.{Option, Some, None}
 
 -- there is room for a name that is new, which the account may use, in a table
-pub room_for_name : (ks : List Known) (t : List ℕ) → number_by ks t ≡ None → keeps_names ks t ≡ true → HasRoom ks t
-room_for_name ks t new keeps =
-    let few : length (with_name (texts_of ks) t) ≤ MOST_NAMES = leb-true (length (with_name (texts_of ks) t)) MOST_NAMES keeps in
+pub room_for_name : (most room : ℕ) (ks : List Known) (t : List ℕ) → number_by ks t ≡ None → keeps_names most ks t ≡ true → most ≤ room → HasRoom room ks t
+room_for_name most room ks t new keeps within =
+    let few : length (with_name (texts_of ks) t) ≤ most = leb-true (length (with_name (texts_of ks) t)) most keeps in
     let count : length (with_name (texts_of ks) t) ≡ length ks + 1 = ap length (new_named ks t new) ∙ length_push (texts_of ks) t ∙ ap (λ (k : ℕ). k + 1) (length-map ks (λ (k : Known). k.text)) in
-    inr (omega (arith, few, count))
+    inr (omega (arith, few, count, within))
 
 -- an account has these names, if a name of it got this number, which is none of the spare ones
 pub record IsNumbered (known more : List Known) (name : Option (List ℕ)) (k : CellName) : Type 0 where

@@ -129,7 +129,7 @@ raised_unasked m k goal kind term message u b a tells held hooks =
     let h = m.store.held in
     let w = made m in
     let n = goal.shoen in
-    let ss = unheard n (find (has_number n) m.shoens.shoens) m.shoens.shoens in
+    let ss = unheard m.rules n (find (has_number n) m.shoens.shoens) m.shoens.shoens in
     let unmade : (f : Reading) (ms : List Numbered) → Knows ms f → (s : State) → is_reported n (exception (text_of kind) (meaning f h term)) (worked f s h w) ≡ false = λ f ms knows s. told_here m k goal kind term message u false a tells f knows.reads s in
     let v : Machine = record m { store = b; shoens = record m.shoens { shoens = ss } } in
     let is : record u { store = b } ≡ v = ap (λ (y : Machine). let q : Machine = record y { store = b } in q) (tells.dropped refl) in

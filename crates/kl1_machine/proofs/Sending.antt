@@ -14,7 +14,7 @@ going_read t next e h = ap (λ o. let z : model.Shoen = record (shoen_with t h) 
   where
     by_case : (o : Option (Origin CellName)) → option_map (model_sending.origin_with (variable next)) (option_map (origin_with t) o) ≡ option_map (origin_with t) (option_map (with_control (Variable next)) o)
     by_case None = refl
-    by_case (Some o) = ap (λ x. let z : Option model.Origin = Some (record { goal = t o.goal; reports = t o.reports; control = x }) in z) (sym e)
+    by_case (Some o) = ap (λ x. let z : Option model.Origin = Some (record { goal = t o.goal; forgotten = o.forgotten; reports = t o.reports; control = x }) in z) (sym e)
 
 -- if the tail is no variable
 pub nothing_sent : (n : ℕ) (message : Message) (x : Cell CellName) (m : Machine) (k : Kept CellName) → IsMachine m → Grows m k → PutAs built m.store.held k.held x message None → TurnsAs (λ f. sent_on n message (meaning f m.store.held x)) m (record m { store = k })

@@ -1,6 +1,10 @@
 -- What changes of shoens leave since an event began.
-use Rattle.kl1_machine.proofs.Words.{rules, ◌≡◌, ℕ, ◌+◌, ◌-◌, ◌≤◌, ◌==◌, ◌||◌, Bool, true, false, List, [], ◌∷◌, ◌++◌, length, refl, sym, ap, ◌∙◌, arith, Vec, Option, Some, None, option_map, OnOk, OnErr, AllByRecursion, Result, Ok, Err, eqb-false, eq-eqb, on_ok_weaker, is_among, CellName, Cell, Held, IsIn, Goal, is_monitor_of, Tabled, Shoen, Origin, Tree, changed, AreNumbered, AreLower, with_control, IsOwned, AreOwned, IsOriginIn, IsShoenIn, AreShoensIn, KeepsBy, plain, IsCalm, SameFlags, outline, KeepsOutlines, KeepsOthers, keeps_changed, keeps_more, calm_controlled, others_keep, outlines_controlled, Machine, trail_of, IsMachine, Becomes, Charges, any_reached, having_shoens, shifting_shoens, with_shoen, KeepsControl, Since, StillSince, IsOnlyMonitor, shoens_changed, changed_count, inl, inr, cases_Bool, list_any-append, or_parts, or-true, all_append, all_then}
+use Rattle.kl1_shoen.specs.Changes.{reports_left}
+use Rattle.kl1_machine.proofs.Words.{rules, ◌≡◌, ℕ, ◌+◌, ◌-◌, ◌≤◌, ◌==◌, ◌||◌, Bool, true, false, List, [], ◌∷◌, ◌++◌, length, refl, sym, ap, ◌∙◌, arith, Vec, Option, Some, None, option_map, OnOk, OnErr, AllByRecursion, Result, Ok, Err, eqb-false, eq-eqb, on_ok_weaker, is_among, CellName, Cell, Held, IsIn, Goal, is_monitor_of, Tabled, Shoen, Origin, Tree, changed, AreNumbered, AreLower, with_control, IsOwned, AreOwned, IsOriginIn, IsShoenIn, AreShoensIn, KeepsBy, plain, IsCalm, SameFlags, outline, KeepsOutlines, KeepsOthers, keeps_changed, keeps_more, calm_controlled, others_keep, outlines_controlled, Machine, trail_of, IsMachine, Becomes, Charges, any_reached, having_shoens, shifting_shoens, with_shoen, KeepsControl, Since, StillSince, IsOnlyMonitor, shoens_changed, changed_count, inl, inr, cases_Bool, list_any-append, or_parts, or-true, all_append, all_then, ap₂, eqb-true, false≢true, has_number, is_living, is_on_path_in, aborted_below_in, control_left, control_at, left_by, leaving, AreElsewhere, HasNoMonitor, outlines_leaving, length-map}
+use Rattle.std.specs.Prelude.{map, if◌then◌else◌}
 use Rattle.std.proofs.lemmas.List.{length-append}
+use Rattle.kl1_goals.specs.Lists.{is_monitor}
+use Rattle.kl1_model.specs.declared.rules.Rules.{Rules}
 use Rattle.kl1_machine.proofs.Flags.{same_flags, charge_flags}
 use Rattle.kl1_machine.proofs.Sincing.{each_both, since_counts}
 
@@ -39,7 +43,7 @@ flags_then : (b m : Machine) (t : Tree CellName) (shifts : Bool) → (shifts ≡
 flags_then b m t shifts f s e k le = let more = s.shoens in (f e).1 k (omega (arith, le, more)) ∙ s.flags (f e).0 k le
 
 -- a machine of which only shoens are others, how many the table of goals knows, what is noted of them, and who is told
-since_tree : (b m : Machine) (hs : List (Shoen CellName)) (room known : ℕ) (shifts : Bool) (v : Vec ℕ) → length m.shoens.shoens ≤ length hs → AllByRecursion (KeepsControl b (telling hs v m)) m.goals.goals → (shifts ≡ false → (m.shifts ≡ false) × SameFlags m.shoens (record m.shoens { shoens = hs })) → Since b m →
+pub since_tree : (b m : Machine) (hs : List (Shoen CellName)) (room known : ℕ) (shifts : Bool) (v : Vec ℕ) → length m.shoens.shoens ≤ length hs → AllByRecursion (KeepsControl b (telling hs v m)) m.goals.goals → (shifts ≡ false → (m.shifts ≡ false) × SameFlags m.shoens (record m.shoens { shoens = hs })) → Since b m →
     Since b (record m { shoens = record m.shoens { shoens = hs; room = room }; goals = record m.goals { shoens = known }; shifts = shifts; told = v })
 since_tree b m hs room known shifts v more controls flags s = record {
   keeps = record { grown = s.keeps.grown; trail = s.keeps.trail };
@@ -117,6 +121,80 @@ pub since_quiet : {T E : Type 0} (r : Result T E) (b m : Machine) (t : Tree Cell
 since_quiet r b m t n f q tree i ok err =
     since_either r b m t (changed n f m.shoens.shoens) m.shifts m.told ok err (quiet_left b m n f q tree i)
 
+-- ---- what is left of control streams
+
+-- a monitor has the control stream before it that it had, with these shoens
+abbrev KeepsBefore : List (Shoen CellName) → Machine → Goal CellName → Type 0
+KeepsBefore hs m g = is_monitor g ≡ true → control_at hs g.shoen ≡ control_at m.shoens.shoens g.shoen
+
+-- if all monitors that are there have, and goals may step as before, unless that is to be looked at
+since_before : {T E : Type 0} (r : Result T E) (b m : Machine) (t : Tree CellName) (hs : List (Shoen CellName)) (shifts : Bool) → length hs ≡ length m.shoens.shoens → AllByRecursion (KeepsBefore hs m) m.goals.goals →
+    (shifts ≡ false → (m.shifts ≡ false) × SameFlags m.shoens (with_shoens hs m.shoens)) → OnOk r (t ≡ with_shoens hs m.shoens) → OnErr r (t ≡ m.shoens) → Since b m → StillSince r b (record m { shoens = t; shifts = shifts })
+since_before r b m t hs shifts same before flags ok err =
+    since_either r b m t hs shifts m.told ok err
+    (λ s. since_tree b m hs m.shoens.room m.goals.shoens shifts m.told (omega (arith, same))
+    (each_both (KeepsBefore hs m) (KeepsControl b m) (KeepsControl b (having_shoens hs m)) (λ g stays k le monitor told. stays monitor ∙ k le monitor told) m.goals.goals before s.controls) flags s)
+
+-- a shoen without a monitor leaves what is left of its control stream
+left_before : (m : Machine) (n : ℕ) → AreNumbered 0 m.shoens.shoens → (gs : List (Goal CellName)) → AreOwned (length m.shoens.shoens) gs → HasNoMonitor n gs → AllByRecursion (KeepsBefore (changed n (leaving m.rules) m.shoens.shoens) m) gs
+left_before m n numbered [] own none = tt
+left_before m n numbered (g ∷ gs) own none = (one, left_before m n numbered gs own.1 none.1)
+  where
+    one : KeepsBefore (changed n (leaving m.rules) m.shoens.shoens) m g
+    one monitor = elim (cases_Bool (g.shoen == n)) [
+      | inl e ↦ let no : true ≡ false = rw (e, monitor) at none.0 in absurd (false≢true (sym no))
+      | inr e ↦
+          let low = own.0.low in
+          let high = own.0.high in
+          others_keep n m.shoens.shoens (changed n (leaving m.rules) m.shoens.shoens) numbered (outlines_leaving m.rules n m.shoens.shoens) g.shoen low (omega (arith, high)) (eqb-false g.shoen n e)
+    ]
+
+pub since_leaves : {T E : Type 0} (r : Result T E) (b m : Machine) (t : Tree CellName) (n : ℕ) → HasNoMonitor n m.goals.goals → IsTree m.shoens → IsMachine m → OnOk r (t ≡ with_shoens (changed n (leaving m.rules) m.shoens.shoens) m.shoens) → OnErr r (t ≡ m.shoens) → Since b m →
+    StillSince r b (record m { shoens = t })
+since_leaves r b m t n none tree i ok err =
+    let hs = changed n (leaving m.rules) m.shoens.shoens in
+    let u = with_shoens hs m.shoens in
+    let calm : IsCalm m.shoens u = record { shoens = keeps_changed plain (leaving m.rules) n m.shoens.shoens (λ h. refl); work = refl } in
+    since_before r b m t hs m.shifts (changed_count n (leaving m.rules) m.shoens.shoens) (left_before m n tree.numbered m.goals.goals i.inside.owned none)
+    (λ e. (e, same_flags m.shoens u tree.numbered tree.lower tree.worked calm)) ok err
+
+-- by rules by which nothing is let go all of it stays
+pub unleaving : (rules : Rules) (n : ℕ) → left_by rules ≡ None → (ss : List (Shoen CellName)) → changed n (leaving rules) ss ≡ ss
+unleaving rules n none [] = refl
+unleaving rules n none (h ∷ hs) = ap₂ (λ (x : Shoen CellName) (xs : List (Shoen CellName)). x ∷ xs) one (unleaving rules n none hs)
+  where
+    kept : leaving rules h ≡ h
+    kept = ap (λ (left : Option (Cell CellName)). let z : Shoen CellName = record h { control = control_left left h.origin h.control } in z) none
+
+    one : (if has_number n h then leaving rules h else h) ≡ h
+    one = elim (cases_Bool (has_number n h)) [ inl p ↦ rw p kept | inr p ↦ rw p ]
+
+-- an abort changes no control stream but of shoens below the one
+aborted_beside : (left : Option (Cell CellName)) (all : List (Shoen CellName)) (n k : ℕ) → is_on_path_in all n k ≡ false → (xs : List (Shoen CellName)) → control_at (map (aborted_below_in left all n) xs) k ≡ control_at xs k
+aborted_beside left all n k off [] = refl
+aborted_beside left all n k off (x ∷ xs) = elim (cases_Bool (is_living x.life)) [
+  | inr dead ↦ rw dead (same (aborted_beside left all n k off xs))
+  | inl lives ↦ rw lives (elim (cases_Bool (is_on_path_in all n x.number)) [
+    | inr beside ↦ rw beside (same (aborted_beside left all n k off xs))
+    | inl below ↦ rw below (elim (cases_Bool (x.number == k)) [
+      | inl is ↦ absurd (false≢true (sym off ∙ ap (is_on_path_in all n) (sym (eqb-true x.number k is)) ∙ below))
+      | inr other ↦ rw other (aborted_beside left all n k off xs)
+    ])
+  ])
+]
+  where
+    same : control_at (map (aborted_below_in left all n) xs) k ≡ control_at xs k → control_at (x ∷ map (aborted_below_in left all n) xs) k ≡ control_at (x ∷ xs) k
+    same rest = elim (cases_Bool (x.number == k)) [ inl is ↦ rw is | inr other ↦ rw other rest ]
+
+aborted_before : (m : Machine) (left : Option (Cell CellName)) (n : ℕ) (gs : List (Goal CellName)) → AreElsewhere m.shoens.shoens n gs → AllByRecursion (KeepsBefore (map (aborted_below_in left m.shoens.shoens n) m.shoens.shoens) m) gs
+aborted_before m left n gs elsewhere =
+    all_then (λ g. is_on_path_in m.shoens.shoens n g.shoen ≡ false) (KeepsBefore (map (aborted_below_in left m.shoens.shoens n) m.shoens.shoens) m) (λ g off monitor. aborted_beside left m.shoens.shoens n g.shoen off m.shoens.shoens) gs elsewhere
+
+pub since_aborts : {T E : Type 0} (r : Result T E) (b m : Machine) (t : Tree CellName) (left : Option (Cell CellName)) (n : ℕ) → AreElsewhere m.shoens.shoens n m.goals.goals → OnOk r (t ≡ with_shoens (map (aborted_below_in left m.shoens.shoens n) m.shoens.shoens) m.shoens) → OnErr r (t ≡ m.shoens) → Since b m →
+    StillSince r b (record m { shoens = t; shifts = true })
+since_aborts r b m t left n elsewhere ok err =
+    since_before r b m t (map (aborted_below_in left m.shoens.shoens n) m.shoens.shoens) true (length-map m.shoens.shoens (aborted_below_in left m.shoens.shoens n)) (aborted_before m left n m.goals.goals elsewhere) (λ e. absurd (cc)) ok err
+
 -- ---- another control stream
 
 told_last : (k : ℕ) (ns : List ℕ) → is_among k (ns ++ k ∷ []) ≡ true
@@ -191,6 +269,11 @@ since_opened b m x room tree i s =
 pub origin_kept : (h : Held CellName) (o : Option (Origin CellName)) (x : Cell CellName) → IsIn h x → IsOriginIn h o → IsOriginIn h (option_map (with_control x) o)
 origin_kept h None x inside i = tt
 origin_kept h (Some o) x inside i = record { goal = i.goal; reports = i.reports; control = inside }
+
+-- so is one with this left of its reports
+pub origin_left : (h : Held CellName) (o : Option (Origin CellName)) (count : ℕ) (x : Cell CellName) → IsIn h x → IsOriginIn h o → IsOriginIn h (option_map (reports_left count x) o)
+origin_left h None count x inside i = tt
+origin_left h (Some o) count x inside i = record { goal = i.goal; reports = inside; control = i.control }
 
 -- one shoen that has changed so that goals may step as before, and another count of reports
 pub since_changed : (b m : Machine) (n reports : ℕ) (f : Shoen CellName → Shoen CellName) → IsQuiet f → IsTree m.shoens → IsMachine m → Since b m → Since b (record m { shoens = with_shoens (changed n f m.shoens.shoens) m.shoens; counts = record m.counts { reports = reports } })

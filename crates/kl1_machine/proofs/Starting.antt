@@ -45,7 +45,7 @@ built_goal goal numbers row m one k cells x p variables nodes =
 -- ---- streams that open
 
 pub streams_opened : (goal : Cell CellName) (m : Machine) (a : Held CellName) (k : Kept CellName) (control reports : ℕ) → IsMachine m → IsFormed m.store.held → IsIn m.store.held goal → (control ≡ m.store.held.variables) × (a ≡ with_variable m.store.held) → (reports ≡ a.variables) × (k.held ≡ with_variable a) → k.hooks ≡ m.store.hooks →
-    OpensStreams goal m (record m { store = k }) (record { goal = goal; reports = cell.Variable reports; control = cell.Variable control })
+    OpensStreams goal m (record m { store = k }) (record { goal = goal; forgotten = 0; reports = cell.Variable reports; control = cell.Variable control })
 streams_opened goal m a k control reports i formed j p q hooks =
     let h = m.store.held in
     let one = with_variable h in
@@ -65,6 +65,7 @@ streams_opened goal m a k control reports i formed j p q hooks =
       variables = count;
       kept = λ f y l. same f y;
       goal = refl;
+      forgotten = refl;
       control = ap (λ v. let y : Cell CellName = cell.Variable v in y) first;
       reports = ap (λ v. let y : Cell CellName = cell.Variable v in y) second;
       free = λ f. (
@@ -155,7 +156,7 @@ shoen_for number w o = record {
 -- a shoen has opened for a cell, and brings no name that stands by itself but one that two readings read the same
 pub record Opens (h : Shoen CellName) (x : Cell CellName) (m n : Machine) : Type 0 where
   pub opens : OpensAs h x m n
-  pub plain : (f g : Reading) → IsPlainShoen f g h → IsPlain f g x → ArePlain f g m → ArePlain f g n
+  pub plain : (f g : Reading) → Reads built f → Reads built g → IsPlainShoen f g h → IsPlain f g x → ArePlain f g m → ArePlain f g n
 
 -- a machine that counts the variables of a start, and these structures
 abbrev pub starting : Start → ℕ → Machine → Machine
@@ -220,6 +221,7 @@ module _ (numbers : List CellName) (w : Start) (nodes : ℕ) (m a b : Machine) (
       let count : a.store.held.variables ≡ m.store.held.variables + highest goal = g.builds.variables in
       let first : a.store.held.variables ≡ suc top = omega (arith, some, count) in
       let goal_is : with_next_variables last goal ≡ t o.goal = goal_read f reads names ∙ ap t (sym g.streams.goal) in
+      let none : o.forgotten ≡ 0 = g.streams.forgotten in
       let control_is : variable (suc top) ≡ t o.control = sym ((g.streams.free f).0 ∙ ap (λ n. variable n) first) in
       let reports_is : variable (suc (suc top)) ≡ t o.reports = sym ((g.streams.free f).1 ∙ ap (λ n. variable (suc n)) first) in
       cc
@@ -252,7 +254,7 @@ module _ (numbers : List CellName) (w : Start) (nodes : ℕ) (m a b : Machine) (
             ∙ ap named ((p.opens.turns []).states f (record { reads = reads; rows = tt }) s);
         plain = λ f k first second names q.
             let cell = goal_plain f k goal last a.store.held x g.can.goal first second (g.builds.means k second names) in
-            p.plain f k (shoen_plain (suc (length m.shoens.shoens)) f k cell) cell (record { goals = q.goals; shoens = q.shoens });
+            p.plain f k first second (shoen_plain (suc (length m.shoens.shoens)) f k cell) cell (record { goals = q.goals; shoens = q.shoens });
         machine = p.opens.machine;
         named = record { name = p.opens.named.name; spelled = p.opens.named.spelled };
         work = opened_work h x c n p.opens;

@@ -1,5 +1,5 @@
 -- Reductions by which goals make moves.
-use Rattle.kl1_machine.proofs.Words.{◌≡◌, ℕ, ◌<◌, ◌||◌, true, List, [], ◌∷◌, ◌++◌, length, map, refl, sym, ap, ◌∙◌, subst, find, AllByRecursion, Term, atom, State, charge, after_reduction, Action, moves, moved, names, task_action, CellName, Known, number_by, Cell, Held, IsFormed, Predicate, Place, Move, MoveIn, Goal, is_other, is_enabled_at, Numbered, contents, Program, Reading, Fits, Means, meaning, task_with, goal_with, aim, IsEnabled, IsOwned, AreSmall, keeps_names, name_of, IsNewName, name_for, Knows, worked, others_read, Machine, PlannedMove, made, having_goals, IsRested, Making, ReadsText, ReadsAll, CanPublish, ReadsNew, IsNamed, StepsAs, Reschedules, Judges, CanDo, MovesBy, IsSteppable, ReadsAlike, IsAtomAt, atom_at, otherwise, otherwise_fits, otherwise_other, both_read, second_read, as_modules, fits_modules, modules_fit, same_text, inl, inr}
+use Rattle.kl1_machine.proofs.Words.{most_names, ◌≡◌, ℕ, ◌<◌, ◌||◌, true, List, [], ◌∷◌, ◌++◌, length, map, refl, sym, ap, ◌∙◌, subst, find, AllByRecursion, Term, atom, State, charge, after_reduction, Action, moves, moved, names, task_action, CellName, Known, number_by, Cell, Held, IsFormed, Predicate, Place, Move, MoveIn, Goal, is_other, is_enabled_at, Numbered, contents, Program, Reading, Fits, Means, meaning, task_with, goal_with, aim, IsEnabled, IsOwned, AreSmall, keeps_names, name_of, IsNewName, name_for, Knows, worked, others_read, Machine, PlannedMove, made, having_goals, IsRested, Making, ReadsText, ReadsAll, CanPublish, ReadsNew, IsNamed, StepsAs, Reschedules, Judges, CanDo, MovesBy, IsSteppable, ReadsAlike, IsAtomAt, atom_at, otherwise, otherwise_fits, otherwise_other, both_read, second_read, as_modules, fits_modules, modules_fit, same_text, inl, inr}
 use Rattle.std.proofs.Common.{Option, Some, None}
 use Rattle.std.proofs.lemmas.Bool.{cases_Bool}
 use Rattle.std.specs.Prelude.{filter}
@@ -107,7 +107,7 @@ module _ (program : Program) (m : Machine) (n c : ℕ) (p : IsChosen program m n
       let same : meaning f m.store.held y ≡ meaning h m.store.held y = named_same (q.move f) (q.move h) text text (meaning f m.store.held y) (meaning h m.store.held y) (same_move f h fits other) one two in
       otherwise_other known text f at.number at.read (same_text (h at.number) text (sym (at.means h) ∙ sym same ∙ e))
 
-  name_read : (y : Cell CellName) (f : Reading) (key : CellName) (name : Option (List ℕ)) (o : Option ℕ) → p.planned.made ≡ made_move.Names y → Fits m.names.names f → ReadsNew f key name → number_by m.names.names p.text ≡ o → name ≡ name_of o (keeps_names m.names.names p.text) p.text → ReadsText f m.store.held m.names.names p.text y key o
+  name_read : (y : Cell CellName) (f : Reading) (key : CellName) (name : Option (List ℕ)) (o : Option ℕ) → p.planned.made ≡ made_move.Names y → Fits m.names.names f → ReadsNew f key name → number_by m.names.names p.text ≡ o → name ≡ name_of o (keeps_names (most_names m) m.names.names p.text) p.text → ReadsText (most_names m) f m.store.held m.names.names p.text y key o
   name_read y f key name None made_is fits reads e is =
       λ keeps. (
         (let P : Option (List ℕ) → Type 0 = λ z. ReadsNew f key z in subst P (is ∙ ap (λ b. name_of None b p.text) keeps) reads),
@@ -116,9 +116,9 @@ module _ (program : Program) (m : Machine) (n c : ℕ) (p : IsChosen program m n
   name_read y f key name (Some k) made_is fits reads e is = fits.texts p.text k e
 
   -- if the move uses a text as a name, readings of the names that an account has then read it
-  names_read : (ms : List Numbered) (more : List Known) (key : CellName) (name : Option (List ℕ)) → ((f : Reading) → Knows ms f → Fits more f) → IsNamed m.names.names more name key → name ≡ name_for p.planned.made m.names.names p.text → ReadsAll p.planned.made ms m.store.held m.names.names p.text key
+  names_read : (ms : List Numbered) (more : List Known) (key : CellName) (name : Option (List ℕ)) → ((f : Reading) → Knows ms f → Fits more f) → IsNamed m.names.names more name key → name ≡ name_for (most_names m) p.planned.made m.names.names p.text → ReadsAll (most_names m) p.planned.made ms m.store.held m.names.names p.text key
   names_read ms more key name fits named is y made_is f knows =
-      name_read y f key name (number_by m.names.names p.text) made_is (named.fits f (fits f knows)) (named.reads f (fits f knows)) refl (is ∙ ap (λ z. name_for z m.names.names p.text) made_is)
+      name_read y f key name (number_by m.names.names p.text) made_is (named.fits f (fits f knows)) (named.reads f (fits f knows)) refl (is ∙ ap (λ z. name_for (most_names m) z m.names.names p.text) made_is)
 
 -- ---- the reduction
 
@@ -134,7 +134,7 @@ moved_reduces program m u v n c p steps r = record {
       let ms = program.loaded ++ as_modules more in
       let fit : (q : Reading) → Knows ms q → Fits more q = λ q k. modules_fit q more k.reads (second_read q program.loaded (as_modules more) k.rows) in
       let knows : Knows ms f = record { reads = fits.reads; rows = both_read f program.loaded (as_modules more) (p.rested.rows f (named.fits f fits)) (fits_modules f more fits) } in
-      let name : v.name ≡ name_for p.planned.made m.names.names p.text = ap (λ (x : Machine). x.name) r.rest ∙ steps.name in
+      let name : v.name ≡ name_for (most_names m) p.planned.made m.names.names p.text = ap (λ (x : Machine). x.name) r.rest ∙ steps.name in
       let spelled : v.spelled ≡ u.spelled = ap (λ (x : Machine). x.spelled) r.rest in
       let so = rw (spelled, r.held) at patches in
       let reads = names_read program m n c p ms more key v.name fit named name in
@@ -160,25 +160,26 @@ let_by program m n c p =
 -- ---- the name of a step can be published
 
 -- a text that a move uses as a name is new, if it is to be published
-is_new : (h : Held CellName) (p : Predicate CellName) (places : List (Place CellName)) (text : List ℕ) (m : Move CellName) (known : List Known) → MoveIn h p places text (Some m) → IsNewName known (name_for m known text)
-is_new h p places text (made_move.Names x) known i = elim (option_cases (number_by known text)) [
-  | inl new ↦ elim (cases_Bool (keeps_names known text)) [ inl keeps ↦ rw (new, keeps) (i.0, (new, keeps)) | inr full ↦ rw (new, full) tt ]
+is_new : (most : ℕ) (h : Held CellName) (p : Predicate CellName) (places : List (Place CellName)) (text : List ℕ) (m : Move CellName) (known : List Known) → MoveIn h p places text (Some m) → IsNewName most known (name_for most m known text)
+is_new most h p places text (made_move.Names x) known i = elim (option_cases (number_by known text)) [
+  | inl new ↦ elim (cases_Bool (keeps_names most known text)) [ inl keeps ↦ rw (new, keeps) (i.0, (new, keeps)) | inr full ↦ rw (new, full) tt ]
   | inr old ↦ rw old.1 tt
 ]
-is_new h p places text y known i = tt
+is_new most h p places text y known i = tt
 
 -- the machine can publish the name of a step, if there is one
-pub stepped_publishes : (program : Program) (m u v : Machine) (n c : ℕ) (p : IsChosen program m n c) → AreSmall m.names.names → 0 < m.names.room → u.names ≡ m.names →
+pub stepped_publishes : (program : Program) (m u v : Machine) (n c : ℕ) (p : IsChosen program m n c) → AreSmall m.names.names → 0 < m.names.room → u.names ≡ m.names → u.rules ≡ m.rules →
     StepsAs (making program m n c p) p.goal p.planned.cell (having_goals (filter (is_other p.goal.number) m.goals.goals) m) u → Reschedules u v → CanPublish v
-stepped_publishes program m u v n c p small room same steps r =
+stepped_publishes program m u v n c p small room same ruled steps r =
     let x = p.planned.made in
     let known = m.names.names in
     let same_names : v.names ≡ m.names = ap (λ (x : Machine). x.names) r.rest ∙ same in
-    let name : v.name ≡ name_for x known p.text = ap (λ (x : Machine). x.name) r.rest ∙ steps.name in
+    let rules_same : v.rules ≡ m.rules = ap (λ (x : Machine). x.rules) r.rest ∙ ruled in
+    let name : v.name ≡ name_for (most_names m) x known p.text = ap (λ (x : Machine). x.name) r.rest ∙ steps.name in
     let spelled : v.spelled ≡ u.spelled = ap (λ (x : Machine). x.spelled) r.rest in
-    let new : IsNewName known (name_for x known p.text) = is_new m.store.held p.planned.located.predicate p.places p.text x known p.makes.runnable.inside in
+    let new : IsNewName (most_names m) known (name_for (most_names m) x known p.text) = is_new (most_names m) m.store.held p.planned.located.predicate p.places p.text x known p.makes.runnable.inside in
     record {
-      name = rw (same_names, name) new;
+      name = rw (rules_same, same_names, name) new;
       last = rw (spelled, r.held) steps.last;
       has = λ e. spelled ∙ steps.has (sym (ap (λ (x : Machine). x.name) r.rest) ∙ e);
       small = rw same_names small;

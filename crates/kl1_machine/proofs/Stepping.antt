@@ -1,5 +1,5 @@
 -- A goal's move, or a name that is new and comes of it.
-use Rattle.kl1_machine.proofs.Words.{◌≡◌, ℕ, Bool, true, List, [], ◌∷◌, refl, sym, ap, ◌∙◌, subst, Option, None, Some, Term, variable, atom, mgu_within, mgu, State, replace_in_state, charge, after_reduction, moved, equation, unified, CellName, Qualified, Move, Goal, Spelled, Reading, meaning, aim, goal_with, worked, keeps_names, name_of, name_for, turns_then, Machine, made, TurnsAs, Making, IsMade, with_text, IsBoundLast, HoldsSpare, StepsAs, arith, Atom, with_binding, spare, settle_charged_late, settles_late, grown_made, Grown-binding, LateAs, SparesLast}
+use Rattle.kl1_machine.proofs.Words.{most_names, ◌≡◌, ℕ, Bool, true, List, [], ◌∷◌, refl, sym, ap, ◌∙◌, subst, Option, None, Some, Term, variable, atom, mgu_within, mgu, State, replace_in_state, charge, after_reduction, moved, equation, unified, CellName, Qualified, Move, Goal, Spelled, Reading, meaning, aim, goal_with, worked, keeps_names, name_of, name_for, turns_then, Machine, made, TurnsAs, Making, IsMade, with_text, IsBoundLast, HoldsSpare, StepsAs, arith, Atom, with_binding, spare, settle_charged_late, settles_late, grown_made, Grown-binding, LateAs, SparesLast}
 use Rattle.kl1_goals_moves.specs.declared.moves.Move.TheVariants as move
 use Rattle.kl1_user_effects.specs.Works as works
 use Rattle.kl1_machine.proofs.Moving.{RunsAs}
@@ -68,8 +68,8 @@ steps_bound a goal x m d e u v marks late spares =
       name =
           name
           ∙ sym (ap (λ (c : Bool). name_of None c text) can.keeps)
-          ∙ sym (ap (λ (o : Option ℕ). name_of o (keeps_names known text) text) can.new)
-          ∙ sym (ap (λ (y : Move CellName). name_for y known text) marks.uses);
+          ∙ sym (ap (λ (o : Option ℕ). name_of o (keeps_names (most_names m) known text) text) can.new)
+          ∙ sym (ap (λ (y : Move CellName). name_for (most_names m) y known text) marks.uses);
       last =
           subst (λ (o : Option Spelled). IsBoundLast o u.store.held) (sym spelled)
           (record { before = k; constant = Atom spare; is = tt; marked = spares.marked; formed = spares.formed; within = spares.within; unbound = spares.unbound; bound = spares.bound });

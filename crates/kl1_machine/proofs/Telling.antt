@@ -1,5 +1,6 @@
 -- What a report leaves of a machine.
 use Rattle.kl1_machine.proofs.Words.{◌≡◌, ℕ, suc, ◌-◌, not, ◌&&◌, ◌||◌, Bool, true, false, if◌then◌else◌, List, [], refl, sym, ap, ◌∙◌, find, Option, Some, None, is_some, option_map, Term, variable, State, report, is_reported, close, is_reported_at, is_reported_of, close_of, Reads, CellName, Cell, Kept, Grown-same, Told, Dropped, Broken, Sent, Breaks, ToldAs, Shoen, Tree, has_number, changed, Numbered, Reading, built, meaning, shoen_with, worked, found_in, changed_count, torn, tailed, last_made, after_report, report_turns, no_report_turns, turns_none, finds, same_free, sent_free, Counts, Machine, made, IsMachine, Tells, TurnsAs, Since}
+use Rattle.kl1_model.specs.declared.rules.Rules.{Rules}
 use Rattle.kl1_model.specs.State as model
 use Rattle.kl1_user_effects.specs.Works.{Turns}
 use Rattle.kl1_machine.proofs.Keeping.{Grows, grown_machine}
@@ -46,10 +47,10 @@ told_as m k n x sh told a f reads s = told_by f s m n (meaning f m.store.held x)
 -- ---- what a report leaves
 
 -- the tree after a report, and what is counted
-abbrev pub told_tree : ℕ → Told → Tree CellName → Tree CellName
-told_tree n Dropped t = t
-told_tree n Broken t = record t { shoens = changed n torn t.shoens }
-told_tree n (Sent next) t = record t { shoens = changed n (tailed next) t.shoens }
+abbrev pub told_tree : Rules → ℕ → Told → Tree CellName → Tree CellName
+told_tree rules n Dropped t = t
+told_tree rules n Broken t = record t { shoens = changed n (torn rules) t.shoens }
+told_tree rules n (Sent next) t = record t { shoens = changed n (tailed next) t.shoens }
 
 abbrev pub told_counts : Told → Counts → Counts
 told_counts (Sent next) c = record c { reports = suc c.reports }
@@ -57,7 +58,7 @@ told_counts _ c = c
 
 -- a machine after a report
 abbrev pub told_machine : Machine → Kept CellName → ℕ → Told → Machine
-told_machine m k n told = record m { store = k; shoens = told_tree n told m.shoens; counts = told_counts told m.counts }
+told_machine m k n told = record m { store = k; shoens = told_tree m.rules n told m.shoens; counts = told_counts told m.counts }
 
 heard_turns : (m : Machine) (k : Kept CellName) (n : ℕ) (x : Cell CellName) (sh : Shoen CellName) (told : Told) → Hears m k n x sh told → (ms : List Numbered) → Turns ms (λ f. report n (meaning f m.store.held x)) m.store.held k.held (made m) (after_report n (made m) told)
 heard_turns m k n x sh told a ms = report_turns ms m.store.held k.held (made m) n sh x told a.grows.grown a.machine.inside a.found a.told_as
@@ -77,7 +78,7 @@ tells m k n x sh Dropped a =
     }
 tells m k n x sh Broken a =
     let d = a.told_as in
-    let count = changed_count n torn m.shoens.shoens in
+    let count = changed_count n (torn m.rules) m.shoens.shoens in
     record {
       turns = heard_turns m k n x sh Broken a;
       told_is = told_as m k n x sh Broken a;
@@ -103,11 +104,11 @@ tells m k n x sh (Sent next) a =
     }
 
 -- with the tree and the count that the code has
-pub tells_by : (m : Machine) (k : Kept CellName) (n : ℕ) (x : Cell CellName) (sh : Shoen CellName) (told : Told) (t : Tree CellName) → t ≡ told_tree n told m.shoens → Hears m k n x sh told → Tells n x m (record (told_machine m k n told) { shoens = t }) (is_sent told)
+pub tells_by : (m : Machine) (k : Kept CellName) (n : ℕ) (x : Cell CellName) (sh : Shoen CellName) (told : Told) (t : Tree CellName) → t ≡ told_tree m.rules n told m.shoens → Hears m k n x sh told → Tells n x m (record (told_machine m k n told) { shoens = t }) (is_sent told)
 tells_by m k n x sh told t e a = rw e (tells m k n x sh told a)
 
 -- what an event has done
-pub since_heard : (b m : Machine) (k : Kept CellName) (n : ℕ) (x : Cell CellName) (sh : Shoen CellName) (told : Told) (t : Tree CellName) → t ≡ told_tree n told m.shoens → Hears m k n x sh told → IsTree m.shoens → Since b m → Since b (record (told_machine m k n told) { shoens = t })
+pub since_heard : (b m : Machine) (k : Kept CellName) (n : ℕ) (x : Cell CellName) (sh : Shoen CellName) (told : Told) (t : Tree CellName) → t ≡ told_tree m.rules n told m.shoens → Hears m k n x sh told → IsTree m.shoens → Since b m → Since b (record (told_machine m k n told) { shoens = t })
 since_heard b m k n x sh told t e a tree s = rw e (by_case told)
   where
     changes : (reports : ℕ) (f : Shoen CellName → Shoen CellName) → IsQuiet f → Since b (record m { store = k; shoens = record m.shoens { shoens = changed n f m.shoens.shoens }; counts = record m.counts { reports = reports } })
@@ -115,7 +116,7 @@ since_heard b m k n x sh told t e a tree s = rw e (by_case told)
 
     by_case : (d : Told) → Since b (told_machine m k n d)
     by_case Dropped = since_store b m k a.grows s
-    by_case Broken = changes m.counts.reports torn (record { outlines = λ h. refl; plains = λ h. refl })
+    by_case Broken = changes m.counts.reports (torn m.rules) (record { outlines = λ h. refl; plains = λ h. refl })
     by_case (Sent next) = changes (suc m.counts.reports) (tailed next) (record { outlines = λ h. refl; plains = λ h. refl })
 
 -- a report of a shoen that isn't there

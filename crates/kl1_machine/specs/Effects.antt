@@ -101,7 +101,7 @@ pub record TurnsAs (change : Reading → State → State) (m n : Machine) : Type
 pub record Tells (n : ℕ) (message : Cell CellName) (m u : Machine) (told : Bool) : Type 0 where
   pub turns : Turns (λ f. report n (meaning f m.store.held message)) m u
   pub told_is : (f : Reading) → Reads built f → (s : State) → is_reported n (meaning f m.store.held message) (worked f s m.store.held (made m)) ≡ told
-  pub dropped : told ≡ false → u ≡ record m { store = u.store; shoens = record m.shoens { shoens = unheard n (find (has_number n) m.shoens.shoens) m.shoens.shoens } }
+  pub dropped : told ≡ false → u ≡ record m { store = u.store; shoens = record m.shoens { shoens = unheard m.rules n (find (has_number n) m.shoens.shoens) m.shoens.shoens } }
   pub keeps : KeepsFree n m.shoens.shoens m.store.held u.store.held
   pub machine : IsMachine u
   pub named : KeepsName m u

@@ -12,3 +12,4 @@ pub mod Starting
 pub mod Stepping
 pub mod Plain
 pub mod Bringing
+pub mod Forgetting

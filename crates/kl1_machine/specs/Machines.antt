@@ -1,6 +1,7 @@
 -- What holds of a machine, and what its calls keep.
 use Rattle.std.specs.Prelude.{◌≡◌, ◌≤◌, ℕ, false, None, List, [], length}
 use Rattle.kl1_model.specs.declared.rules.Rules.{Rules}
+use Rattle.kl1_model.specs.State.{limits_of}
 use Rattle.kl1_text.specs.declared.cell_name.CellName.{CellName}
 use Rattle.kl1_store.specs.declared.point.Point.{Point}
 use Rattle.kl1_store.specs.Sound.{IsFormed}
@@ -28,6 +29,10 @@ made m = record {
   nodes = m.counts.nodes;
   reports = m.counts.reports;
 }
+
+-- the most names that the account may use besides the built-in ones
+abbrev pub most_names : Machine → ℕ
+most_names m = (limits_of m.rules).names
 
 -- what always holds of an account's parts: they have the store's cells, goals are of shoens that are there, none has a number above the
 -- last, none was put with one, and the table of goals knows the shoens

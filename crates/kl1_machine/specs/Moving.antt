@@ -1,5 +1,5 @@
 -- What a goal's move does to a machine.
-use Rattle.std.specs.Prelude.{◌≡◌, ℕ, List, Some}
+use Rattle.std.specs.Prelude.{ℕ, List, Some}
 use Rattle.kl1_model.specs.Unify.{mgu}
 use Rattle.kl1_model.specs.Opening.{with_shoen, open_shoen}
 use Rattle.kl1_model.specs.Reduction as model

@@ -32,7 +32,7 @@ use Rattle.kl1_user_effects.specs.Calling.{spare, keeps_names, IsNewName}
 use Rattle.kl1_user_effects.specs.Moving.{name_for}
 use Rattle.kl1_user_effects.specs.Late.{KeepsLate}
 use Rattle.kl1_machine.specs.declared.machine.Machine.{Machine}
-use Rattle.kl1_machine.specs.Machines.{made, IsMachine}
+use Rattle.kl1_machine.specs.Machines.{made, most_names, IsMachine}
 use Rattle.kl1_machine.specs.declared.machine.naming.Named.{Named}
 use Rattle.kl1_machine.specs.declared.machine.naming.Named.TheVariants as named
 use Rattle.kl1_machine.specs.Effects.{TurnsAs}
@@ -41,10 +41,10 @@ use Rattle.kl1_machine.specs.Moving.{Making, IsMade}
 -- ---- which variable becomes a name
 
 -- a text that is new to an account with these names, which may use it, and a cell that is this unbound variable
-pub record CanBecome (h : Held CellName) (known : List Known) (text : List ℕ) (a : Cell CellName) (v : ℕ) : Type 0 where
+pub record CanBecome (most : ℕ) (h : Held CellName) (known : List Known) (text : List ℕ) (a : Cell CellName) (v : ℕ) : Type 0 where
   pub is_text : IsTrue (is_text text)
   pub new : number_by known text ≡ None
-  pub keeps : keeps_names known text ≡ true
+  pub keeps : keeps_names most known text ≡ true
   pub within : v < h.variables
   pub unbound : is_bound v h.bindings ≡ false
   pub means : (f : Reading) → meaning f h a ≡ variable v
@@ -65,30 +65,30 @@ with_text text s = record s { names = with_name s.names text }
 
 -- a reading reads a number by which an account knows a text as this text; if the account knows it by none and may use it, it reads the
 -- number that the text gets as the text, and no other cell as it
-abbrev pub ReadsText : Reading → Held CellName → List Known → List ℕ → Cell CellName → CellName → Option ℕ → Type 0
-ReadsText f h known text a k None = keeps_names known text ≡ true → (f k ≡ text) × (meaning f h a ≡ atom text → ⊥)
-ReadsText f h known text a k (Some n) = f (record { number = n }) ≡ text
+abbrev pub ReadsText : ℕ → Reading → Held CellName → List Known → List ℕ → Cell CellName → CellName → Option ℕ → Type 0
+ReadsText most f h known text a k None = keeps_names most known text ≡ true → (f k ≡ text) × (meaning f h a ≡ atom text → ⊥)
+ReadsText most f h known text a k (Some n) = f (record { number = n }) ≡ text
 
 -- if a move uses a text as a name, each reading that knows these modules does, if the name gets this number
-abbrev pub ReadsAll : Move CellName → List Numbered → Held CellName → List Known → List ℕ → CellName → Type 0
-ReadsAll y ms h known text k = (a : Cell CellName) → y ≡ move.Names a → (f : Reading) → Knows ms f → ReadsText f h known text a k (number_by known text)
+abbrev pub ReadsAll : ℕ → Move CellName → List Numbered → Held CellName → List Known → List ℕ → CellName → Type 0
+ReadsAll most y ms h known text k = (a : Cell CellName) → y ≡ move.Names a → (f : Reading) → Knows ms f → ReadsText most f h known text a k (number_by known text)
 
 -- a goal does by the move `b`, which uses no name, what it does by another move, whose name, if it uses one that is new, is used before it
 pub record StandsFor (b : Move CellName) (a : Making) (m n : Machine) : Type 0 where
-  pub is : n ≡ record m { name = name_for a.move m.names.names a.text }
+  pub is : n ≡ record m { name = name_for (most_names m) a.move m.names.names a.text }
   pub machine : IsMachine n
   pub nameless : IsNameless b
   pub inside : MoveIn m.store.held a.predicate a.places a.text (Some a.move) → MoveIn n.store.held a.predicate a.places a.text (Some b)
   pub by : (Reading → model.Move) → Reading → model.Move
   pub made_by : (ms : List Numbered) (k : Reading → model.Move) → IsMade a ms m k → IsMade (record a { move = b }) ms n (by k)
-  pub does : (ms : List Numbered) (k : Reading → model.Move) (key : CellName) → ReadsAll a.move ms m.store.held m.names.names a.text key → IsMade a ms m k → (f : Reading) → Knows ms f → (g : Goal) (t : Term) (s : State) →
+  pub does : (ms : List Numbered) (k : Reading → model.Move) (key : CellName) → ReadsAll (most_names m) a.move ms m.store.held m.names.names a.text key → IsMade a ms m k → (f : Reading) → Knows ms f → (g : Goal) (t : Term) (s : State) →
       moved g t (k f) (worked f s m.store.held (made m)) ≡ moved g t (by k f) (worked f s m.store.held (made n))
 
 -- a move uses a text as a name that is new, and unifies a term with it, which is the unbound variable `v`; the machine has the name
 pub record Spells (v : ℕ) (y : Move CellName) (text : List ℕ) (m n : Machine) : Type 0 where
   pub target : Cell CellName
   pub uses : y ≡ move.Names target
-  pub can : CanBecome m.store.held m.names.names text target v
+  pub can : CanBecome (most_names m) m.store.held m.names.names text target v
   pub is : n ≡ record m { name = Some text }
   pub machine : IsMachine n
 
@@ -150,7 +150,7 @@ HasName s name = name ≡ None → s ≡ None
 
 -- a machine's name, if there is one, can be published: there is room
 pub record CanPublish (m : Machine) : Type 0 where
-  pub name : IsNewName m.names.names m.name
+  pub name : IsNewName (most_names m) m.names.names m.name
   pub last : IsBoundLast m.spelled m.store.held
   pub has : HasName m.spelled m.name
   pub small : AreSmall m.names.names

@@ -5,6 +5,8 @@ use Rattle.kl1_model.specs.Module.{is_among}
 use Rattle.kl1_text.specs.declared.cell_name.CellName.{CellName}
 use Rattle.kl1_goals.specs.declared.goal.Goal.{Goal}
 use Rattle.kl1_goals.specs.Lists.{is_monitor, is_monitor_of}
+use Rattle.kl1_shoen_paths.specs.declared.shoen.Shoen.{Shoen}
+use Rattle.kl1_shoen.specs.Shoens.{is_on_path_in}
 use Rattle.kl1_user_effects.specs.Settled.{control_at}
 use Rattle.kl1_user_effects.specs.Frames.{SameFlags}
 use Rattle.kl1_machine.specs.declared.machine.Machine.{Machine}
@@ -42,3 +44,11 @@ StillSince (Err e) b n = Keeps b n
 -- no goal but this one is the monitor of a shoen
 abbrev pub IsOnlyMonitor : ℕ → ℕ → List (Goal CellName) → Type 0
 IsOnlyMonitor monitor shoen goals = AllByRecursion (λ g. is_monitor_of shoen g ≡ true → g.number ≡ monitor) goals
+
+-- none is
+abbrev pub HasNoMonitor : ℕ → List (Goal CellName) → Type 0
+HasNoMonitor shoen goals = AllByRecursion (λ g. is_monitor_of shoen g ≡ false) goals
+
+-- no goal is of a shoen or of one below it
+abbrev pub AreElsewhere : List (Shoen CellName) → ℕ → List (Goal CellName) → Type 0
+AreElsewhere shoens n goals = AllByRecursion (λ g. is_on_path_in shoens n g.shoen ≡ false) goals

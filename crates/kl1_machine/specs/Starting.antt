@@ -45,6 +45,7 @@ pub record OpensStreams (x : Cell CellName) (m n : Machine) (o : Origin CellName
   pub variables : n.store.held.variables ≡ m.store.held.variables + 2
   pub kept : (f : Reading) (y : Cell CellName) → IsIn m.store.held y → meaning f n.store.held y ≡ meaning f m.store.held y
   pub goal : o.goal ≡ x
+  pub forgotten : o.forgotten ≡ 0
   pub control : o.control ≡ Variable m.store.held.variables
   pub reports : o.reports ≡ Variable (suc m.store.held.variables)
   pub free : (f : Reading) → (meaning f n.store.held o.control ≡ variable m.store.held.variables) × (meaning f n.store.held o.reports ≡ variable (suc m.store.held.variables))

@@ -7,6 +7,7 @@ mod children;
 mod committing;
 mod effects;
 mod ending;
+mod forgetting;
 mod hearing;
 mod late;
 mod loading;

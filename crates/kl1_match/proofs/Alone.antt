@@ -7,7 +7,10 @@ use Rattle.kl1_model.specs.code.TermCode.{NodeCode, nodes_of_all}
 use Rattle.kl1_model.specs.declared.built_in.BuiltIn.TheVariants.{True}
 use Rattle.kl1_model.specs.Meaning.{variables_of, variables_in as variables_of_all, highest_in}
 use Rattle.kl1_model.specs.Module.{Clause}
-use Rattle.kl1_model.specs.code.Outcome.{agrees, clashes, both, Matched, with_outcome, match_term, match_terms, alike_with, each_alike, test_outcome, tests_outcome, guard_outcome, named_verdict, verdict_with, alike}
+use Rattle.kl1_model.specs.Answer.{yes, no, together}
+use Rattle.kl1_model.specs.Match.{Match, with_answer, match_pattern, match_patterns, one_answer, each_answer, one_test_answer, tests_answer, guard_answer}
+use Rattle.kl1_model.specs.code.Verdicts.{named_verdict, verdict_with}
+use Rattle.kl1_model.specs.Same.{compare}
 use Rattle.kl1_term.specs.Variables.{variables_in}
 use Rattle.kl1_term.proofs.VariableFacts.{variables_all}
 use Rattle.kl1_clause.specs.declared.compiled_clause.CompiledClause.{CompiledClause}
@@ -17,7 +20,7 @@ use Rattle.kl1_clause.specs.declared.instruction.Instruction.TheVariants.{Variab
 use Rattle.kl1_clause.specs.Instructions.{code_in}
 use Rattle.kl1_clause.specs.Clauses.{IsCompiled}
 use Rattle.kl1_clause.specs.Plain.{AreRising, AreTrue, IsPlain}
-use Rattle.kl1_match.proofs.Answered.{both-agrees}
+use Rattle.kl1_match.proofs.Answered.{together-yes}
 
 -- ---- numbers that rise
 
@@ -55,12 +58,12 @@ places_join low seam high (p ∷ ps) qs r s = (r.0, places_join p.number seam hi
 
 -- ---- the places of a match
 
-either_rises : (low high : ℕ) (b : Bool) (m : Matched) → PlacesRise low high m.places → low ≤ high → PlacesRise low high (if b then m else with_outcome clashes).places
+either_rises : (low high : ℕ) (b : Bool) (m : Match) → PlacesRise low high m.places → low ≤ high → PlacesRise low high (if b then m else with_answer no).places
 either_rises low high true m r le = r
 either_rises low high false m r le = le
 
 mutual
-  match_rises : (low high : ℕ) (p t : Term) → Rises low high (variables_of p) → PlacesRise low high (match_term p t).places
+  match_rises : (low high : ℕ) (p t : Term) → Rises low high (variables_of p) → PlacesRise low high (match_pattern p t).places
   match_rises low high (variable v) t r = r
   match_rises low high (integer i) (variable w) r = r
   match_rises low high (integer i) (integer j) r = r
@@ -74,27 +77,27 @@ mutual
   match_rises low high (structure f ps) (integer j) r = rises_within low high (variables_of_all ps) r
   match_rises low high (structure f ps) (atom b) r = rises_within low high (variables_of_all ps) r
   match_rises low high (structure f ps) (structure g us) r =
-      either_rises low high (bytes_eq f g && count_of ps == count_of us) (match_terms ps us) (matches_rise low high ps us r) (rises_within low high (variables_of_all ps) r)
+      either_rises low high (bytes_eq f g && count_of ps == count_of us) (match_patterns ps us) (matches_rise low high ps us r) (rises_within low high (variables_of_all ps) r)
 
-  matches_rise : (low high : ℕ) (ps ts : Terms) → Rises low high (variables_of_all ps) → PlacesRise low high (match_terms ps ts).places
+  matches_rise : (low high : ℕ) (ps ts : Terms) → Rises low high (variables_of_all ps) → PlacesRise low high (match_patterns ps ts).places
   matches_rise low high none none r = r
   matches_rise low high none (more t ts) r = r
   matches_rise low high (more p ps) none r = rises_within low high (variables_of_all (more p ps)) r
   matches_rise low high (more p ps) (more t ts) r =
       let k = parted low high (variables_of p) (variables_of_all ps) r in
-      places_join low k.seam high (match_term p t).places (match_terms ps ts).places (match_rises low k.seam p t k.front) (matches_rise k.seam high ps ts k.back)
+      places_join low k.seam high (match_pattern p t).places (match_patterns ps ts).places (match_rises low k.seam p t k.front) (matches_rise k.seam high ps ts k.back)
 
 -- ---- places of which no two are of one variable
 
-alone_with : (p : Replacement) (low high : ℕ) (qs : List Replacement) → p.number ≤ low → PlacesRise low high qs → alike_with p qs ≡ agrees
+alone_with : (p : Replacement) (low high : ℕ) (qs : List Replacement) → p.number ≤ low → PlacesRise low high qs → one_answer p qs ≡ yes
 alone_with p low high [] le r = refl
 alone_with p low high (q ∷ qs) le r =
     let other : (p.number == q.number) ≡ false = ne_eqb p.number q.number (λ e. absurd (omega (arith, le, r.0, e))) in
-    ap₂ both (ap (λ b. if b then alike p.by q.by else agrees) other) (alone_with p q.number high qs (omega (arith, le, r.0)) r.1)
+    ap₂ together (ap (λ b. if b then compare p.by q.by else yes) other) (alone_with p q.number high qs (omega (arith, le, r.0)) r.1)
 
-all_alone : (low high : ℕ) (ps : List Replacement) → PlacesRise low high ps → each_alike ps ≡ agrees
+all_alone : (low high : ℕ) (ps : List Replacement) → PlacesRise low high ps → each_answer ps ≡ yes
 all_alone low high [] r = refl
-all_alone low high (p ∷ ps) r = ap₂ both (alone_with p p.number high ps (omega arith) r.1) (all_alone p.number high ps r.1)
+all_alone low high (p ∷ ps) r = ap₂ together (alone_with p p.number high ps (omega arith) r.1) (all_alone p.number high ps r.1)
 
 -- ---- rows
 
@@ -144,29 +147,29 @@ all_hold names (i ∷ is) (atom b ∷ ts) a e =
     (ap atom_at (sym k), all_hold names is ts a.1 (ap behind_node k))
 all_hold names (i ∷ is) (structure f us ∷ ts) a e = let k = true_first names i is (nodes_of_all (terms_of (structure f us ∷ ts))) a.0 e in absurd (cc)
 
-hold_agree : (last : ℕ) (places : List Replacement) (tests : List Term) → AllHold tests → tests_outcome last places tests ≡ agrees
+hold_agree : (last : ℕ) (places : List Replacement) (tests : List Term) → AllHold tests → tests_answer last places tests ≡ yes
 hold_agree last places [] h = refl
-hold_agree last places (t ∷ ts) h = ap (λ x. both (test_outcome last places x) (tests_outcome last places ts)) h.0 ∙ hold_agree last places ts h.1
+hold_agree last places (t ∷ ts) h = ap (λ x. together (one_test_answer last places x) (tests_answer last places ts)) h.0 ∙ hold_agree last places ts h.1
 
 -- ---- verdicts
 
 -- the places of such a clause agree, whatever the goal
-places_agree : (names : List (List ℕ)) (compiled : CompiledClause) (clause : Clause) (ts : Terms) → IsPlain compiled.patterns.items compiled.tests.items → IsCompiled names compiled clause → each_alike (match_terms clause.patterns ts).places ≡ agrees
+places_agree : (names : List (List ℕ)) (compiled : CompiledClause) (clause : Clause) (ts : Terms) → IsPlain compiled.patterns.items compiled.tests.items → IsCompiled names compiled clause → each_answer (match_patterns clause.patterns ts).places ≡ yes
 places_agree names compiled clause ts plain is =
     let k = row_rises names 0 compiled.patterns.items plain.rising in
     let R : List ℕ → Type 0 = λ ns. Rises 0 k.high ns in
     let own = subst R (row_variables (map (code_in names) compiled.patterns.items) clause.patterns is.patterns.nodes_are) k.rises in
-    all_alone 0 k.high (match_terms clause.patterns ts).places (matches_rise 0 k.high clause.patterns ts own)
+    all_alone 0 k.high (match_patterns clause.patterns ts).places (matches_rise 0 k.high clause.patterns ts own)
 
 -- and its guard, whose tests all hold
-guard_agrees : (names : List (List ℕ)) (compiled : CompiledClause) (clause : Clause) (places : List Replacement) → IsPlain compiled.patterns.items compiled.tests.items → IsCompiled names compiled clause → guard_outcome places clause.tests ≡ agrees
+guard_agrees : (names : List (List ℕ)) (compiled : CompiledClause) (clause : Clause) (places : List Replacement) → IsPlain compiled.patterns.items compiled.tests.items → IsCompiled names compiled clause → guard_answer places clause.tests ≡ yes
 guard_agrees names compiled clause places plain is = hold_agree (highest_in (terms_of clause.tests)) places clause.tests (all_hold names compiled.tests.items clause.tests plain.tests_are is.tests.nodes_are)
 
 -- the verdict of such a clause is that of its match
 pub plain_verdict : (names : List (List ℕ)) (compiled : CompiledClause) (clause : Clause) (ts : Terms) → IsPlain compiled.patterns.items compiled.tests.items → IsCompiled names compiled clause →
-    named_verdict clause ts ≡ verdict_with (match_terms clause.patterns ts) (match_terms clause.patterns ts).outcome
+    named_verdict clause ts ≡ verdict_with (match_patterns clause.patterns ts) (match_patterns clause.patterns ts).answer
 plain_verdict names compiled clause ts plain is =
-    let m = match_terms clause.patterns ts in
-    ap (λ o. verdict_with m (both (both m.outcome o) (guard_outcome m.places clause.tests))) (places_agree names compiled clause ts plain is)
-    ∙ (ap (λ o. verdict_with m (both (both m.outcome agrees) o)) (guard_agrees names compiled clause m.places plain is)
-    ∙ ap (verdict_with m) (both-agrees (both m.outcome agrees) ∙ both-agrees m.outcome))
+    let m = match_patterns clause.patterns ts in
+    ap (λ o. verdict_with m (together (together m.answer o) (guard_answer m.places clause.tests))) (places_agree names compiled clause ts plain is)
+    ∙ (ap (λ o. verdict_with m (together (together m.answer yes) o)) (guard_agrees names compiled clause m.places plain is)
+    ∙ ap (verdict_with m) (together-yes (together m.answer yes) ∙ together-yes m.answer))

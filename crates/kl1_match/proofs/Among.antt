@@ -2,7 +2,7 @@
 use Rattle.std.proofs.Common.{◌≡◌, ℕ, zero, suc, ◌+◌, ◌-◌, ◌<◌, ◌≤◌, ◌==◌, Bool, true, false, ◌||◌, if◌then◌else◌, List, [], ◌∷◌, ◌++◌, length, get_or, refl, sym, ap, ap₂, ◌∙◌, arith}
 use Rattle.std.specs.Prelude.{nat_le, Contains, ◌↔◌}
 use Rattle.std.proofs.lemmas.Bool.{eq-eqb, ne_eqb, eqb-true, leb-true, leb-false, le-leb, false_from_ne_true, false≢true, or_left, or_right, cond-true, cond-false}
-use Rattle.kl1_model.specs.code.Outcome.{own_variables}
+use Rattle.kl1_model.specs.Match.{own_variables}
 use Rattle.kl1_match_guard.specs.Alike.{is_among}
 use Rattle.kl1_match.specs.Waiting.{AreSame}
 

@@ -6,7 +6,7 @@ use Rattle.kl1_model.specs.declared.comparison.Comparison.{Comparison}
 use Rattle.kl1_model.specs.Term.{Term, integer}
 use Rattle.kl1_model.specs.code.TermCode.{behind_first}
 use Rattle.kl1_model.specs.Guard.{compares, compared, test_of, test_of_two}
-use Rattle.kl1_model.specs.code.Outcome.{beside}
+use Rattle.kl1_model.specs.Match.{beside}
 use Rattle.kl1_text.specs.Reading.{Reads}
 use Rattle.kl1_store.specs.Held.{Held}
 use Rattle.kl1_clause.specs.declared.name.Name.{Name}

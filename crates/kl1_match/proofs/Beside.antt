@@ -2,7 +2,8 @@
 use Rattle.std.proofs.Common.{◌≡◌, ℕ, List, [], ◌∷◌, ◌++◌, map, refl, sym, ap, ◌∙◌, subst, ℤ, inl, inr}
 use Rattle.kl1_model.specs.declared.built_in.BuiltIn.{BuiltIn}
 use Rattle.kl1_model.specs.Term.{Term, integer, atom, structure}
-use Rattle.kl1_model.specs.code.Outcome.{Outcome, clashes, waits, with_outcome, match_term}
+use Rattle.kl1_model.specs.Answer.{Answer, no, wait}
+use Rattle.kl1_model.specs.Match.{with_answer, match_pattern}
 use Rattle.kl1_text.specs.Reading.{Reads}
 use Rattle.kl1_store.specs.declared.cell.Cell.{Cell}
 use Rattle.kl1_store.specs.Held.{Held, IsIn, IsWalked}
@@ -30,24 +31,24 @@ pub integer_meets : {N : Type 0} (built : BuiltIn → N) (h : Held N) (names : L
     ((f : N → List ℕ) → term_of f h y ≡ term_of f h x) → IntegerMeets built h i y met → MeetsAs built h names (Integer i) x cells cells places places met
 integer_meets built h names i x y cells places Agrees pi means m = record {
   places_in = pi;
-  goes_into = λ f reads p b. agrees_alone f h (inl (inr i)) p (integer i) (term_of f h x) cells places (is_integer i p b) refl (ap (match_term (integer i)) (sym (means f)) ∙ m f);
+  goes_into = λ f reads p b. agrees_alone f h (inl (inr i)) p (integer i) (term_of f h x) cells places (is_integer i p b) refl (ap (match_pattern (integer i)) (sym (means f)) ∙ m f);
 }
 integer_meets built h names i x y cells places (Waits v) pi means m = record {
   cells_are = refl;
   places_are = refl;
-  matched = λ f reads p b. ap (λ q. match_term q (term_of f h x)) (is_integer i p b) ∙ ap (match_term (integer i)) (sym (means f)) ∙ m f;
+  matched = λ f reads p b. ap (λ q. match_pattern q (term_of f h x)) (is_integer i p b) ∙ ap (match_pattern (integer i)) (sym (means f)) ∙ m f;
 }
 integer_meets built h names i x y cells places Clashes pi means m = record {
   cells_are = refl;
   places_are = refl;
-  matched = λ f reads p b. ap (λ q. match_term q (term_of f h x)) (is_integer i p b) ∙ ap (match_term (integer i)) (sym (means f)) ∙ m f;
+  matched = λ f reads p b. ap (λ q. match_pattern q (term_of f h x)) (is_integer i p b) ∙ ap (match_pattern (integer i)) (sym (means f)) ∙ m f;
 }
 
 -- what an atom of a row comes to, by the account's name for it
-atom_matched : {N : Type 0} (f : N → List ℕ) (h : Held N) (text : List ℕ) (name : N) (x y : Cell N) (p : Term) (outcome : Outcome) → f name ≡ text → Begins (inr (inl text)) p →
-    term_of f h y ≡ term_of f h x → match_term (atom (f name)) (term_of f h y) ≡ with_outcome outcome → match_term p (term_of f h x) ≡ with_outcome outcome
+atom_matched : {N : Type 0} (f : N → List ℕ) (h : Held N) (text : List ℕ) (name : N) (x y : Cell N) (p : Term) (outcome : Answer) → f name ≡ text → Begins (inr (inl text)) p →
+    term_of f h y ≡ term_of f h x → match_pattern (atom (f name)) (term_of f h y) ≡ with_answer outcome → match_pattern p (term_of f h x) ≡ with_answer outcome
 atom_matched f h text name x y p outcome named b means m =
-    ap (λ q. match_term q (term_of f h x)) (is_atom text p b ∙ ap (λ l. atom l) (sym named)) ∙ ap (match_term (atom (f name))) (sym means) ∙ m
+    ap (λ q. match_pattern q (term_of f h x)) (is_atom text p b ∙ ap (λ l. atom l) (sym named)) ∙ ap (match_pattern (atom (f name))) (sym means) ∙ m
 
 pub atom_meets : {N : Type 0} (built : BuiltIn → N) (h : Held N) (names : List N) (a : Name) (name : N) (x y : Cell N) (cells : List (Cell N)) (places : List (Place N)) (met : Met) → AreThere h places →
     ((f : N → List ℕ) → Reads built f → f name ≡ text_in (map f names) a) → ((f : N → List ℕ) → term_of f h y ≡ term_of f h x) → AtomMeets built h name y met → MeetsAs built h names (Atom a) x cells cells places places met
@@ -56,30 +57,30 @@ atom_meets built h names a name x y cells places Agrees pi named means m = recor
   goes_into = λ f reads p b.
       let text = text_in (map f names) a in
       agrees_alone f h (inr (inl text)) p (atom text) (term_of f h x) cells places (is_atom text p b) refl
-      (ap (λ l. match_term (atom l) (term_of f h x)) (sym (named f reads)) ∙ ap (match_term (atom (f name))) (sym (means f)) ∙ m f reads);
+      (ap (λ l. match_pattern (atom l) (term_of f h x)) (sym (named f reads)) ∙ ap (match_pattern (atom (f name))) (sym (means f)) ∙ m f reads);
 }
 atom_meets built h names a name x y cells places (Waits v) pi named means m = record {
   cells_are = refl;
   places_are = refl;
-  matched = λ f reads p b. atom_matched f h (text_in (map f names) a) name x y p (waits (v ∷ [])) (named f reads) b (means f) (m f reads);
+  matched = λ f reads p b. atom_matched f h (text_in (map f names) a) name x y p (wait (v ∷ [])) (named f reads) b (means f) (m f reads);
 }
 atom_meets built h names a name x y cells places Clashes pi named means m = record {
   cells_are = refl;
   places_are = refl;
-  matched = λ f reads p b. atom_matched f h (text_in (map f names) a) name x y p clashes (named f reads) b (means f) (m f reads);
+  matched = λ f reads p b. atom_matched f h (text_in (map f names) a) name x y p no (named f reads) b (means f) (m f reads);
 }
 
 opened_at : {N : Type 0} (f : N → List ℕ) (h : Held N) (name : N) (n : ℕ) (t u : Term) (cells now : List (Cell N)) → t ≡ u → IsOpened f h name n t cells now → IsOpened f h name n u cells now
 opened_at {N = N} f h name n t u cells now e o = let P : Term → Type 0 = λ k. IsOpened f h name n k cells now in subst P e o
 
-outside_at : {N : Type 0} (built : BuiltIn → N) (h : Held N) (names : List N) (a : Name) (n : ℕ) (name : N) (x y : Cell N) (cells now : List (Cell N)) (places : List (Place N)) (outcome : Outcome) →
+outside_at : {N : Type 0} (built : BuiltIn → N) (h : Held N) (names : List N) (a : Name) (n : ℕ) (name : N) (x y : Cell N) (cells now : List (Cell N)) (places : List (Place N)) (outcome : Answer) →
     ((f : N → List ℕ) → Reads built f → f name ≡ text_in (map f names) a) → ((f : N → List ℕ) → term_of f h y ≡ term_of f h x) → Stays built h name n y cells now outcome →
     Decides built h names (Structure a n) x cells now places places outcome
 outside_at built h names a n name x y cells now places outcome named means s = record {
   cells_are = s.cells_are;
   places_are = refl;
   matched = λ f reads p b. stays_outside f name (text_in (map f names) a) n p (term_of f h x) outcome (named f reads) b
-      (λ ps counted. ap (match_term (structure (f name) ps)) (sym (means f)) ∙ s.matched f reads ps counted);
+      (λ ps counted. ap (match_pattern (structure (f name) ps)) (sym (means f)) ∙ s.matched f reads ps counted);
 }
 
 pub structure_meets : {N : Type 0} (built : BuiltIn → N) (h : Held N) (names : List N) (a : Name) (n : ℕ) (name : N) (x y : Cell N) (cells now : List (Cell N)) (places : List (Place N)) (met : Met) → AreThere h places →
@@ -88,8 +89,8 @@ structure_meets built h names a n name x y cells now places Agrees pi named mean
   places_in = pi;
   goes_into = λ f reads p b. agrees_inside f h name (text_in (map f names) a) n p (term_of f h x) cells now places (named f reads) b (opened_at f h name n (term_of f h y) (term_of f h x) cells now (means f) (o.opened f reads));
 }
-structure_meets built h names a n name x y cells now places (Waits v) pi named means s = outside_at built h names a n name x y cells now places (waits (v ∷ [])) named means s
-structure_meets built h names a n name x y cells now places Clashes pi named means s = outside_at built h names a n name x y cells now places clashes named means s
+structure_meets built h names a n name x y cells now places (Waits v) pi named means s = outside_at built h names a n name x y cells now places (wait (v ∷ [])) named means s
+structure_meets built h names a n name x y cells now places Clashes pi named means s = outside_at built h names a n name x y cells now places no named means s
 
 -- who waits does so for an unbound variable
 pub met_unbound : {N : Type 0} (h : Held N) (x : Cell N) (met : Met) → IsIn h x → IsWalked h x → WaitsAt x met → MetUnbound h met

@@ -8,7 +8,8 @@ use Rattle.std.proofs.lemmas.Bool.{ne_eqb, eq-eqb, cond-true, cond-false, false_
 use Rattle.std.proofs.lemmas.Bool.Decides.{Decides-int_eq}
 use Rattle.kl1_model.specs.declared.built_in.BuiltIn.{BuiltIn}
 use Rattle.kl1_model.specs.Term.{Term, variable, integer, atom, structure, Terms, none, more, count_of}
-use Rattle.kl1_model.specs.code.Outcome.{Outcome, agrees, clashes, decided, with_outcome, match_term, match_terms}
+use Rattle.kl1_model.specs.Answer.{Answer, yes, no, known}
+use Rattle.kl1_model.specs.Match.{with_answer, match_pattern, match_patterns}
 use Rattle.kl1_text.specs.Reading.{Reads}
 use Rattle.kl1_store.specs.declared.cell.Cell.{Cell}
 use Rattle.kl1_store.specs.declared.cell.Cell.TheVariants.{Variable, Integer, Atom, Structure}
@@ -53,15 +54,15 @@ names_same f a b e = (bytes_eq-Decides (f a) (f b)).1 (ap f e)
 pub names_differ : {N : Type 0} (built : BuiltIn → N) (f : N → List ℕ) (a b : N) → Reads built f → (a ≡ b → ⊥) → bytes_eq (f a) (f b) ≡ false
 names_differ built f a b reads ne = false_from_ne_true (bytes_eq (f a) (f b)) (λ e. ne (reads.once a b ((bytes_eq-Decides (f a) (f b)).0 e)))
 
-pub integers_agree : (i j : ℤ) → i ≡ j → match_term (integer i) (integer j) ≡ with_outcome agrees
-integers_agree i j e = ap (λ b. with_outcome (decided b)) ((Decides-int_eq i j).1 e)
+pub integers_agree : (i j : ℤ) → i ≡ j → match_pattern (integer i) (integer j) ≡ with_answer yes
+integers_agree i j e = ap (λ b. with_answer (known b)) ((Decides-int_eq i j).1 e)
 
-pub integers_clash : (i j : ℤ) → (i ≡ j → ⊥) → match_term (integer i) (integer j) ≡ with_outcome clashes
-integers_clash i j ne = ap (λ b. with_outcome (decided b)) (false_from_ne_true (int_eq i j) (λ e. ne ((Decides-int_eq i j).0 e)))
+pub integers_clash : (i j : ℤ) → (i ≡ j → ⊥) → match_pattern (integer i) (integer j) ≡ with_answer no
+integers_clash i j ne = ap (λ b. with_answer (known b)) (false_from_ne_true (int_eq i j) (λ e. ne ((Decides-int_eq i j).0 e)))
 
 -- a structure as a pattern beside what is no structure
 pub stays : {N : Type 0} (built : BuiltIn → N) (h : Held N) (name : N) (count : ℕ) (x : Cell N) (cells : List (Cell N)) (outcome : _) →
-    ((f : N → List ℕ) → Reads built f → (ps : Terms) → count_of ps ≡ count → match_term (structure (f name) ps) (term_of f h x) ≡ with_outcome outcome) → Stays built h name count x cells cells outcome
+    ((f : N → List ℕ) → Reads built f → (ps : Terms) → count_of ps ≡ count → match_pattern (structure (f name) ps) (term_of f h x) ≡ with_answer outcome) → Stays built h name count x cells cells outcome
 stays built h name count x cells outcome matched = record { cells_are = refl; matched = matched }
 
 both_same : (b : Bool) (m n : ℕ) → b ≡ true → m ≡ n → (b && m == n) ≡ true
@@ -82,28 +83,28 @@ opened {N = N} f h name called count s x cells now p e at counted same is =
       arguments = us;
       counted = number;
       matched = λ ps c.
-          ap (match_term (structure (f name) ps)) (ap (term_of f h) e ∙ term_of-Structure f h s called p at)
-          ∙ cond-true (bytes_eq (f name) (f called) && count_of ps == count_of us) (match_terms ps us) (with_outcome clashes)
+          ap (match_pattern (structure (f name) ps)) (ap (term_of f h) e ∙ term_of-Structure f h s called p at)
+          ∙ cond-true (bytes_eq (f name) (f called) && count_of ps == count_of us) (match_patterns ps us) (with_answer no)
           (both_same (bytes_eq (f name) (f called)) (count_of ps) (count_of us) (names_same f name called same) (c ∙ sym number));
       cells_are = ap (terms_of f h) is ∙ terms_of-joined f h (arguments_of h s) cells;
     }
 
 pub name_clashes : {N : Type 0} (built : BuiltIn → N) (f : N → List ℕ) (h : Held N) (name called : N) (s : ℕ) (x : Cell N) (ps : Terms) → Reads built f →
     IsFormed h → x ≡ Structure s → slice_get h.structures s ≡ Some (record { name = called; arguments = arguments_of h s }) →
-    (name ≡ called → ⊥) → match_term (structure (f name) ps) (term_of f h x) ≡ with_outcome clashes
+    (name ≡ called → ⊥) → match_pattern (structure (f name) ps) (term_of f h x) ≡ with_answer no
 name_clashes built f h name called s x ps reads p e at ne =
     let us = terms_of f h (arguments_of h s) in
-    ap (match_term (structure (f name) ps)) (ap (term_of f h) e ∙ term_of-Structure f h s called p at)
-    ∙ cond-false (bytes_eq (f name) (f called) && count_of ps == count_of us) (match_terms ps us) (with_outcome clashes)
+    ap (match_pattern (structure (f name) ps)) (ap (term_of f h) e ∙ term_of-Structure f h s called p at)
+    ∙ cond-false (bytes_eq (f name) (f called) && count_of ps == count_of us) (match_patterns ps us) (with_answer no)
     (and_left (bytes_eq (f name) (f called)) (count_of ps == count_of us) (names_differ built f name called reads ne))
 
 pub count_clashes : {N : Type 0} (f : N → List ℕ) (h : Held N) (name called : N) (count s : ℕ) (x : Cell N) (ps : Terms) → count_of ps ≡ count →
     IsFormed h → x ≡ Structure s → slice_get h.structures s ≡ Some (record { name = called; arguments = arguments_of h s }) →
-    (length (arguments_of h s) ≡ count → ⊥) → match_term (structure (f name) ps) (term_of f h x) ≡ with_outcome clashes
+    (length (arguments_of h s) ≡ count → ⊥) → match_pattern (structure (f name) ps) (term_of f h x) ≡ with_answer no
 count_clashes f h name called count s x ps counted p e at ne =
     let us = terms_of f h (arguments_of h s) in
-    ap (match_term (structure (f name) ps)) (ap (term_of f h) e ∙ term_of-Structure f h s called p at)
-    ∙ cond-false (bytes_eq (f name) (f called) && count_of ps == count_of us) (match_terms ps us) (with_outcome clashes)
+    ap (match_pattern (structure (f name) ps)) (ap (term_of f h) e ∙ term_of-Structure f h s called p at)
+    ∙ cond-false (bytes_eq (f name) (f called) && count_of ps == count_of us) (match_patterns ps us) (with_answer no)
     (and_right (bytes_eq (f name) (f called)) (count_of ps == count_of us) (ne_eqb (count_of ps) (count_of us) (λ q. ne (sym (count_of-terms_of f h (arguments_of h s)) ∙ sym q ∙ counted))))
 
 -- ---- the arguments of a goal
@@ -177,8 +178,8 @@ goal_arguments {N = N} f h goal x s cells p inside e means are =
 
 -- ---- the outcomes of a structure as a pattern
 
-pub structure_beside : {N : Type 0} (built : BuiltIn → N) (h : Held N) (name : N) (count : ℕ) (x : Cell N) (cells now : List (Cell N)) (outcome : Outcome) → now ≡ cells →
-    ((f : N → List ℕ) → Reads built f → (ps : Terms) → count_of ps ≡ count → match_term (structure (f name) ps) (term_of f h x) ≡ with_outcome outcome) → Stays built h name count x cells now outcome
+pub structure_beside : {N : Type 0} (built : BuiltIn → N) (h : Held N) (name : N) (count : ℕ) (x : Cell N) (cells now : List (Cell N)) (outcome : Answer) → now ≡ cells →
+    ((f : N → List ℕ) → Reads built f → (ps : Terms) → count_of ps ≡ count → match_pattern (structure (f name) ps) (term_of f h x) ≡ with_answer outcome) → Stays built h name count x cells now outcome
 structure_beside built h name count x cells now outcome e matched = record { cells_are = e; matched = matched }
 
 -- ---- instructions
@@ -248,7 +249,7 @@ is_structure g n (structure k us) b =
 
 -- a pattern without arguments agrees
 pub agrees_alone : {N : Type 0} (f : N → List ℕ) (h : Held N) (c : NodeCode) (p q t : Term) (cells : List (Cell N)) (places : List (Place N)) →
-    p ≡ q → nodes_of q ≡ c ∷ [] → match_term q t ≡ with_outcome agrees → GoesInto f h c p t cells cells places places
+    p ≡ q → nodes_of q ≡ c ∷ [] → match_pattern q t ≡ with_answer yes → GoesInto f h c p t cells cells places places
 agrees_alone {N = N} f h c p q t cells places e nodes m =
     let P : Term → Type 0 = λ r. GoesInto f h c r t cells cells places places in
     subst P (sym e) (record {
@@ -269,7 +270,7 @@ agrees_inside {N = N} f h name g n p t cells now places same b o =
     let r = is_structure g n p b in
     let P : Term → Type 0 = λ q. GoesInto f h (inr (inr (g, n))) q t cells now places places in
     let Q : ℕ → Type 0 = λ m. (nodes_of (structure g r.arguments) ≡ inr (inr (g, m)) ∷ nodes_of_all r.arguments) in
-    let S : List ℕ → Type 0 = λ l. match_term (structure l r.arguments) t ≡ match_terms r.arguments o.arguments in
+    let S : List ℕ → Type 0 = λ l. match_pattern (structure l r.arguments) t ≡ match_patterns r.arguments o.arguments in
     subst P (sym r.is) (record {
       inner = r.arguments;
       arguments = o.arguments;
@@ -281,12 +282,12 @@ agrees_inside {N = N} f h name g n p t cells now places same b o =
       places_are = sym (append-nil (replacements_of f h places));
     })
 
-pub stays_outside : {N : Type 0} (f : N → List ℕ) (name : N) (g : List ℕ) (n : ℕ) (p t : Term) (outcome : Outcome) → f name ≡ g → Begins (inr (inr (g, n))) p →
-    ((ps : Terms) → count_of ps ≡ n → match_term (structure (f name) ps) t ≡ with_outcome outcome) → match_term p t ≡ with_outcome outcome
+pub stays_outside : {N : Type 0} (f : N → List ℕ) (name : N) (g : List ℕ) (n : ℕ) (p t : Term) (outcome : Answer) → f name ≡ g → Begins (inr (inr (g, n))) p →
+    ((ps : Terms) → count_of ps ≡ n → match_pattern (structure (f name) ps) t ≡ with_answer outcome) → match_pattern p t ≡ with_answer outcome
 stays_outside f name g n p t outcome same b m =
     let r = is_structure g n p b in
-    let S : List ℕ → Type 0 = λ l. match_term (structure l r.arguments) t ≡ with_outcome outcome in
-    ap (λ q. match_term q t) r.is ∙ subst S same (m r.arguments r.counted)
+    let S : List ℕ → Type 0 = λ l. match_pattern (structure l r.arguments) t ≡ with_answer outcome in
+    ap (λ q. match_pattern q t) r.is ∙ subst S same (m r.arguments r.counted)
 
 pub AreThere-push : {N : Type 0} (h : Held N) (ps : List (Place N)) (p : Place N) → AreThere h ps → IsIn h p.cell → AreThere h (ps ++ p ∷ [])
 AreThere-push h [] p q r = (r, tt)

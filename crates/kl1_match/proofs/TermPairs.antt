@@ -1,18 +1,17 @@
 -- Passive equality of two terms of tests, from their parts.
-use Rattle.std.proofs.Common.{◌≡◌, ℕ, suc, ◌+◌, ◌-◌, ◌<◌, ◌≤◌, ◌==◌, Bool, true, false, ◌||◌, if◌then◌else◌, List, [], ◌∷◌, ◌++◌, length, get_or, take, drop, map, refl, sym, ap, ap₂, ◌∙◌, subst, arith, append_assoc, append-nil, drop-cons}
+use Rattle.std.proofs.Common.{◌≡◌, ℕ, suc, ◌+◌, ◌-◌, ◌<◌, ◌≤◌, ◌==◌, Bool, true, false, ◌||◌, List, [], ◌∷◌, ◌++◌, length, get_or, take, drop, map, refl, sym, ap, ap₂, ◌∙◌, subst, arith, append_assoc, append-nil, drop-cons}
 use Rattle.std.specs.List.{All}
 use Rattle.std.proofs.lemmas.List.{take_all, drop_all, nil_from_length}
 use Rattle.std.proofs.lemmas.List.Elements.{All-head, All-tail}
 use Rattle.std.proofs.lemmas.List.Folds.{list_any-append}
-use Rattle.std.proofs.lemmas.Bool.{or_parts, or_from, or_left, false≢true, false_from_ne_true, cond-true, cond-false}
+use Rattle.std.proofs.lemmas.Bool.{or_parts, or_from, or_left}
 use Rattle.kl1_model.specs.declared.built_in.BuiltIn.{BuiltIn}
-use Rattle.kl1_model.specs.Term.{Term, same_term}
-use Rattle.kl1_model.specs.Same.{same, differs, unknown, passive, clash}
-use Rattle.kl1_model.specs.code.Awaited.{awaited}
-use Rattle.kl1_model.specs.code.Outcome.{own_variables}
-use Rattle.kl1_model.proofs.TermFacts.{same_term_decides}
-use Rattle.kl1_model.proofs.Clashes.{no_clash}
-use Rattle.kl1_model.proofs.SameEach.{awaited_self, same_from}
+use Rattle.kl1_model.specs.Term.{Term}
+use Rattle.kl1_model.specs.Answer.{yes, no, wait}
+use Rattle.kl1_model.specs.Same.{compare}
+use Rattle.kl1_model.specs.code.Comparing.{clash, awaited, answer_of_parts}
+use Rattle.kl1_model.specs.Match.{own_variables}
+use Rattle.kl1_model.proofs.Comparisons.{compare_is_parts}
 use Rattle.kl1_model.proofs.Beside.{moved, clash_beside, awaited_beside, own_moved}
 use Rattle.kl1_text.specs.Reading.{Reads}
 use Rattle.kl1_store.specs.declared.cell.Cell.{Cell}
@@ -210,18 +209,18 @@ module _ {N : Type 0} (built : BuiltIn → N) (t : Tests N) where
 
 -- ---- answers
 
-pub they_differ : (t u : Term) → clash t u ≡ true → passive t u ≡ differs
-they_differ t u c =
-    let other : same_term t u ≡ false = false_from_ne_true (same_term t u) (λ e. false≢true (sym (ap (λ x. clash x u) ((same_term_decides t u).0 e) ∙ no_clash u) ∙ c)) in
-    cond-false (same_term t u) same (if clash t u then differs else unknown) other ∙ cond-true (clash t u) differs unknown c
+pub they_differ : (t u : Term) → clash t u ≡ true → compare t u ≡ no
+they_differ t u c = compare_is_parts t u ∙ ap (λ b. answer_of_parts b (awaited t u)) c
 
-pub they_are_same : (t u : Term) → clash t u ≡ false → awaited t u ≡ [] → passive t u ≡ same
-they_are_same t u c a = cond-true (same_term t u) same (if clash t u then differs else unknown) (same_from t u c a)
+pub they_are_same : (t u : Term) → clash t u ≡ false → awaited t u ≡ [] → compare t u ≡ yes
+they_are_same t u c a = compare_is_parts t u ∙ ap₂ answer_of_parts c a
 
-pub they_are_unknown : (t u : Term) → clash t u ≡ false → (awaited t u ≡ [] → ⊥) → passive t u ≡ unknown
-they_are_unknown t u c some =
-    let other : same_term t u ≡ false = false_from_ne_true (same_term t u) (λ e. some (ap (λ x. awaited x u) ((same_term_decides t u).0 e) ∙ awaited_self u)) in
-    cond-false (same_term t u) same (if clash t u then differs else unknown) other ∙ cond-false (clash t u) differs unknown c
+parts_wait : (vs : List ℕ) → (vs ≡ [] → ⊥) → answer_of_parts false vs ≡ wait vs
+parts_wait [] some = absurd (some refl)
+parts_wait (v ∷ vs) some = refl
+
+pub they_wait : (t u : Term) → clash t u ≡ false → (awaited t u ≡ [] → ⊥) → compare t u ≡ wait (awaited t u)
+they_wait t u c some = compare_is_parts t u ∙ ap (λ b. answer_of_parts b (awaited t u)) c ∙ parts_wait (awaited t u) some
 
 module _ {N : Type 0} (built : BuiltIn → N) (t : Tests N) (x y : TestAt N) (waits : List TestVariable) (rest : List (Pair (TestAt N))) (before mid after : List ℕ) where
   -- they clash at once
@@ -286,7 +285,7 @@ module _ {N : Type 0} (built : BuiltIn → N) (t : Tests N) (x y : TestAt N) (wa
             let o = c.comes f reads in
             let ws = awaited (test_term built f t x) (test_term built f t y) in
             let same_there = same_among (own ++ c.named) (own_variables (last_of t) ws) (all_waits f reads p c) in
-            (they_are_unknown (test_term built f t x) (test_term built f t y) (d.clash ∙ o.clash) (λ nothing. never f reads d nothing (subst (λ l. AreSame (own ++ c.named) (own_variables (last_of t) l)) nothing same_there)), same_there);
+            (ws, (they_wait (test_term built f t x) (test_term built f t y) (d.clash ∙ o.clash) (λ nothing. never f reads d nothing (subst (λ l. AreSame (own ++ c.named) (own_variables (last_of t) l)) nothing same_there)), same_there));
       }
     where
       no_map : (xs : List TestVariable) → map (test_number t) xs ≡ [] → xs ≡ []

@@ -5,7 +5,7 @@ use Rattle.kl1_model.specs.declared.built_in.BuiltIn.{BuiltIn}
 use Rattle.kl1_model.specs.Term.{Term, variable, structure, substituted, Terms, none, more, each_substituted, count_of}
 use Rattle.kl1_model.specs.code.TermCode.{first_term, behind_first, front_of, behind}
 use Rattle.kl1_model.specs.laws.Clashes.{argument_at}
-use Rattle.kl1_model.specs.code.Outcome.{beside, test_variable}
+use Rattle.kl1_model.specs.Match.{beside, test_variable}
 use Rattle.kl1_model.proofs.Substitutions.{count-each_substituted}
 use Rattle.kl1_store.specs.declared.cell.Cell.{Cell}
 use Rattle.kl1_store.specs.Held.{Held, IsIn, arguments_of}

@@ -6,7 +6,9 @@ use Rattle.kl1_model.specs.declared.built_in.BuiltIn.{BuiltIn}
 use Rattle.kl1_model.specs.Term.{Term, Terms, more}
 use Rattle.kl1_model.specs.code.TermCode.{nodes_of_all}
 use Rattle.kl1_model.specs.Module.{Clause}
-use Rattle.kl1_model.specs.code.Outcome.{clashes, waits, both, Matched, match_terms, each_alike, guard_outcome, awaited_in, accepts, rejects, named_verdict, verdict_with}
+use Rattle.kl1_model.specs.Answer.{no, wait, together, awaited_in}
+use Rattle.kl1_model.specs.Match.{Match, match_patterns, each_answer, guard_answer}
+use Rattle.kl1_model.specs.code.Verdicts.{accepts, rejects, named_verdict, verdict_with}
 use Rattle.kl1_text.specs.Reading.{Reads}
 use Rattle.kl1_store.specs.declared.cell.Cell.{Cell}
 use Rattle.kl1_store.specs.Held.{Held}
@@ -98,7 +100,7 @@ goes_on built names compiled h goal x at i cells rest now places longer before a
 
 pub waits_there : {N : Type 0} (built : BuiltIn → N) (names : List N) (compiled : CompiledClause) (h : Held N) (goal x : Cell N) (at next : ℕ) (i : Instruction) (cells rest now : List (Cell N)) (places longer : List (Place N)) (before after later : List ℕ) (v : ℕ) →
     at < length compiled.patterns.items → cells ≡ x ∷ rest → GivesAll built names compiled h goal at cells places before after →
-    Decides built h names (get_or compiled.patterns.items at i) x rest now places longer (waits (v ∷ [])) → IsUnbound h v → later ≡ after ++ v ∷ [] → next ≤ length compiled.patterns.items →
+    Decides built h names (get_or compiled.patterns.items at i) x rest now places longer (wait (v ∷ [])) → IsUnbound h v → later ≡ after ++ v ∷ [] → next ≤ length compiled.patterns.items →
     ((texts : List (List ℕ)) (p : Term) (ps : Terms) → map (code_in texts) (drop at compiled.patterns.items) ≡ nodes_of_all (more p ps) → map (code_in texts) (drop next compiled.patterns.items) ≡ nodes_of_all ps) →
     GivesAll built names compiled h goal next now longer before later
 waits_there {N = N} built names compiled h goal x at next i cells rest now places longer before after later v lt popped all met unbound e le skips =
@@ -121,7 +123,7 @@ waits_there {N = N} built names compiled h goal x at next i cells rest now place
 -- ---- ends
 
 rejected : {N : Type 0} (built : BuiltIn → N) (names : List N) (compiled : CompiledClause) (h : Held N) (goal : Cell N) (places : List (Place N)) (before after named : List ℕ) → AreThere h places → AreUnbound h named → after ≡ before ++ named →
-    ((f : N → List ℕ) → Reads built f → (clause : Clause) → IsCompiled (map f names) compiled clause → (match_terms clause.patterns (arguments_of_goal (term_of f h goal))).outcome ≡ clashes) →
+    ((f : N → List ℕ) → Reads built f → (clause : Clause) → IsCompiled (map f names) compiled clause → (match_patterns clause.patterns (arguments_of_goal (term_of f h goal))).answer ≡ no) →
     IsTried built names compiled h goal places before after Rejects
 rejected built names compiled h goal places before after named inside unbound awaited clash = record {
   inside = inside;
@@ -134,7 +136,7 @@ rejected built names compiled h goal places before after named inside unbound aw
 
 pub clash_there : {N : Type 0} (built : BuiltIn → N) (names : List N) (compiled : CompiledClause) (h : Held N) (goal x : Cell N) (at : ℕ) (i : Instruction) (cells rest now : List (Cell N)) (places longer : List (Place N)) (before after : List ℕ) →
     at < length compiled.patterns.items → cells ≡ x ∷ rest → GivesAll built names compiled h goal at cells places before after →
-    Decides built h names (get_or compiled.patterns.items at i) x rest now places longer clashes → IsTried built names compiled h goal longer before after Rejects
+    Decides built h names (get_or compiled.patterns.items at i) x rest now places longer no → IsTried built names compiled h goal longer before after Rejects
 clash_there {N = N} built names compiled h goal x at i cells rest now places longer before after lt popped all met =
     let Q : List (Place N) → Type 0 = λ l. IsTried built names compiled h goal l before after Rejects in
     subst Q (sym met.places_are) (rejected built names compiled h goal places before after all.named all.places_in all.unbound all.awaited (λ f reads clause is.
@@ -170,9 +172,9 @@ abbrev pub verdict_so_far : List ℕ → Verdict
 verdict_so_far [] = Accepts
 verdict_so_far (v ∷ vs) = Suspends
 
-gives_so_far : {N : Type 0} (f : N → List ℕ) (h : Held N) (places : List (Place N)) (named : List ℕ) (m : Matched) → m ≡ matched_with (so_far named) (replacements_of f h places) → GivesMatch f h places named (verdict_so_far named) m
-gives_so_far f h places [] m e = (ap (λ (n : Matched). n.outcome) e, ap (λ (n : Matched). n.places) e)
-gives_so_far f h places (v ∷ vs) m e = (ap (λ (n : Matched). n.outcome) e, ap (λ (n : Matched). n.places) e)
+gives_so_far : {N : Type 0} (f : N → List ℕ) (h : Held N) (places : List (Place N)) (named : List ℕ) (m : Match) → m ≡ matched_with (so_far named) (replacements_of f h places) → GivesMatch f h places named (verdict_so_far named) m
+gives_so_far f h places [] m e = (ap (λ (n : Match). n.answer) e, ap (λ (n : Match). n.places) e)
+gives_so_far f h places (v ∷ vs) m e = (ap (λ (n : Match). n.answer) e, ap (λ (n : Match). n.places) e)
 
 names_so_far : (named : List ℕ) → NamesAs (verdict_so_far named) named
 names_so_far [] = refl
@@ -188,7 +190,7 @@ ends built names compiled h goal at cells places before after le empty all = rec
   awaited = all.awaited;
   gives = λ f reads clause is.
       let ts = arguments_of_goal (term_of f h goal) in
-      gives_so_far f h places all.named (match_terms clause.patterns ts)
+      gives_so_far f h places all.named (match_patterns clause.patterns ts)
       (all_matched f h clause.patterns ts (map (code_in (map f names)) (drop at compiled.patterns.items)) cells places all.named (nothing_more (map f names) compiled.patterns.items at le) empty (all.left f reads clause is));
 }
 
@@ -219,10 +221,10 @@ suspended built names compiled h goal at cells places before after le empty ne a
 -- ---- verdicts of clauses of which the match alone decides
 
 -- a match that clashes decides, whatever the places and the tests say
-pub clash_verdict : (c : Clause) (ts : Terms) → (match_terms c.patterns ts).outcome ≡ clashes → named_verdict c ts ≡ rejects []
+pub clash_verdict : (c : Clause) (ts : Terms) → (match_patterns c.patterns ts).answer ≡ no → named_verdict c ts ≡ rejects []
 clash_verdict c ts clash =
-    let m = match_terms c.patterns ts in
-    ap (λ o. verdict_with m (both (both o (each_alike m.places)) (guard_outcome m.places c.tests))) clash ∙ ap (λ o. rejects (awaited_in o)) clash
+    let m = match_patterns c.patterns ts in
+    ap (λ o. verdict_with m (together (together o (each_answer m.places)) (guard_answer m.places c.tests))) clash ∙ ap (λ o. rejects (awaited_in o)) clash
 
 -- what a clause that clashes named is dropped
 pub dropped : {N : Type 0} (built : BuiltIn → N) (names : List N) (compiled : CompiledClause) (h : Held N) (goal : Cell N) (places : List (Place N)) (before after now : List ℕ) (n : ℕ) → n ≡ length before → now ≡ take n after →
@@ -250,7 +252,7 @@ accepts_as built names compiled h goal places before after plain t = record {
   awaited = t.awaited;
   gives = λ f reads clause is.
       let ts = arguments_of_goal (term_of f h goal) in
-      let m = match_terms clause.patterns ts in
+      let m = match_patterns clause.patterns ts in
       let g = t.gives f reads clause is in
       record {
         defined = t.named;
@@ -269,7 +271,7 @@ suspends_as built names compiled h goal places before after plain t = record {
   awaited = t.awaited;
   gives = λ f reads clause is.
       let ts = arguments_of_goal (term_of f h goal) in
-      let m = match_terms clause.patterns ts in
+      let m = match_patterns clause.patterns ts in
       let g = t.gives f reads clause is in
       record {
         defined = t.named;

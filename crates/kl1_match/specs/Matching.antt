@@ -3,7 +3,8 @@ use Rattle.std.specs.Prelude.{◌≡◌, ℕ, ℤ, Bool, true, List, [], ◌∷�
 use Rattle.kl1_model.specs.declared.built_in.BuiltIn.{BuiltIn}
 use Rattle.kl1_model.specs.Term.{Term, integer, atom, structure, Terms, none, more, count_of, Replacement}
 use Rattle.kl1_model.specs.code.TermCode.{NodeCode, nodes_of, nodes_of_all}
-use Rattle.kl1_model.specs.code.Outcome.{Outcome, agrees, clashes, waits, with_outcome, match_both, match_term, match_terms}
+use Rattle.kl1_model.specs.Answer.{Answer, yes, no, wait}
+use Rattle.kl1_model.specs.Match.{with_answer, match_both, match_pattern, match_patterns}
 use Rattle.kl1_text.specs.Reading.{Reads}
 use Rattle.kl1_store.specs.declared.cell.Cell.{Cell}
 use Rattle.kl1_store.specs.declared.cell.Cell.TheVariants as cell
@@ -31,10 +32,10 @@ arguments_after (Atom a) = 0
 arguments_after (Structure a n) = n
 
 -- the outcome of a pattern without arguments
-abbrev pub outcome_of : Met → Outcome
-outcome_of Agrees = agrees
-outcome_of (Waits v) = waits (v ∷ [])
-outcome_of Clashes = clashes
+abbrev pub outcome_of : Met → Answer
+outcome_of Agrees = yes
+outcome_of (Waits v) = wait (v ∷ [])
+outcome_of Clashes = no
 
 -- a pattern waits for the variable that the cell is
 abbrev pub WaitsAt : {N : Type 0} → Cell N → Met → Type 0
@@ -50,17 +51,17 @@ MetUnbound h Clashes = Unit {0}
 
 -- what an integer as a pattern beside a cell comes to
 abbrev pub IntegerMeets : {N : Type 0} → (BuiltIn → N) → Held N → ℤ → Cell N → Met → Type 0
-IntegerMeets {N = N} built h i x met = (f : N → List ℕ) → match_term (integer i) (term_of f h x) ≡ with_outcome (outcome_of met)
+IntegerMeets {N = N} built h i x met = (f : N → List ℕ) → match_pattern (integer i) (term_of f h x) ≡ with_answer (outcome_of met)
 
 -- what an atom as a pattern beside a cell comes to
 abbrev pub AtomMeets : {N : Type 0} → (BuiltIn → N) → Held N → N → Cell N → Met → Type 0
-AtomMeets {N = N} built h a x met = (f : N → List ℕ) → Reads built f → match_term (atom (f a)) (term_of f h x) ≡ with_outcome (outcome_of met)
+AtomMeets {N = N} built h a x met = (f : N → List ℕ) → Reads built f → match_pattern (atom (f a)) (term_of f h x) ≡ with_answer (outcome_of met)
 
 -- a structure of this name and number of arguments beside a pattern of these: its arguments stand before the cells that are left
 pub record IsOpened {N : Type 0} (f : N → List ℕ) (h : Held N) (name : N) (count : ℕ) (t : Term) (cells now : List (Cell N)) : Type 0 where
   pub arguments : Terms
   pub counted : count_of arguments ≡ count
-  pub matched : (ps : Terms) → count_of ps ≡ count → match_term (structure (f name) ps) t ≡ match_terms ps arguments
+  pub matched : (ps : Terms) → count_of ps ≡ count → match_pattern (structure (f name) ps) t ≡ match_patterns ps arguments
   pub cells_are : terms_of f h now ≡ joined arguments (terms_of f h cells)
 
 -- the term of a cell is such a structure, however names are read
@@ -68,15 +69,15 @@ pub record Opens {N : Type 0} (built : BuiltIn → N) (h : Held N) (name : N) (c
   pub opened : (f : N → List ℕ) → Reads built f → IsOpened f h name count (term_of f h x) cells now
 
 -- a structure as a pattern beside a cell with this outcome, if the cells that are left stay
-pub record Stays {N : Type 0} (built : BuiltIn → N) (h : Held N) (name : N) (count : ℕ) (x : Cell N) (cells now : List (Cell N)) (outcome : Outcome) : Type 0 where
+pub record Stays {N : Type 0} (built : BuiltIn → N) (h : Held N) (name : N) (count : ℕ) (x : Cell N) (cells now : List (Cell N)) (outcome : Answer) : Type 0 where
   pub cells_are : now ≡ cells
-  pub matched : (f : N → List ℕ) → Reads built f → (ps : Terms) → count_of ps ≡ count → match_term (structure (f name) ps) (term_of f h x) ≡ with_outcome outcome
+  pub matched : (f : N → List ℕ) → Reads built f → (ps : Terms) → count_of ps ≡ count → match_pattern (structure (f name) ps) (term_of f h x) ≡ with_answer outcome
 
 -- what a structure as a pattern beside a cell comes to
 abbrev pub StructureMeets : {N : Type 0} → (BuiltIn → N) → Held N → N → ℕ → Cell N → List (Cell N) → List (Cell N) → Met → Type 0
 StructureMeets built h name count x cells now Agrees = Opens built h name count x cells now
-StructureMeets built h name count x cells now (Waits v) = Stays built h name count x cells now (waits (v ∷ []))
-StructureMeets built h name count x cells now Clashes = Stays built h name count x cells now clashes
+StructureMeets built h name count x cells now (Waits v) = Stays built h name count x cells now (wait (v ∷ []))
+StructureMeets built h name count x cells now Clashes = Stays built h name count x cells now no
 
 -- a pattern begins with a node
 pub record Begins (c : NodeCode) (p : Term) : Type 0 where
@@ -90,7 +91,7 @@ pub record GoesInto {N : Type 0} (f : N → List ℕ) (h : Held N) (c : NodeCode
   pub taken : List Replacement
   pub nodes : nodes_of p ≡ c ∷ nodes_of_all inner
   pub counted : count_of inner ≡ count_of arguments
-  pub matched : match_term p t ≡ match_both (record { outcome = agrees; places = taken }) (match_terms inner arguments)
+  pub matched : match_pattern p t ≡ match_both (record { answer = yes; places = taken }) (match_patterns inner arguments)
   pub cells_are : terms_of f h now ≡ joined arguments (terms_of f h cells)
   pub places_are : replacements_of f h longer ≡ replacements_of f h places ++ taken
 
@@ -100,16 +101,16 @@ pub record Continues {N : Type 0} (built : BuiltIn → N) (h : Held N) (names : 
   pub goes_into : (f : N → List ℕ) → Reads built f → (p : Term) → Begins (code_in (map f names) i) p → GoesInto f h (code_in (map f names) i) p (term_of f h x) cells now places longer
 
 -- a pattern has this outcome beside a cell, and nothing is put anywhere
-pub record Decides {N : Type 0} (built : BuiltIn → N) (h : Held N) (names : List N) (i : Instruction) (x : Cell N) (cells now : List (Cell N)) (places longer : List (Place N)) (outcome : Outcome) : Type 0 where
+pub record Decides {N : Type 0} (built : BuiltIn → N) (h : Held N) (names : List N) (i : Instruction) (x : Cell N) (cells now : List (Cell N)) (places longer : List (Place N)) (outcome : Answer) : Type 0 where
   pub cells_are : now ≡ cells
   pub places_are : longer ≡ places
-  pub matched : (f : N → List ℕ) → Reads built f → (p : Term) → Begins (code_in (map f names) i) p → match_term p (term_of f h x) ≡ with_outcome outcome
+  pub matched : (f : N → List ℕ) → Reads built f → (p : Term) → Begins (code_in (map f names) i) p → match_pattern p (term_of f h x) ≡ with_answer outcome
 
 -- what a pattern that begins with an instruction comes to beside a cell
 abbrev pub MeetsAs : {N : Type 0} → (BuiltIn → N) → Held N → List N → Instruction → Cell N → List (Cell N) → List (Cell N) → List (Place N) → List (Place N) → Met → Type 0
 MeetsAs built h names i x cells now places longer Agrees = Continues built h names i x cells now places longer
-MeetsAs built h names i x cells now places longer (Waits v) = Decides built h names i x cells now places longer (waits (v ∷ []))
-MeetsAs built h names i x cells now places longer Clashes = Decides built h names i x cells now places longer clashes
+MeetsAs built h names i x cells now places longer (Waits v) = Decides built h names i x cells now places longer (wait (v ∷ []))
+MeetsAs built h names i x cells now places longer Clashes = Decides built h names i x cells now places longer no
 
 -- places, and the one that a pattern's variable takes
 abbrev pub with_place : {N : Type 0} → List (Place N) → Instruction → Cell N → List (Place N)

@@ -1,9 +1,10 @@
 -- Passive equality of two terms of a clause's tests.
 use Rattle.std.specs.Prelude.{◌≡◌, ℕ, suc, ◌+◌, Bool, true, false, List, [], ◌++◌}
 use Rattle.kl1_model.specs.declared.built_in.BuiltIn.{BuiltIn}
-use Rattle.kl1_model.specs.Same.{clash, passive, same, differs, unknown}
-use Rattle.kl1_model.specs.code.Awaited.{awaited}
-use Rattle.kl1_model.specs.code.Outcome.{own_variables}
+use Rattle.kl1_model.specs.Answer.{yes, no, wait}
+use Rattle.kl1_model.specs.Same.{compare}
+use Rattle.kl1_model.specs.code.Comparing.{clash}
+use Rattle.kl1_model.specs.Match.{own_variables}
 use Rattle.kl1_text.specs.Reading.{Reads}
 use Rattle.kl1_match_guard.specs.declared.pair.Pair.{Pair}
 use Rattle.kl1_match_guard.specs.Alike.{is_among, wait_for, some_pair}
@@ -37,9 +38,9 @@ pub record PairsCome {N : Type 0} (built : BuiltIn → N) (t : Tests N) (pairs :
 
 -- what passive equality answers of two terms, and which variables are named
 abbrev pub PassesAs : {N : Type 0} → (BuiltIn → N) → (N → List ℕ) → Tests N → TestAt N → TestAt N → List ℕ → Passed → Type 0
-PassesAs built f t x y named Same = (passive (test_term built f t x) (test_term built f t y) ≡ same) × (named ≡ [])
-PassesAs built f t x y named Differs = passive (test_term built f t x) (test_term built f t y) ≡ differs
-PassesAs built f t x y named Unknown = (passive (test_term built f t x) (test_term built f t y) ≡ unknown) × AreSame named (own_variables (last_of t) (awaited (test_term built f t x) (test_term built f t y)))
+PassesAs built f t x y named Same = (compare (test_term built f t x) (test_term built f t y) ≡ yes) × (named ≡ [])
+PassesAs built f t x y named Differs = compare (test_term built f t x) (test_term built f t y) ≡ no
+PassesAs built f t x y named Unknown = (vs : List ℕ) × ((compare (test_term built f t x) (test_term built f t y) ≡ wait vs) × AreSame named (own_variables (last_of t) vs))
 
 -- that, however names are read; the variables that are named are added to those before, all unbound
 pub record Passes {N : Type 0} (built : BuiltIn → N) (t : Tests N) (x y : TestAt N) (before after : List ℕ) (answer : Passed) : Type 0 where

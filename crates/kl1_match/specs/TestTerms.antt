@@ -5,7 +5,7 @@ use Rattle.kl1_model.specs.declared.built_in.BuiltIn.{BuiltIn}
 use Rattle.kl1_model.specs.declared.built_in.BuiltIn.TheVariants.{EmptyList}
 use Rattle.kl1_model.specs.Term.{Term, variable, substituted, Terms, each_substituted}
 use Rattle.kl1_model.specs.code.TermCode.{NodeCode, first_term, front_of, read_nodes}
-use Rattle.kl1_model.specs.code.Outcome.{beside, test_variable}
+use Rattle.kl1_model.specs.Match.{beside, test_variable}
 use Rattle.kl1_store.specs.declared.cell.Cell.{Cell}
 use Rattle.kl1_store.specs.Held.{Held, IsIn, arguments_of}
 use Rattle.kl1_store.specs.Meaning.{term_of, terms_of}

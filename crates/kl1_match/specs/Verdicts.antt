@@ -3,8 +3,10 @@ use Rattle.std.specs.Prelude.{◌≡◌, ℕ, Bool, true, false, List, [], ◌++
 use Rattle.kl1_model.specs.declared.built_in.BuiltIn.{BuiltIn}
 use Rattle.kl1_model.specs.Term.{Term, variable, integer, atom, structure, Terms, none}
 use Rattle.kl1_model.specs.Module.{Clause}
-use Rattle.kl1_model.specs.code.Outcome as model
-use Rattle.kl1_model.specs.code.Outcome.{Matched, agrees, clashes, waits, match_terms, named_verdict, accepts, rejects, suspends}
+use Rattle.kl1_model.specs.code.Verdicts as model
+use Rattle.kl1_model.specs.Match.{Match, match_patterns}
+use Rattle.kl1_model.specs.Answer.{yes, no, wait}
+use Rattle.kl1_model.specs.code.Verdicts.{named_verdict, accepts, rejects, suspends}
 use Rattle.kl1_text.specs.Reading.{Reads}
 use Rattle.kl1_store.specs.declared.cell.Cell.{Cell}
 use Rattle.kl1_store.specs.Held.{Held}
@@ -60,10 +62,10 @@ pub record IsVerdict {N : Type 0} (built : BuiltIn → N) (names : List N) (comp
 
 -- the verdict of a match alone: it agrees, with the terms at these places, or clashes, or waits for these variables, with the
 -- terms at the places that were reached
-abbrev pub GivesMatch : {N : Type 0} → (N → List ℕ) → Held N → List (Place N) → List ℕ → Verdict → Matched → Type 0
-GivesMatch f h places named Accepts m = (m.outcome ≡ agrees) × (m.places ≡ replacements_of f h places)
-GivesMatch f h places named Rejects m = m.outcome ≡ clashes
-GivesMatch f h places named Suspends m = (m.outcome ≡ waits named) × (m.places ≡ replacements_of f h places)
+abbrev pub GivesMatch : {N : Type 0} → (N → List ℕ) → Held N → List (Place N) → List ℕ → Verdict → Match → Type 0
+GivesMatch f h places named Accepts m = (m.answer ≡ yes) × (m.places ≡ replacements_of f h places)
+GivesMatch f h places named Rejects m = m.answer ≡ no
+GivesMatch f h places named Suspends m = (m.answer ≡ wait named) × (m.places ≡ replacements_of f h places)
 
 -- this is the verdict of the match of the clause with the goal alone, for each reading of the names, and the variables for which
 -- it waits are added to those before; one that clashes may have added some too
@@ -73,4 +75,4 @@ pub record IsTried {N : Type 0} (built : BuiltIn → N) (names : List N) (compil
   pub named_as : NamesAs given named
   pub unbound : AreUnbound h named
   pub awaited : after ≡ before ++ named
-  pub gives : (f : N → List ℕ) → Reads built f → (clause : Clause) → IsCompiled (map f names) compiled clause → GivesMatch f h places named given (match_terms clause.patterns (arguments_of_goal (term_of f h goal)))
+  pub gives : (f : N → List ℕ) → Reads built f → (clause : Clause) → IsCompiled (map f names) compiled clause → GivesMatch f h places named given (match_patterns clause.patterns (arguments_of_goal (term_of f h goal)))

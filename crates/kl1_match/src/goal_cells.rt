@@ -2,13 +2,13 @@
 
 ghost use Rattle.std.specs.Prelude.{◌≡◌, ◌+◌, ◌-◌, ◌<◌, length, IfOk, OnOk};
 ghost use Rattle.kl1_store.specs.Held.{AreIn, HasRoom};
-ghost use Rattle.kl1_store.specs.Sound.{Grown};
+ghost use Rattle.kl1_store.specs.Sound.{Grown, IsFormed};
 ghost use Rattle.kl1_store.specs.Spending.{Spends};
 ghost use Rattle.kl1_clause.specs.Instructions.{AreNamed};
 ghost use Rattle.kl1_match.specs.Built.{AreBelow};
 ghost use Rattle.kl1_match.specs.Variables.{with_variables};
 ghost use Rattle.kl1_match.specs.Rooms.{structures_in, arguments_in};
-ghost use Rattle.kl1_match.specs.GoalCells.{goal_variables, HasRoomForGoal, AreGoalVariables, BuildsGoal};
+ghost use Rattle.kl1_match.specs.GoalCells.{goal_variables, HasRoomForGoal, AreGoalVariables, BuildsGoal, new_in, told_row};
 
 use crate::instances::put_row;
 use crate::scratch::Scratch;
@@ -42,6 +42,40 @@ pub fn put_goal_variables<N: NameValue>(
     variables.reserve(all)?;
     variables.push_reserved(Cell::Atom(N::of(BuiltIn::EmptyList)));
     put_fresh(store, variables, count)
+}
+
+/// Puts a cell for each variable of the goal of an answer in the scratch, by its number from 0, after the cell of the empty list: the
+/// variable that it tells, or a new one of the store if it tells none. If memory is refused, the store may have grown, and the scratch's
+/// cells are of no use.
+pub fn put_told_variables<N: NameValue>(
+    store: &mut Store<N>,
+    told: &[Option<u32>],
+    scratch: &mut Scratch<N>,
+) -> Result<(), AllocError>
+    ensures formed { IsFormed store.old.held }
+    ensures grown { Grown store.old.held store.new.held }
+    ensures hooks { store.new.hooks ≡ store.old.hooks }
+    ensures bindings { store.new.held.bindings ≡ store.old.held.bindings }
+    ensures held { OnOk result (store.new.held ≡ with_variables store.old.held (new_in told.now)) }
+    ensures variables { OnOk result (goal_variables scratch.new ≡ told_row N.built store.old.held.variables told.now) }
+{
+    // Only for the proof: what the store holds is formed.
+    let _ = store.mark();
+    let variables = &mut scratch.variables;
+    let all = told.len().checked_add(1).ok_or(AllocError)?;
+    variables.clear();
+    variables.reserve(all)?;
+    variables.push_reserved(Cell::Atom(N::of(BuiltIn::EmptyList)));
+    let mut rest = told;
+    while let [first, others @ ..] = rest {
+        let number = match first {
+            Some(number) => *number,
+            None => store.fresh()?,
+        };
+        variables.push_reserved(Cell::Variable(number));
+        rest = others;
+    }
+    Ok(())
 }
 
 /// How many arguments the structures of a row have in all.

@@ -26,7 +26,9 @@ mod verdict;
 
 pub use agreeing::agrees_with_in_order;
 pub use at_once::known_at_once;
-pub use goal_cells::{put_goal, put_goal_variables, reserve_goal, reserve_goal_beside};
+pub use goal_cells::{
+    put_goal, put_goal_variables, put_told_variables, reserve_goal, reserve_goal_beside,
+};
 pub use heads::{find_match, judge_plain};
 pub use instances::{put_instance, put_kept_instance};
 pub use name_in::name_at;

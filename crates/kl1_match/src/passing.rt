@@ -2,7 +2,7 @@
 
 ghost use Rattle.std.specs.Prelude.{◌≡◌, ◌∷◌, ◌++◌, [], map, false, IfOk, OnOk, IsTrue};
 ghost use Rattle.std.specs.List.{All};
-ghost use Rattle.kl1_model.specs.code.Outcome.{own_variables};
+ghost use Rattle.kl1_model.specs.Match.{own_variables};
 ghost use Rattle.kl1_match_guard.specs.Alike.{IsPairOf};
 ghost use Rattle.kl1_store.specs.Remembers.{Remembers};
 ghost use Rattle.kl1_match.specs.TestTerms.{tests_of, last_of, goal_of, test_number, IsFreeIn, IsTermAt, IsCellAt};

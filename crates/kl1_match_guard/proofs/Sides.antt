@@ -5,9 +5,8 @@ use Rattle.std.proofs.lemmas.Option.{same_Some}
 use Rattle.kl1_model.specs.declared.built_in.BuiltIn.{BuiltIn}
 use Rattle.kl1_model.specs.Term.{Term, variable, integer, atom, structure, Terms, none, more, count_of, size, sizes}
 use Rattle.kl1_model.specs.Unify.{argument_equations}
-use Rattle.kl1_model.specs.Same.{clash, any_clash}
+use Rattle.kl1_model.specs.code.Comparing.{clash, any_clash, awaited, all_awaited}
 use Rattle.kl1_model.specs.laws.Clashes.{argument_at}
-use Rattle.kl1_model.specs.code.Awaited.{awaited, all_awaited}
 use Rattle.kl1_match_guard.specs.declared.pair.Pair.{Pair}
 use Rattle.kl1_match_guard.specs.declared.frame.Frame.{Frame}
 use Rattle.kl1_match_guard.specs.Alike.{is_among, wait_for, some_equation, equations_left, some_frame, some_pair, clash_left, await_left, sides_size, work_left, TakesUp, TakesUpAs, SidesLeft, Parts, IsFrameOf}

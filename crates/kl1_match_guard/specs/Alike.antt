@@ -4,8 +4,7 @@ use Rattle.std.specs.List.{list_any}
 use Rattle.kl1_model.specs.declared.built_in.BuiltIn.{BuiltIn}
 use Rattle.kl1_model.specs.Term.{Term, Terms, count_of, size, sizes}
 use Rattle.kl1_model.specs.Unify.{Equation, argument_equations}
-use Rattle.kl1_model.specs.Same.{clash, any_clash}
-use Rattle.kl1_model.specs.code.Awaited.{awaited, all_awaited}
+use Rattle.kl1_model.specs.code.Comparing.{clash, any_clash, awaited, all_awaited}
 use Rattle.kl1_text.specs.Reading.{Reads}
 use Rattle.kl1_match_guard.specs.declared.pair.Pair.{Pair}
 use Rattle.kl1_match_guard.specs.declared.frame.Frame.{Frame}

@@ -1,8 +1,7 @@
 // Tests that compare the values of two expressions.
 
 ghost use Rattle.std.specs.Prelude.{◌≡◌, ℕ, IfOk, IsOk, OnOk};
-ghost use Rattle.kl1_model.specs.Guard.{compared};
-ghost use Rattle.kl1_model.specs.code.Outcome.{compared_numbers};
+ghost use Rattle.kl1_model.specs.Guard.{compared, numbers_answer};
 ghost use Rattle.kl1_match_guard.specs.Evaluations.{HasRoom};
 ghost use Rattle.kl1_match_guard.specs.Outcomes.{outcome_of, ComparesAs, IsKnown, IsWaiting};
 
@@ -31,7 +30,7 @@ fn holds(comparison: Comparison, left: i64, right: i64) -> bool
 
 /// A comparison of what two expressions come to; a fault of computing clashes.
 fn compare_numbers<V>(comparison: Comparison, left: Number, right: Number) -> Outcome<V>
-    ensures value { (number : V → ℕ) → outcome_of number result ≡ compared_numbers comparison left right }
+    ensures value { (number : V → ℕ) → outcome_of number result ≡ numbers_answer comparison left right }
     ensures known { IsKnown result }
 {
     match left {

@@ -7,9 +7,9 @@ use Rattle.kl1_model.specs.Term.{Terms, Replacement}
 use Rattle.kl1_model.specs.Module.{Clause}
 use Rattle.kl1_model.specs.Match.{Answer, yes, no, wait, Candidate, candidate_by, is_no, places_of, verdict}
 use Rattle.kl1_model.specs.code.Sections.{candidates_within, candidates_from}
-use Rattle.kl1_model.specs.code.Outcome.{answer_in}
+use Rattle.kl1_model.specs.code.Verdicts.{answer_in}
 use Rattle.kl1_model.proofs.LeastClause.{AreFrom, are_from, are_from_within}
-use Rattle.kl1_model.proofs.VerdictAnswers.{verdicts_answer, places_in, candidate_in}
+use Rattle.kl1_model.proofs.VerdictNames.{verdicts_answer, places_in, candidate_in}
 use Rattle.kl1_text.specs.Reading.{Reads}
 use Rattle.kl1_store.specs.declared.cell.Cell.{Cell}
 use Rattle.kl1_store.specs.Held.{Held}
@@ -40,12 +40,12 @@ pub at_front : (j n : ℕ) (c : Clause) (ps : List Replacement) (ks : List Candi
 at_front j n c ps ks yes e a =
     cond-true (n == j) (Some (record { number = n; clause = c; places = ps })) (numbered j ks) (eq-eqb n j (sym e)) ∙ ap (λ k. first_of (candidate_by k c ps yes)) (sym e)
 at_front j n c ps ks no e a = none_numbered j (suc n) ks (omega (arith, e)) a
-at_front j n c ps ks wait e a = none_numbered j (suc n) ks (omega (arith, e)) a
+at_front j n c ps ks (wait vs) e a = none_numbered j (suc n) ks (omega (arith, e)) a
 
 pub behind_front : (j n : ℕ) (c : Clause) (ps : List Replacement) (ks : List Candidate) (v : Answer) → n < j → numbered j (candidate_by n c ps v ++ ks) ≡ numbered j ks
 behind_front j n c ps ks yes lt = cond-false (n == j) (Some (record { number = n; clause = c; places = ps })) (numbered j ks) (ne_eqb n j (λ e. absurd (omega (arith, lt, e))))
 behind_front j n c ps ks no lt = refl
-behind_front j n c ps ks wait lt = refl
+behind_front j n c ps ks (wait vs) lt = refl
 
 -- ---- sections
 
@@ -82,7 +82,7 @@ run_within j (suc k) n s (d ∷ ds) rest c ts e run is =
 nothing_by : (j : ℕ) (c : Clause) (ps : List Replacement) (v : Answer) → is_no v ≡ true → first_of (candidate_by j c ps v) ≡ None
 nothing_by j c ps yes e = absurd (cc)
 nothing_by j c ps no e = refl
-nothing_by j c ps wait e = refl
+nothing_by j c ps (wait vs) e = refl
 
 run_from : (j k n s : ℕ) (cs rest : List Clause) (c : Clause) (ts : Terms) → drop k cs ≡ c ∷ rest → ((i : ℕ) → i ≤ k → get_or (sections cs) i 0 ≡ s) → j ≡ n + k → numbered j (candidates_from n cs ts) ≡ first_of (candidate_by j c (places_of c ts) (verdict c ts))
 run_from j zero n s [] rest c ts e run is = absurd (cc)

@@ -7,13 +7,11 @@ use Rattle.std.proofs.lemmas.List.{drop_all}
 use Rattle.kl1_model.specs.declared.built_in.BuiltIn.{BuiltIn}
 use Rattle.kl1_model.specs.Term.{Terms}
 use Rattle.kl1_model.specs.Module.{Clause}
-use Rattle.kl1_model.specs.code.Outcome as model
+use Rattle.kl1_model.specs.code.Verdicts as model
 use Rattle.kl1_model.specs.Match.{verdict}
-use Rattle.kl1_model.specs.code.Outcome.{named_verdict, answer_in}
-use Rattle.kl1_model.specs.laws.OutcomeLaws.{named_in}
+use Rattle.kl1_model.specs.code.Verdicts.{named_verdict, answer_in, named_in}
 use Rattle.kl1_model.specs.code.Waits.{by_answer, least_within, least_from, least_clause, awaited_after, awaited_within, awaited_by_clause, awaited_by_clauses}
-use Rattle.kl1_model.proofs.VerdictAnswers.{verdicts_answer}
-use Rattle.kl1_model.proofs.VerdictNames.{verdicts_name}
+use Rattle.kl1_model.proofs.VerdictNames.{verdicts_answer, verdicts_name}
 use Rattle.kl1_text.specs.Reading.{Reads}
 use Rattle.kl1_store.specs.declared.cell.Cell.{Cell}
 use Rattle.kl1_store.specs.Held.{Held}

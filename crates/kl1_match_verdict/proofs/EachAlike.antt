@@ -3,7 +3,9 @@ use Rattle.std.proofs.Common.{◌≡◌, ℕ, ◌-◌, ◌<◌, ◌≤◌, ◌==
 use Rattle.std.proofs.lemmas.List.{take_all}
 use Rattle.std.proofs.lemmas.Bool.{cond-true, cond-false, eq-eqb, ne_eqb}
 use Rattle.kl1_model.specs.declared.built_in.BuiltIn.{BuiltIn}
-use Rattle.kl1_model.specs.code.Outcome.{Outcome, agrees, places_alike, alike_with, each_alike, alike}
+use Rattle.kl1_model.specs.Answer.{Answer, yes}
+use Rattle.kl1_model.specs.Match.{two_answer, one_answer, each_answer}
+use Rattle.kl1_model.specs.Same.{compare}
 use Rattle.kl1_store.specs.Held.{Held}
 use Rattle.kl1_store.specs.Meaning.{term_of}
 use Rattle.kl1_store.specs.Sameness.{AlikeAs}
@@ -12,7 +14,7 @@ use Rattle.kl1_match.specs.Instances.{AreThere, replacement_of, replacements_of}
 use Rattle.kl1_match.specs.Outcomes.{WaitsFor}
 use Rattle.kl1_match_verdict.specs.Outcomes.{TwoCome, OneComes, EachComes}
 use Rattle.kl1_match.proofs.Coming.{LeftTo, parts_begin, part_done, part_clashes, parts_end}
-use Rattle.kl1_match_verdict.proofs.TwoTerms.{alike_waits, alike_clashes}
+use Rattle.kl1_match_verdict.proofs.TwoTerms.{compared_waits, compared_clashes}
 
 -- ---- two places
 
@@ -22,8 +24,8 @@ others_agree built h p q before ne = record {
   unbound = tt;
   added = sym (append-nil before);
   comes = λ f reads.
-      let W : Outcome → Type 0 = λ o. WaitsFor [] o in
-      subst W (sym (cond-false (p.variable == q.variable) (alike (term_of f h p.cell) (term_of f h q.cell)) agrees (ne_eqb p.variable q.variable ne))) refl;
+      let W : Answer → Type 0 = λ o. WaitsFor [] o in
+      subst W (sym (cond-false (p.variable == q.variable) (compare (term_of f h p.cell) (term_of f h q.cell)) yes (ne_eqb p.variable q.variable ne))) refl;
 }
 
 pub two_compared : {N : Type 0} (built : BuiltIn → N) (h : Held N) (p q : Place N) (before after : List ℕ) (b : Bool) → p.variable ≡ q.variable → AlikeAs built h p.cell q.cell before after b → TwoCome built h p q before after b
@@ -32,17 +34,17 @@ two_compared {N = N} built h p q before after true e a = record {
   unbound = a.unbound;
   added = a.added;
   comes = λ f reads.
-      let W : Outcome → Type 0 = λ o. WaitsFor a.named o in
-      subst W (sym (cond-true (p.variable == q.variable) (alike (term_of f h p.cell) (term_of f h q.cell)) agrees (eq-eqb p.variable q.variable e)))
-      (alike_waits (term_of f h p.cell) (term_of f h q.cell) a.named (a.clash f reads) (record { each = a.awaited f reads }));
+      let W : Answer → Type 0 = λ o. WaitsFor a.named o in
+      subst W (sym (cond-true (p.variable == q.variable) (compare (term_of f h p.cell) (term_of f h q.cell)) yes (eq-eqb p.variable q.variable e)))
+      (compared_waits (term_of f h p.cell) (term_of f h q.cell) a.named (a.clash f reads) (record { each = a.awaited f reads }));
 }
 two_compared built h p q before after false e a = record {
   named = [];
   unbound = tt;
   added = a.0 ∙ sym (append-nil before);
   comes = λ f reads.
-      cond-true (p.variable == q.variable) (alike (term_of f h p.cell) (term_of f h q.cell)) agrees (eq-eqb p.variable q.variable e)
-      ∙ alike_clashes (term_of f h p.cell) (term_of f h q.cell) (a.1 f reads);
+      cond-true (p.variable == q.variable) (compare (term_of f h p.cell) (term_of f h q.cell)) yes (eq-eqb p.variable q.variable e)
+      ∙ compared_clashes (term_of f h p.cell) (term_of f h q.cell) (a.1 f reads);
 }
 
 -- ---- a place beside others
@@ -50,7 +52,7 @@ two_compared built h p q before after false e a = record {
 -- the places that are left are of the store, and lead to the answer of all
 pub record OneLeft {N : Type 0} (built : BuiltIn → N) (h : Held N) (p : Place N) (all rest : List (Place N)) (before now : List ℕ) : Type 0 where
   pub inside : AreThere h rest
-  pub left : LeftTo built h (λ f. alike_with (replacement_of f h p) (replacements_of f h rest)) (λ f. alike_with (replacement_of f h p) (replacements_of f h all)) before now
+  pub left : LeftTo built h (λ f. one_answer (replacement_of f h p) (replacements_of f h rest)) (λ f. one_answer (replacement_of f h p) (replacements_of f h all)) before now
 
 pub one_begins : {N : Type 0} (built : BuiltIn → N) (h : Held N) (p : Place N) (all : List (Place N)) (before : List ℕ) → AreThere h all → OneLeft built h p all all before before
 one_begins built h p all before inside = record { inside = inside; left = parts_begin built h _ before }
@@ -62,14 +64,14 @@ one_steps {N = N} built h p q all (z ∷ zs) before now next le e l c =
     let P : List (Place N) → Type 0 = λ r. OneLeft built h p all r before next in
     let Q : Place N → Type 0 = λ k. TwoCome built h p k now next true in
     subst P (sym (take_all (length (z ∷ zs) - 1) zs (omega arith)))
-    (record { inside = l.inside.1; left = part_done built h (λ f. places_alike (replacement_of f h p) (replacement_of f h z)) (λ f. alike_with (replacement_of f h p) (replacements_of f h zs)) _ _ before now next (λ f. refl) l.left (subst Q e c) })
+    (record { inside = l.inside.1; left = part_done built h (λ f. two_answer (replacement_of f h p) (replacement_of f h z)) (λ f. one_answer (replacement_of f h p) (replacements_of f h zs)) _ _ before now next (λ f. refl) l.left (subst Q e c) })
 
 pub one_clashes : {N : Type 0} (built : BuiltIn → N) (h : Held N) (p q : Place N) (all rest : List (Place N)) (before now next : List ℕ) → 1 ≤ length rest → q ≡ get_or rest 0 q → OneLeft built h p all rest before now → TwoCome built h p q now next false →
     OneComes built h p all before next false
 one_clashes built h p q all [] before now next le e l c = absurd (omega arith)
 one_clashes {N = N} built h p q all (z ∷ zs) before now next le e l c =
     let Q : Place N → Type 0 = λ k. TwoCome built h p k now next false in
-    part_clashes built h (λ f. places_alike (replacement_of f h p) (replacement_of f h z)) (λ f. alike_with (replacement_of f h p) (replacements_of f h zs)) _ _ before now next (λ f. refl) l.left (subst Q e c)
+    part_clashes built h (λ f. two_answer (replacement_of f h p) (replacement_of f h z)) (λ f. one_answer (replacement_of f h p) (replacements_of f h zs)) _ _ before now next (λ f. refl) l.left (subst Q e c)
 
 pub one_ends : {N : Type 0} (built : BuiltIn → N) (h : Held N) (p : Place N) (all rest : List (Place N)) (before now : List ℕ) → length rest < 1 → OneLeft built h p all rest before now → OneComes built h p all before now true
 one_ends built h p all [] before now le l = parts_end built h _ _ before now (λ f. refl) l.left
@@ -87,7 +89,7 @@ one_inside {N = N} h q (z ∷ zs) le e inside =
 -- the places that are left are of the store, and lead to the answer of all
 pub record EachLeft {N : Type 0} (built : BuiltIn → N) (h : Held N) (all rest : List (Place N)) (before now : List ℕ) : Type 0 where
   pub inside : AreThere h rest
-  pub left : LeftTo built h (λ f. each_alike (replacements_of f h rest)) (λ f. each_alike (replacements_of f h all)) before now
+  pub left : LeftTo built h (λ f. each_answer (replacements_of f h rest)) (λ f. each_answer (replacements_of f h all)) before now
 
 pub each_begins : {N : Type 0} (built : BuiltIn → N) (h : Held N) (all : List (Place N)) (before : List ℕ) → AreThere h all → EachLeft built h all all before before
 each_begins built h all before inside = record { inside = inside; left = parts_begin built h _ before }
@@ -101,7 +103,7 @@ each_steps {N = N} built h q all (z ∷ zs) before now next le e l c =
     let Q : Place N → Type 0 = λ k. OneComes built h k zs now next true in
     let R : List (Place N) → Type 0 = λ r. OneComes built h q r now next true in
     subst P (sym whole)
-    (record { inside = l.inside.1; left = part_done built h (λ f. alike_with (replacement_of f h z) (replacements_of f h zs)) (λ f. each_alike (replacements_of f h zs)) _ _ before now next (λ f. refl) l.left (subst Q e (subst R whole c)) })
+    (record { inside = l.inside.1; left = part_done built h (λ f. one_answer (replacement_of f h z) (replacements_of f h zs)) (λ f. each_answer (replacements_of f h zs)) _ _ before now next (λ f. refl) l.left (subst Q e (subst R whole c)) })
 
 pub each_clashes : {N : Type 0} (built : BuiltIn → N) (h : Held N) (q : Place N) (all rest : List (Place N)) (before now next : List ℕ) → 1 ≤ length rest → q ≡ get_or rest 0 q → EachLeft built h all rest before now →
     OneComes built h q (take (length rest - 1) (drop 1 rest)) now next false → EachComes built h all before next false
@@ -110,7 +112,7 @@ each_clashes {N = N} built h q all (z ∷ zs) before now next le e l c =
     let whole = take_all (length (z ∷ zs) - 1) zs (omega arith) in
     let Q : Place N → Type 0 = λ k. OneComes built h k zs now next false in
     let R : List (Place N) → Type 0 = λ r. OneComes built h q r now next false in
-    part_clashes built h (λ f. alike_with (replacement_of f h z) (replacements_of f h zs)) (λ f. each_alike (replacements_of f h zs)) _ _ before now next (λ f. refl) l.left (subst Q e (subst R whole c))
+    part_clashes built h (λ f. one_answer (replacement_of f h z) (replacements_of f h zs)) (λ f. each_answer (replacements_of f h zs)) _ _ before now next (λ f. refl) l.left (subst Q e (subst R whole c))
 
 pub each_ends : {N : Type 0} (built : BuiltIn → N) (h : Held N) (all rest : List (Place N)) (before now : List ℕ) → length rest < 1 → EachLeft built h all rest before now → EachComes built h all before now true
 each_ends built h all [] before now le l = parts_end built h _ _ before now (λ f. refl) l.left

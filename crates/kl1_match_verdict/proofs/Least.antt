@@ -5,11 +5,10 @@ use Rattle.std.proofs.lemmas.Bool.{cond-true, eq-eqb}
 use Rattle.kl1_model.specs.declared.built_in.BuiltIn.{BuiltIn}
 use Rattle.kl1_model.specs.Term.{Terms, Replacement}
 use Rattle.kl1_model.specs.Module.{Clause}
-use Rattle.kl1_model.specs.Match.{Answer, yes, no, wait, Candidate, candidate_by, is_no, places_of, verdict}
+use Rattle.kl1_model.specs.Match.{Candidate, candidate_by, is_no, places_of, verdict, Match, match_patterns, each_answer, guard_answer}
 use Rattle.kl1_model.specs.code.Sections.{candidates_within, candidates_from}
-use Rattle.kl1_model.specs.code.Outcome.{Outcome, agrees, clashes, waits, both, answer_of, Matched, match_terms, each_alike, guard_outcome}
+use Rattle.kl1_model.specs.Answer.{Answer, yes, no, wait, together}
 use Rattle.kl1_model.proofs.LeastClause.{first_number, all_no, least-chosen, are_from, are_from_within}
-use Rattle.kl1_model.proofs.VerdictAnswers.{verdict_is_whole, same_places}
 use Rattle.kl1_store.specs.declared.cell.Cell.{Cell}
 use Rattle.kl1_store.specs.Held.{Held}
 use Rattle.kl1_store.specs.Meaning.{term_of}
@@ -84,29 +83,29 @@ first_found false j (k ∷ ks) e = record { first = k; found = cond-true (k.numb
 accepts_if_made : (j : ℕ) (c : Clause) (ps : List Replacement) (v : Answer) (x : Candidate) → first_of (candidate_by j c ps v) ≡ Some x → v ≡ yes
 accepts_if_made j c ps yes x e = refl
 accepts_if_made j c ps no x e = absurd (cc)
-accepts_if_made j c ps wait x e = absurd (cc)
+accepts_if_made j c ps (wait vs) x e = absurd (cc)
 
 -- ---- its match agrees
 
-first_agrees : (o p : Outcome) → answer_of (both o p) ≡ yes → answer_of o ≡ yes
-first_agrees agrees p e = refl
-first_agrees clashes p e = absurd (cc)
-first_agrees (waits vs) agrees e = absurd (cc)
-first_agrees (waits vs) clashes e = absurd (cc)
-first_agrees (waits vs) (waits ws) e = absurd (cc)
+first_agrees : (o p : Answer) → together o p ≡ yes → o ≡ yes
+first_agrees yes p e = refl
+first_agrees no p e = absurd (cc)
+first_agrees (wait vs) yes e = absurd (cc)
+first_agrees (wait vs) no e = absurd (cc)
+first_agrees (wait vs) (wait ws) e = absurd (cc)
 
-match_agrees : (c : Clause) (ts : Terms) → verdict c ts ≡ yes → answer_of (match_terms c.patterns ts).outcome ≡ yes
+match_agrees : (c : Clause) (ts : Terms) → verdict c ts ≡ yes → (match_patterns c.patterns ts).answer ≡ yes
 match_agrees c ts e =
-    let m = match_terms c.patterns ts in
-    first_agrees m.outcome (each_alike m.places) (first_agrees (both m.outcome (each_alike m.places)) (guard_outcome m.places c.tests) (sym (verdict_is_whole c ts) ∙ e))
+    let m = match_patterns c.patterns ts in
+    first_agrees m.answer (each_answer m.places) (first_agrees (together m.answer (each_answer m.places)) (guard_answer m.places c.tests) e)
 
 no_is_not : no ≡ yes → ⊥
 no_is_not e = absurd (cc)
 
 -- the places that a match reached are those that are kept, also if it waits
-reached : {N : Type 0} (f : N → List ℕ) (h : Held N) (places : List (Place N)) (named : List ℕ) (given : Verdict) (m : Matched) → GivesMatch f h places named given m → answer_of m.outcome ≡ yes → m.places ≡ replacements_of f h places
+reached : {N : Type 0} (f : N → List ℕ) (h : Held N) (places : List (Place N)) (named : List ℕ) (given : Verdict) (m : Match) → GivesMatch f h places named given m → m.answer ≡ yes → m.places ≡ replacements_of f h places
 reached f h places named Accepts m g e = g.1
-reached f h places named Rejects m g e = absurd (no_is_not (sym (ap answer_of g) ∙ e))
+reached f h places named Rejects m g e = absurd (no_is_not (sym g ∙ e))
 reached f h places named Suspends m g e = g.1
 
 module _ {N : Type 0} (built : BuiltIn → N) (names : List N) (clauses : List CompiledClause) (h : Held N) (goal : Cell N) where
@@ -121,7 +120,7 @@ module _ {N : Type 0} (built : BuiltIn → N) (names : List N) (clauses : List C
         let first = first_found (all_no cs ts) place (candidates_from 1 cs ts) (sym (least-chosen 1 cs ts) ∙ least) in
         let made = made_from (suc place) place 1 cs (drop (suc place) cs) c ts first.first t.left (omega arith) first.found in
         let accepts = accepts_if_made (suc place) c (places_of c ts) (verdict c ts) first.first made in
-        let places_are = sym (same_places c ts) ∙ reached f h places v.named given (match_terms c.patterns ts) (v.gives f reads c t.is) (match_agrees c ts accepts) in
+        let places_are = reached f h places v.named given (match_patterns c.patterns ts) (v.gives f reads c t.is) (match_agrees c ts accepts) in
         record {
           clause = c;
           others = drop (suc place) cs;

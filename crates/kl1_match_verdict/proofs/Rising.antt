@@ -3,7 +3,9 @@ use Rattle.std.proofs.Common.{◌≡◌, ℕ, ◌-◌, ◌<◌, ◌≤◌, ◌==
 use Rattle.std.proofs.lemmas.List.{take_all}
 use Rattle.std.proofs.lemmas.Bool.{cond-false, ne_eqb}
 use Rattle.kl1_model.specs.declared.built_in.BuiltIn.{BuiltIn}
-use Rattle.kl1_model.specs.code.Outcome.{Outcome, agrees, both, alike_with, each_alike, alike}
+use Rattle.kl1_model.specs.Answer.{Answer, yes, together}
+use Rattle.kl1_model.specs.Match.{one_answer, each_answer}
+use Rattle.kl1_model.specs.Same.{compare}
 use Rattle.kl1_store.specs.Held.{Held}
 use Rattle.kl1_store.specs.Meaning.{term_of}
 use Rattle.kl1_match.specs.declared.place.Place.{Place}
@@ -23,17 +25,17 @@ pub rising_end : {N : Type 0} (rest : List (Place N)) (last : ℕ) → length re
 rising_end [] last lt = tt
 rising_end (q ∷ qs) last lt = absurd (omega arith)
 
-rising_with : {N : Type 0} (f : N → List ℕ) (h : Held N) (p : Place N) (last : ℕ) (qs : List (Place N)) → p.variable ≤ last → AreRising last qs → alike_with (replacement_of f h p) (replacements_of f h qs) ≡ agrees
+rising_with : {N : Type 0} (f : N → List ℕ) (h : Held N) (p : Place N) (last : ℕ) (qs : List (Place N)) → p.variable ≤ last → AreRising last qs → one_answer (replacement_of f h p) (replacements_of f h qs) ≡ yes
 rising_with f h p last [] le a = refl
 rising_with f h p last (q ∷ qs) le a =
     let other : p.variable ≡ q.variable → ⊥ = λ e. omega (arith, le, a.0, e) in
-    ap (λ o. both o (alike_with (replacement_of f h p) (replacements_of f h qs))) (cond-false (p.variable == q.variable) (alike (term_of f h p.cell) (term_of f h q.cell)) agrees (ne_eqb p.variable q.variable other))
-    ∙ ap (both agrees) (rising_with f h p q.variable qs (omega (arith, le, a.0)) a.1)
+    ap (λ o. together o (one_answer (replacement_of f h p) (replacements_of f h qs))) (cond-false (p.variable == q.variable) (compare (term_of f h p.cell) (term_of f h q.cell)) yes (ne_eqb p.variable q.variable other))
+    ∙ ap (together yes) (rising_with f h p q.variable qs (omega (arith, le, a.0)) a.1)
 
-rising_each : {N : Type 0} (f : N → List ℕ) (h : Held N) (last : ℕ) (ps : List (Place N)) → AreRising last ps → each_alike (replacements_of f h ps) ≡ agrees
+rising_each : {N : Type 0} (f : N → List ℕ) (h : Held N) (last : ℕ) (ps : List (Place N)) → AreRising last ps → each_answer (replacements_of f h ps) ≡ yes
 rising_each f h last [] a = refl
 rising_each f h last (p ∷ ps) a =
-    ap (λ o. both o (each_alike (replacements_of f h ps))) (rising_with f h p p.variable ps (omega arith) a.1) ∙ ap (both agrees) (rising_each f h p.variable ps a.1)
+    ap (λ o. together o (each_answer (replacements_of f h ps))) (rising_with f h p p.variable ps (omega arith) a.1) ∙ ap (together yes) (rising_each f h p.variable ps a.1)
 
 pub rising_come : {N : Type 0} (built : BuiltIn → N) (h : Held N) (places : List (Place N)) (before : List ℕ) → AreRising 0 places → EachComes built h places before before true
 rising_come built h places before a = record {
@@ -41,6 +43,6 @@ rising_come built h places before a = record {
   unbound = tt;
   added = sym (append-nil before);
   comes = λ f reads.
-      let W : Outcome → Type 0 = λ o. WaitsFor [] o in
+      let W : Answer → Type 0 = λ o. WaitsFor [] o in
       subst W (sym (rising_each f h 0 places a)) refl;
 }

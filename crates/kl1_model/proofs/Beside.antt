@@ -5,10 +5,9 @@ use Rattle.std.proofs.lemmas.Bool.{cond-false, eq-eqb, ne_eqb, eqb-true, leb-tru
 use Rattle.std.proofs.lemmas.List.{map-append}
 use Rattle.kl1_model.specs.declared.operator.Operator.{Operator}
 use Rattle.kl1_model.specs.Term.{Term, variable, integer, atom, structure, Terms, none, more, count_of, same_term, same_terms, each_substituted}
-use Rattle.kl1_model.specs.Same.{clash, any_clash, same, differs, unknown, passive}
-use Rattle.kl1_model.specs.code.Awaited.{awaited, all_awaited}
+use Rattle.kl1_model.specs.code.Comparing.{clash, any_clash, same, differs, unknown, passive, awaited, all_awaited}
 use Rattle.kl1_model.specs.Arithmetic.{ArithmeticExpression, with_left, with_right, operator_named, scan, scan_operation, Scanned}
-use Rattle.kl1_model.specs.code.Outcome.{beside, own_variables}
+use Rattle.kl1_model.specs.Match.{beside, own_variables}
 use Rattle.kl1_model.proofs.Substitutions.{count-each_substituted}
 use Rattle.kl1_model.specs.Found.{Found, found, awaits, wrong}
 

@@ -6,7 +6,7 @@ use Rattle.std.proofs.lemmas.Bool.{and_from, eq-eqb, not-true, cond-true, cond-f
 use Rattle.std.proofs.lemmas.Bool.Decides.{Decides-int_eq}
 use Rattle.std.proofs.lemmas.Slice.Eq.{bytes_eq-Decides}
 use Rattle.kl1_model.specs.Term.{Term, variable, integer, atom, structure, Terms, none, more, count_of, same_term}
-use Rattle.kl1_model.specs.Same.{clash, any_clash, same, differs, unknown}
+use Rattle.kl1_model.specs.code.Comparing.{clash, any_clash, same, differs, unknown}
 use Rattle.kl1_model.specs.laws.Clashes.{argument_at, IsOther, child, DiffersAt, ClashesAreOnPaths, SameIsEqual, DiffersIsOnPath}
 use Rattle.kl1_model.proofs.TermFacts.{same_term_decides}
 

@@ -1,14 +1,13 @@
 -- What clauses say, and what they wait for, when variables are replaced.
-use Rattle.std.proofs.Common.{◌≡◌, refl, sym, ap, ◌∙◌}
+use Rattle.std.proofs.Common.{◌≡◌, ℕ, List, [], refl, sym, ap, ◌∙◌}
+use Rattle.kl1_model.specs.Answer.{awaited_in}
 use Rattle.kl1_model.specs.Term.{Terms, each_substituted}
 use Rattle.kl1_model.specs.Module.{Clause}
 use Rattle.kl1_model.specs.Match.{Answer, yes, no, wait, places_of, verdict}
-use Rattle.kl1_model.specs.code.Outcome.{Verdict, accepts, rejects, suspends, named_verdict, answer_in}
-use Rattle.kl1_model.specs.laws.OutcomeLaws.{named_in}
+use Rattle.kl1_model.specs.code.Verdicts.{Verdict, accepts, rejects, suspends, named_verdict, answer_in, named_in}
 use Rattle.kl1_model.specs.code.Waits.{awaited_by_clause}
 use Rattle.kl1_model.specs.laws.WaitsLaws.{places_substituted, RejectsStays, RejectsNeverAccepts, AcceptsStays, SuspendsStays, SuspendsWaits}
-use Rattle.kl1_model.proofs.VerdictAnswers.{verdicts_answer, accepts_places}
-use Rattle.kl1_model.proofs.VerdictNames.{verdicts_name}
+use Rattle.kl1_model.proofs.VerdictNames.{verdicts_answer, accepts_places, verdicts_name}
 use Rattle.kl1_model.proofs.VerdictStays.{named_rejects_stays, named_accepts_stays, named_suspends_stays}
 use Rattle.kl1_model.proofs.RejectsNever.{named_rejects_never_accepts}
 use Rattle.kl1_model.proofs.VerdictWaits.{named_suspends_waits}
@@ -24,7 +23,7 @@ names c ts v e = sym (verdicts_name c ts ∙ ap named_in e)
 accepted_by : (c : Clause) (ts : Terms) (v : Verdict) → named_verdict c ts ≡ v → verdict c ts ≡ yes → named_verdict c ts ≡ accepts (places_of c ts)
 accepted_by c ts (accepts ps) e is = e ∙ ap accepts (accepts_places c ts ps e)
 accepted_by c ts (rejects vs) e is = let other : no ≡ yes = says c ts (rejects vs) yes e is in absurd (cc)
-accepted_by c ts (suspends vs) e is = let other : wait ≡ yes = says c ts (suspends vs) yes e is in absurd (cc)
+accepted_by c ts (suspends vs) e is = let other : wait vs ≡ yes = says c ts (suspends vs) yes e is in absurd (cc)
 
 accepted : (c : Clause) (ts : Terms) → verdict c ts ≡ yes → named_verdict c ts ≡ accepts (places_of c ts)
 accepted c ts is = accepted_by c ts (named_verdict c ts) refl is
@@ -32,18 +31,18 @@ accepted c ts is = accepted_by c ts (named_verdict c ts) refl is
 rejected_by : (c : Clause) (ts : Terms) (v : Verdict) → named_verdict c ts ≡ v → verdict c ts ≡ no → named_verdict c ts ≡ rejects (awaited_by_clause c ts)
 rejected_by c ts (accepts ps) e is = let other : yes ≡ no = says c ts (accepts ps) no e is in absurd (cc)
 rejected_by c ts (rejects vs) e is = e ∙ ap rejects (names c ts (rejects vs) e)
-rejected_by c ts (suspends vs) e is = let other : wait ≡ no = says c ts (suspends vs) no e is in absurd (cc)
+rejected_by c ts (suspends vs) e is = let other : wait vs ≡ no = says c ts (suspends vs) no e is in absurd (cc)
 
 rejected : (c : Clause) (ts : Terms) → verdict c ts ≡ no → named_verdict c ts ≡ rejects (awaited_by_clause c ts)
 rejected c ts is = rejected_by c ts (named_verdict c ts) refl is
 
-suspended_by : (c : Clause) (ts : Terms) (v : Verdict) → named_verdict c ts ≡ v → verdict c ts ≡ wait → named_verdict c ts ≡ suspends (awaited_by_clause c ts)
-suspended_by c ts (accepts ps) e is = let other : yes ≡ wait = says c ts (accepts ps) wait e is in absurd (cc)
-suspended_by c ts (rejects vs) e is = let other : no ≡ wait = says c ts (rejects vs) wait e is in absurd (cc)
-suspended_by c ts (suspends vs) e is = e ∙ ap suspends (names c ts (suspends vs) e)
+suspended_by : (c : Clause) (ts : Terms) (v : Verdict) (vs : List ℕ) → named_verdict c ts ≡ v → verdict c ts ≡ wait vs → named_verdict c ts ≡ suspends vs
+suspended_by c ts (accepts ps) vs e is = let other : yes ≡ wait vs = says c ts (accepts ps) (wait vs) e is in absurd (cc)
+suspended_by c ts (rejects ws) vs e is = let other : no ≡ wait vs = says c ts (rejects ws) (wait vs) e is in absurd (cc)
+suspended_by c ts (suspends ws) vs e is = let same : wait ws ≡ wait vs = says c ts (suspends ws) (wait vs) e is in e ∙ ap suspends (ap awaited_in same)
 
-suspended : (c : Clause) (ts : Terms) → verdict c ts ≡ wait → named_verdict c ts ≡ suspends (awaited_by_clause c ts)
-suspended c ts is = suspended_by c ts (named_verdict c ts) refl is
+suspended : (c : Clause) (ts : Terms) (vs : List ℕ) → verdict c ts ≡ wait vs → named_verdict c ts ≡ suspends vs
+suspended c ts vs is = suspended_by c ts (named_verdict c ts) vs refl is
 
 -- ---- the laws
 
@@ -65,10 +64,7 @@ accepts_stays s c ts is =
     (sym (verdicts_answer c us) ∙ ap answer_in k, sym (accepts_places c us (places_substituted s (places_of c ts)) k))
 
 pub suspends_stays : SuspendsStays
-suspends_stays s c ts is l =
-    let us = each_substituted s ts in
-    let k = named_suspends_stays s c ts (awaited_by_clause c ts) (suspended c ts is) l in
-    (sym (verdicts_answer c us) ∙ ap answer_in k, verdicts_name c us ∙ ap named_in k)
+suspends_stays s c ts vs is l = let us = each_substituted s ts in sym (verdicts_answer c us) ∙ ap answer_in (named_suspends_stays s c ts vs (suspended c ts vs is) l)
 
 pub suspends_waits : SuspendsWaits
-suspends_waits c ts g is none = named_suspends_waits c ts g (suspended c ts is ∙ ap suspends none)
+suspends_waits c ts g is = named_suspends_waits c ts g (suspended c ts [] is)

@@ -3,7 +3,7 @@ use Rattle.std.proofs.Common.{◌≡◌, ℕ, Bool, true, false, if◌then◌els
 use Rattle.std.specs.Prelude.{codes, bytes_eq, pos, negsuc}
 use Rattle.kl1_model.specs.Term.{Term, variable, integer, atom, structure, none, more, substituted}
 use Rattle.kl1_model.specs.Control.{allow_word, word_of, Control, awaits_message, tells, tells_other, ends, breaks_off, control_of}
-use Rattle.kl1_model.specs.code.Awaited.{awaited_by_control, awaited_by_found}
+use Rattle.kl1_model.specs.code.Waits.{awaited_by_control, awaited_by_found}
 use Rattle.kl1_model.specs.code.Waits.{LeavesEach}
 use Rattle.kl1_model.specs.laws.WaitsLaws.{control_substituted, ControlStays}
 use Rattle.kl1_model.specs.Found.{Found, found, awaits, wrong}

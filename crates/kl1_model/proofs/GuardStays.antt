@@ -1,87 +1,33 @@
 -- Outcomes of tests when variables are replaced.
-use Rattle.std.proofs.Common.{◌≡◌, ℕ, suc, ◌+◌, ◌-◌, ◌≤◌, ◌==◌, Bool, true, false, if◌then◌else◌, List, [], ◌∷◌, ◌++◌, refl, sym, ap, ap₂, ◌∙◌, arith, inl, inr}
+use Rattle.std.proofs.Common.{◌≡◌, ℕ, suc, ◌+◌, ◌-◌, ◌≤◌, ◌==◌, Bool, true, false, if◌then◌else◌, List, [], ◌∷◌, refl, sym, ap, ap₂, ◌∙◌, arith, inl, inr}
 use Rattle.std.specs.Prelude.{nat_le, bytes_eq, codes, Option, Some, None, option_map}
-use Rattle.std.proofs.lemmas.Bool.{cond-true, cond-false, eqb-true, leb-true, le-leb, false_from_ne_true, false≢true}
+use Rattle.std.proofs.lemmas.Bool.{cond-true, cond-false, leb-true, le-leb, false_from_ne_true, false≢true}
 use Rattle.std.proofs.lemmas.Bool.Decides.{leb_tells}
 use Rattle.kl1_model.specs.declared.comparison.Comparison.{Comparison}
 use Rattle.kl1_model.specs.declared.type_test.TypeTest.{TypeTest}
 use Rattle.kl1_model.specs.declared.type_test.TypeTest.TheVariants as look_for
 use Rattle.kl1_model.specs.Term.{Term, variable, integer, atom, structure, Terms, none, more, terms_of, substituted, each_substituted, Replacement}
 use Rattle.kl1_model.specs.Meaning.{highest, highest_in}
-use Rattle.kl1_model.specs.Same.{Passive, same, differs, unknown, passive}
-use Rattle.kl1_model.specs.code.Awaited.{awaited, all_awaited, awaited_by_found}
+use Rattle.kl1_model.specs.Answer.{Answer, yes, no, wait, opposite, known, awaited_in}
+use Rattle.kl1_model.specs.Same.{compare}
 use Rattle.kl1_model.specs.Arithmetic.{evaluated}
-use Rattle.kl1_model.specs.Guard.{Test, holds, looks, is_same, is_other, compares, test_of, type_test_named, comparison_named, test_substituted, is_found}
-use Rattle.kl1_model.specs.code.Outcome.{Outcome, agrees, clashes, waits, both, decided, look, same_outcome, other_outcome, alike, compared_sides, outcome_of, outcome_by, awaited_in, places_alike, alike_with, each_alike, beside, test_variable, own_variables, own_outcome, test_outcome, tests_outcome, guard_outcome}
-use Rattle.kl1_model.specs.code.Waits.{LeavesEach}
+use Rattle.kl1_model.specs.Guard.{Test, holds, looks, is_same, is_other, compares, test_of, type_test_named, comparison_named, test_substituted, is_found, look, sides_answer, test_answer}
+use Rattle.kl1_model.specs.Match.{option_answer, two_answer, one_answer, each_answer, beside, test_variable, own_variables, own_answer, one_test_answer, tests_answer, guard_answer}
+use Rattle.kl1_model.specs.code.Waits.{LeavesEach, awaited_by_found}
+pub use Rattle.kl1_model.specs.laws.CompareLaws.{Stays}
 use Rattle.kl1_model.specs.laws.WaitsLaws.{place_substituted, places_substituted}
-use Rattle.kl1_model.proofs.SameEach.{awaited_self}
-use Rattle.kl1_model.proofs.SameStays.{left_front, left_back, same_stays, differs_stays, unknown_stays}
+pub use Rattle.kl1_model.proofs.Comparisons.{both_stay}
+use Rattle.kl1_model.proofs.Comparisons.{compare_stays}
 use Rattle.kl1_model.proofs.ScanStays.{evaluated_stays}
 use Rattle.kl1_model.specs.Found.{Found, found, awaits, wrong}
 use Rattle.kl1_model.specs.declared.number.Number.{Number}
 
--- ---- an outcome and what becomes of it
+-- ---- the other answer
 
--- an outcome stays until a variable for which it waits is replaced
-abbrev pub Stays : (ℕ → Term) → Outcome → Outcome → Type 0
-Stays s o p = LeavesEach s (awaited_in o) → p ≡ o
-
-clashes_right : (o p : Outcome) → p ≡ clashes → both o p ≡ clashes
-clashes_right agrees p e = e
-clashes_right clashes p e = refl
-clashes_right (waits vs) p e = ap (both (waits vs)) e
-
-pub both_stay : (s : ℕ → Term) (a b p q : Outcome) → Stays s a p → Stays s b q → Stays s (both a b) (both p q)
-both_stay s agrees b p q f g l = ap (λ o. both o q) (f tt) ∙ g l
-both_stay s clashes b p q f g l = ap (λ o. both o q) (f tt)
-both_stay s (waits vs) agrees p q f g l = ap₂ both (f l) (g tt)
-both_stay s (waits vs) clashes p q f g l = clashes_right p q (g tt)
-both_stay s (waits vs) (waits ws) p q f g l = ap₂ both (f (left_front s vs ws l)) (g (left_back s vs ws l))
-
--- ---- passive equality
-
-two_awaited : (s : ℕ → Term) (v w : ℕ) (c : Bool) → v == w ≡ c → LeavesEach s (if c then [] else v ∷ w ∷ []) → awaited (s v) (s w) ≡ (if v == w then [] else v ∷ w ∷ [])
-two_awaited s v w true e l = ap (λ x. awaited (s v) (s x)) (sym (eqb-true v w e)) ∙ awaited_self (s v) ∙ sym (cond-true (v == w) [] (v ∷ w ∷ []) e)
-two_awaited s v w false e l = ap₂ awaited l.0 l.1.0
-
-mutual
-  awaited_stays : (s : ℕ → Term) (t u : Term) → LeavesEach s (awaited t u) → awaited (substituted s t) (substituted s u) ≡ awaited t u
-  awaited_stays s (variable v) (variable w) l = two_awaited s v w (v == w) refl l
-  awaited_stays s (variable v) (integer j) l = ap (λ x. awaited x (integer j)) l.0
-  awaited_stays s (variable v) (atom b) l = ap (λ x. awaited x (atom b)) l.0
-  awaited_stays s (variable v) (structure g us) l = ap (λ x. awaited x (structure g (each_substituted s us))) l.0
-  awaited_stays s (integer i) (variable w) l = ap (awaited (integer i)) l.0
-  awaited_stays s (integer i) (integer j) l = refl
-  awaited_stays s (integer i) (atom b) l = refl
-  awaited_stays s (integer i) (structure g us) l = refl
-  awaited_stays s (atom a) (variable w) l = ap (awaited (atom a)) l.0
-  awaited_stays s (atom a) (integer j) l = refl
-  awaited_stays s (atom a) (atom b) l = refl
-  awaited_stays s (atom a) (structure g us) l = refl
-  awaited_stays s (structure f ts) (variable w) l = ap (awaited (structure f (each_substituted s ts))) l.0
-  awaited_stays s (structure f ts) (integer j) l = refl
-  awaited_stays s (structure f ts) (atom b) l = refl
-  awaited_stays s (structure f ts) (structure g us) l = all_awaited_stays s ts us l
-
-  all_awaited_stays : (s : ℕ → Term) (ts us : Terms) → LeavesEach s (all_awaited ts us) → all_awaited (each_substituted s ts) (each_substituted s us) ≡ all_awaited ts us
-  all_awaited_stays s none us l = refl
-  all_awaited_stays s (more t ts) none l = refl
-  all_awaited_stays s (more t ts) (more u us) l =
-      ap₂ (λ (vs ws : List ℕ). vs ++ ws) (awaited_stays s t u (left_front s (awaited t u) (all_awaited ts us) l)) (all_awaited_stays s ts us (left_back s (awaited t u) (all_awaited ts us) l))
-
-alike_by : (s : ℕ → Term) (t u : Term) (p : Passive) → passive t u ≡ p → Stays s (same_outcome p (awaited t u)) (alike (substituted s t) (substituted s u))
-alike_by s t u same e l = ap (λ p. same_outcome p (awaited (substituted s t) (substituted s u))) (same_stays s t u e)
-alike_by s t u differs e l = ap (λ p. same_outcome p (awaited (substituted s t) (substituted s u))) (differs_stays s t u e)
-alike_by s t u unknown e l = ap (λ p. same_outcome p (awaited (substituted s t) (substituted s u))) (unknown_stays s t u e l) ∙ ap waits (awaited_stays s t u l)
-
-pub alike_stays : (s : ℕ → Term) (t u : Term) → Stays s (alike t u) (alike (substituted s t) (substituted s u))
-alike_stays s t u l = alike_by s t u (passive t u) refl l
-
-other_by : (s : ℕ → Term) (t u : Term) (p : Passive) → passive t u ≡ p → Stays s (other_outcome p (awaited t u)) (other_outcome (passive (substituted s t) (substituted s u)) (awaited (substituted s t) (substituted s u)))
-other_by s t u same e l = ap (λ p. other_outcome p (awaited (substituted s t) (substituted s u))) (same_stays s t u e)
-other_by s t u differs e l = ap (λ p. other_outcome p (awaited (substituted s t) (substituted s u))) (differs_stays s t u e)
-other_by s t u unknown e l = ap (λ p. other_outcome p (awaited (substituted s t) (substituted s u))) (unknown_stays s t u e l) ∙ ap waits (awaited_stays s t u l)
+opposite_stays : (s : ℕ → Term) (a b : Answer) → Stays s a b → Stays s (opposite a) (opposite b)
+opposite_stays s yes b f l = ap opposite (f tt)
+opposite_stays s no b f l = ap opposite (f tt)
+opposite_stays s (wait vs) b f l = ap opposite (f l)
 
 -- ---- looks and comparisons
 
@@ -98,22 +44,22 @@ look_stays : (s : ℕ → Term) (i : TypeTest) (t : Term) → Stays s (look i t)
 look_stays s i (variable v) l = ap (look i) l.0
 look_stays s i (integer n) l = refl
 look_stays s i (atom a) l = refl
-look_stays s i (structure f ts) l = ap decided (found_stays s i f ts)
+look_stays s i (structure f ts) l = ap known (found_stays s i f ts)
 
-sides_stay : (s : ℕ → Term) (c : Comparison) (p q x y : Found Number) → (LeavesEach s (awaited_by_found x) → p ≡ x) → (LeavesEach s (awaited_by_found y) → q ≡ y) → Stays s (compared_sides c x y) (compared_sides c p q)
-sides_stay s c p q (awaits v) y f g l = ap (λ x. compared_sides c x q) (f l)
-sides_stay s c p q wrong y f g l = ap (λ x. compared_sides c x q) (f tt)
-sides_stay s c p q (found n) (awaits v) f g l = ap₂ (compared_sides c) (f tt) (g l)
-sides_stay s c p q (found n) wrong f g l = ap₂ (compared_sides c) (f tt) (g tt)
-sides_stay s c p q (found n) (found m) f g l = ap₂ (compared_sides c) (f tt) (g tt)
+sides_stay : (s : ℕ → Term) (c : Comparison) (p q x y : Found Number) → (LeavesEach s (awaited_by_found x) → p ≡ x) → (LeavesEach s (awaited_by_found y) → q ≡ y) → Stays s (sides_answer c x y) (sides_answer c p q)
+sides_stay s c p q (awaits v) y f g l = ap (λ x. sides_answer c x q) (f l)
+sides_stay s c p q wrong y f g l = ap (λ x. sides_answer c x q) (f tt)
+sides_stay s c p q (found n) (awaits v) f g l = ap₂ (sides_answer c) (f tt) (g l)
+sides_stay s c p q (found n) wrong f g l = ap₂ (sides_answer c) (f tt) (g tt)
+sides_stay s c p q (found n) (found m) f g l = ap₂ (sides_answer c) (f tt) (g tt)
 
 -- the outcome of a test stays until a variable for which it waits is replaced
-pub outcome_stays : (s : ℕ → Term) (test : Test) → Stays s (outcome_of test) (outcome_of (test_substituted s test))
-outcome_stays s holds l = refl
-outcome_stays s (looks i t) l = look_stays s i t l
-outcome_stays s (is_same t u) l = alike_stays s t u l
-outcome_stays s (is_other t u) l = other_by s t u (passive t u) refl l
-outcome_stays s (compares c t u) l = sides_stay s c (evaluated (substituted s t)) (evaluated (substituted s u)) (evaluated t) (evaluated u) (evaluated_stays s t) (evaluated_stays s u) l
+pub test_answer_stays : (s : ℕ → Term) (test : Test) → Stays s (test_answer test) (test_answer (test_substituted s test))
+test_answer_stays s holds l = refl
+test_answer_stays s (looks i t) l = look_stays s i t l
+test_answer_stays s (is_same t u) l = compare_stays s t u l
+test_answer_stays s (is_other t u) l = opposite_stays s (compare t u) (compare (substituted s t) (substituted s u)) (compare_stays s t u) l
+test_answer_stays s (compares c t u) l = sides_stay s c (evaluated (substituted s t)) (evaluated (substituted s u)) (evaluated t) (evaluated u) (evaluated_stays s t) (evaluated_stays s u) l
 
 -- ---- substitutions one after another, and substitutions that agree
 
@@ -191,7 +137,7 @@ module _ (last : ℕ) (s before later : ℕ → Term) (again : (v : ℕ) → v �
   FewOption None = Unit {0}
   FewOption (Some test) = FewIn test
 
-  test_again : (test : Test) → FewIn test → test_substituted later test ≡ test_substituted s (test_substituted before test)
+  pub test_again : (test : Test) → FewIn test → test_substituted later test ≡ test_substituted s (test_substituted before test)
   test_again holds few = refl
   test_again (looks i t) few = ap (looks i) (term_again t few)
   test_again (is_same t u) few = ap₂ is_same (term_again t few.0) (term_again u few.1)
@@ -221,9 +167,9 @@ module _ (last : ℕ) (s before later : ℕ → Term) (again : (v : ℕ) → v �
   few_test (structure f (more a (more b none))) few = few_two (bytes_eq f (codes "=")) (bytes_eq f (codes "\\=")) (comparison_named f) a b (omega (arith, few)) (omega (arith, few))
   few_test (structure f (more a (more b (more c ts)))) few = tt
 
-  pub by_test : (x : Option Test) → FewOption x → Stays s (outcome_by before x) (outcome_by later x)
+  pub by_test : (x : Option Test) → FewOption x → Stays s (option_answer before x) (option_answer later x)
   by_test None few l = refl
-  by_test (Some test) few l = ap outcome_of (test_again test few) ∙ outcome_stays s (test_substituted before test) l
+  by_test (Some test) few l = ap test_answer (test_again test few) ∙ test_answer_stays s (test_substituted before test) l
 
 more_than : (v last : ℕ) → nat_le v last ≡ false → suc last ≤ v
 more_than v last e = elim (leb_tells v last) [ inl a ↦ absurd (false≢true (sym e ∙ a.0)) | inr b ↦ b.1 ]
@@ -239,49 +185,49 @@ lifted : (last : ℕ) (s : ℕ → Term) (vs : List ℕ) → LeavesEach s (own_v
 lifted last s [] l = tt
 lifted last s (v ∷ vs) l = lifted_by last s v vs (nat_le v last) refl (lifted last s vs) l
 
-own_left : (last : ℕ) (s : ℕ → Term) (o : Outcome) → LeavesEach s (awaited_in (own_outcome last o)) → LeavesEach (lift last s) (awaited_in o)
-own_left last s agrees l = tt
-own_left last s clashes l = tt
-own_left last s (waits vs) l = lifted last s vs l
+own_left : (last : ℕ) (s : ℕ → Term) (o : Answer) → LeavesEach s (awaited_in (own_answer last o)) → LeavesEach (lift last s) (awaited_in o)
+own_left last s yes l = tt
+own_left last s no l = tt
+own_left last s (wait vs) l = lifted last s vs l
 
-test_stays : (last : ℕ) (s : ℕ → Term) (places : List Replacement) (t : Term) → highest t ≤ last → Stays s (test_outcome last places t) (test_outcome last (places_substituted s places) t)
+test_stays : (last : ℕ) (s : ℕ → Term) (places : List Replacement) (t : Term) → highest t ≤ last → Stays s (one_test_answer last places t) (one_test_answer last (places_substituted s places) t)
 test_stays last s places t few l =
     let before = test_variable last places in
     let later = test_variable last (places_substituted s places) in
     let again = test_variable_stays last s places in
-    ap (own_outcome last) (by_test last (lift last s) before later again (test_of t) (few_test last (lift last s) before later again t few) (own_left last s (outcome_by before (test_of t)) l))
+    ap (own_answer last) (by_test last (lift last s) before later again (test_of t) (few_test last (lift last s) before later again t few) (own_left last s (option_answer before (test_of t)) l))
 
-tests_stay : (last : ℕ) (s : ℕ → Term) (places : List Replacement) (ts : List Term) → highest_in (terms_of ts) ≤ last → Stays s (tests_outcome last places ts) (tests_outcome last (places_substituted s places) ts)
+tests_stay : (last : ℕ) (s : ℕ → Term) (places : List Replacement) (ts : List Term) → highest_in (terms_of ts) ≤ last → Stays s (tests_answer last places ts) (tests_answer last (places_substituted s places) ts)
 tests_stay last s places [] few l = refl
 tests_stay last s places (t ∷ ts) few l =
-    both_stay s (test_outcome last places t) (tests_outcome last places ts) (test_outcome last (places_substituted s places) t) (tests_outcome last (places_substituted s places) ts)
+    both_stay s (one_test_answer last places t) (tests_answer last places ts) (one_test_answer last (places_substituted s places) t) (tests_answer last (places_substituted s places) ts)
     (test_stays last s places t (omega (arith, few)))
     (tests_stay last s places ts (omega (arith, few)))
     l
 
 -- the outcome of a guard stays until a variable for which it waits is replaced
-pub guard_stays : (s : ℕ → Term) (places : List Replacement) (ts : List Term) → Stays s (guard_outcome places ts) (guard_outcome (places_substituted s places) ts)
+pub guard_stays : (s : ℕ → Term) (places : List Replacement) (ts : List Term) → Stays s (guard_answer places ts) (guard_answer (places_substituted s places) ts)
 guard_stays s places ts = tests_stay (highest_in (terms_of ts)) s places ts (omega arith)
 
 -- ---- the places of a variable
 
-by_same : (s : ℕ → Term) (c : Bool) (t u : Term) → Stays s (if c then alike t u else agrees) (if c then alike (substituted s t) (substituted s u) else agrees)
-by_same s true t u l = alike_stays s t u l
+by_same : (s : ℕ → Term) (c : Bool) (t u : Term) → Stays s (if c then compare t u else yes) (if c then compare (substituted s t) (substituted s u) else yes)
+by_same s true t u l = compare_stays s t u l
 by_same s false t u l = refl
 
-alike_with_stays : (s : ℕ → Term) (p : Replacement) (qs : List Replacement) → Stays s (alike_with p qs) (alike_with (place_substituted s p) (places_substituted s qs))
-alike_with_stays s p [] l = refl
-alike_with_stays s p (q ∷ qs) l =
-    both_stay s (places_alike p q) (alike_with p qs) (places_alike (place_substituted s p) (place_substituted s q)) (alike_with (place_substituted s p) (places_substituted s qs))
+one_answer_stays : (s : ℕ → Term) (p : Replacement) (qs : List Replacement) → Stays s (one_answer p qs) (one_answer (place_substituted s p) (places_substituted s qs))
+one_answer_stays s p [] l = refl
+one_answer_stays s p (q ∷ qs) l =
+    both_stay s (two_answer p q) (one_answer p qs) (two_answer (place_substituted s p) (place_substituted s q)) (one_answer (place_substituted s p) (places_substituted s qs))
     (by_same s (p.number == q.number) p.by q.by)
-    (alike_with_stays s p qs)
+    (one_answer_stays s p qs)
     l
 
 -- what the places of variables come to stays until a variable for which they wait is replaced
-pub each_alike_stays : (s : ℕ → Term) (ps : List Replacement) → Stays s (each_alike ps) (each_alike (places_substituted s ps))
-each_alike_stays s [] l = refl
-each_alike_stays s (p ∷ ps) l =
-    both_stay s (alike_with p ps) (each_alike ps) (alike_with (place_substituted s p) (places_substituted s ps)) (each_alike (places_substituted s ps))
-    (alike_with_stays s p ps)
-    (each_alike_stays s ps)
+pub each_answer_stays : (s : ℕ → Term) (ps : List Replacement) → Stays s (each_answer ps) (each_answer (places_substituted s ps))
+each_answer_stays s [] l = refl
+each_answer_stays s (p ∷ ps) l =
+    both_stay s (one_answer p ps) (each_answer ps) (one_answer (place_substituted s p) (places_substituted s ps)) (each_answer (places_substituted s ps))
+    (one_answer_stays s p ps)
+    (each_answer_stays s ps)
     l

@@ -27,7 +27,7 @@ chosen_from rejected ks = if rejected then Some 0 else first_number ks
 by_verdict_within : (n : ℕ) (c : Clause) (ps : List Replacement) (ks : List Candidate) (r : Option ℕ) (v : Answer) → r ≡ first_number ks → by_answer (Some n) r r v ≡ first_number (candidate_by n c ps v ++ ks)
 by_verdict_within n c ps ks r yes e = refl
 by_verdict_within n c ps ks r no e = e
-by_verdict_within n c ps ks r wait e = e
+by_verdict_within n c ps ks r (wait vs) e = e
 
 within_if : (b : Bool) (m : Option ℕ) (ks : List Candidate) → m ≡ first_number ks → (if b then m else None) ≡ first_number (if b then ks else [])
 within_if true m ks e = e
@@ -48,7 +48,7 @@ by_verdict : (rest : Bool) (n : ℕ) (c : Clause) (ps : List Replacement) (ks js
     by_answer (Some n) r w v ≡ chosen_from (is_no v && rest) (if is_no v then ks else candidate_by n c ps v ++ js)
 by_verdict rest n c ps ks js r w yes e f = refl
 by_verdict rest n c ps ks js r w no e f = e
-by_verdict rest n c ps ks js r w wait e f = f
+by_verdict rest n c ps ks js r w (wait vs) e f = f
 
 pub least-chosen : (n : ℕ) (cs : List Clause) (ts : Terms) → least_from n cs ts ≡ chosen_from (all_no cs ts) (candidates_from n cs ts)
 least-chosen n [] ts = refl
@@ -68,7 +68,7 @@ from_lower m n (k ∷ ks) le a = (let p = a.0 in omega arith, from_lower m n ks 
 from_by : (n : ℕ) (c : Clause) (ps : List Replacement) (ks : List Candidate) (v : Answer) → AreFrom (suc n) ks → AreFrom n (candidate_by n c ps v ++ ks)
 from_by n c ps ks yes a = (omega arith, from_lower n (suc n) ks (omega arith) a)
 from_by n c ps ks no a = from_lower n (suc n) ks (omega arith) a
-from_by n c ps ks wait a = from_lower n (suc n) ks (omega arith) a
+from_by n c ps ks (wait vs) a = from_lower n (suc n) ks (omega arith) a
 
 from_if : (b : Bool) (n : ℕ) (ks : List Candidate) → AreFrom n ks → AreFrom n (if b then ks else [])
 from_if true n ks a = a

@@ -7,7 +7,7 @@ use Rattle.kl1_model.specs.Look.{spelled_by, spelling, callee_look, goal_look, p
 use Rattle.kl1_model.specs.code.Waits.{LeavesEach}
 use Rattle.kl1_model.specs.laws.WaitsLaws.{SubstitutesStay}
 use Rattle.kl1_model.specs.Found.{Found, found, awaits, wrong, then_found, found_map, right_if}
-use Rattle.kl1_model.specs.code.Awaited.{awaited_by_found}
+use Rattle.kl1_model.specs.code.Waits.{awaited_by_found}
 
 -- ---- lists of codes
 

@@ -4,11 +4,9 @@ use Rattle.std.specs.Prelude.{Option, Some, None}
 use Rattle.kl1_model.specs.Term.{Terms}
 use Rattle.kl1_model.specs.Module.{Clause}
 use Rattle.kl1_model.specs.Match.{verdict}
-use Rattle.kl1_model.specs.code.Outcome.{Verdict, named_verdict, answer_in}
-use Rattle.kl1_model.specs.laws.OutcomeLaws.{named_in}
+use Rattle.kl1_model.specs.code.Verdicts.{Verdict, named_verdict, answer_in, named_in}
 use Rattle.kl1_model.specs.code.Waits.{by_answer, least_within, least_from, awaited_after, awaited_within, awaited_by_clause, awaited_by_clauses}
-use Rattle.kl1_model.proofs.VerdictAnswers.{verdicts_answer}
-use Rattle.kl1_model.proofs.VerdictNames.{verdicts_name}
+use Rattle.kl1_model.proofs.VerdictNames.{verdicts_answer, verdicts_name}
 
 abbrev pub named_least_by : Option ℕ → Option ℕ → Option ℕ → Verdict → Option ℕ
 named_least_by accepted rejected suspended v = by_answer accepted rejected suspended (answer_in v)

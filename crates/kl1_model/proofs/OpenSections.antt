@@ -56,8 +56,8 @@ filter_one p n c ps yes true f = cond-true (p (record { number = n; clause = c; 
 filter_one p n c ps yes false f = cond-false (p (record { number = n; clause = c; places = ps })) (record { number = n; clause = c; places = ps } ∷ []) [] (f (record { number = n; clause = c; places = ps }) refl)
 filter_one p n c ps no true f = refl
 filter_one p n c ps no false f = refl
-filter_one p n c ps wait true f = refl
-filter_one p n c ps wait false f = refl
+filter_one p n c ps (wait vs) true f = refl
+filter_one p n c ps (wait vs) false f = refl
 
 filter_two_by : (x : Bool) (p : Candidate → Bool) (k : Candidate) (ks js : List Candidate) → p k ≡ x → filter p (ks ++ js) ≡ filter p ks ++ filter p js → (if x then k ∷ filter p (ks ++ js) else filter p (ks ++ js)) ≡ (if x then k ∷ filter p ks else filter p ks) ++ filter p js
 filter_two_by true p k ks js e f = ap (λ l. k ∷ l) f
@@ -136,5 +136,5 @@ candidates_are_open n (c ∷ cs) ts o = by_verdict (verdict c ts) refl (candidat
         ∙ ap (λ v. filter (λ k. is_open (c ∷ cs) ts k.clause) (candidate_by n c (places_of c ts) v ++ accepting_from (suc n) cs ts)) (sym e)
     by_verdict yes e rest =
         cond-false (is_no (verdict c ts)) (candidates_from (suc n) cs ts) (candidates_within c.section n (c ∷ cs) ts) (ap is_no e) ∙ stopped (ap is_no e)
-    by_verdict wait e rest =
+    by_verdict (wait vs) e rest =
         cond-false (is_no (verdict c ts)) (candidates_from (suc n) cs ts) (candidates_within c.section n (c ∷ cs) ts) (ap is_no e) ∙ stopped (ap is_no e)

@@ -4,8 +4,7 @@ use Rattle.std.specs.Prelude.{bytes_eq}
 use Rattle.std.specs.Ordering.{int_eq}
 use Rattle.std.proofs.lemmas.Bool.{and_from, and_parts, or_parts, or_from, eqb-true, not-false, cond-true, cond-false, false≢true, eq-eqb, false_from_ne_true}
 use Rattle.kl1_model.specs.Term.{Term, variable, integer, atom, structure, Terms, none, more, count_of, same_term, same_terms}
-use Rattle.kl1_model.specs.Same.{clash, any_clash, same, differs, unknown}
-use Rattle.kl1_model.specs.code.Awaited.{awaited, all_awaited, same_as_all, all_same, clashes_with_some, some_clash, awaited_with, awaited_by, passive_each}
+use Rattle.kl1_model.specs.code.Comparing.{clash, any_clash, same, differs, unknown, awaited, all_awaited, same_as_all, all_same, clashes_with_some, some_clash, awaited_with, awaited_by, passive_each}
 use Rattle.kl1_model.proofs.TermFacts.{same_term_decides}
 use Rattle.kl1_model.proofs.Clashes.{no_clash}
 

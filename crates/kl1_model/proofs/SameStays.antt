@@ -4,8 +4,7 @@ use Rattle.std.specs.Prelude.{bytes_eq}
 use Rattle.std.proofs.lemmas.Bool.{and_from, and_parts, or_parts, or_from, or_left, or_right, eqb-true, cond-true, cond-false, false≢true, eq-eqb, false_from_ne_true}
 use Rattle.std.proofs.lemmas.Slice.Eq.{bytes_eq-Decides}
 use Rattle.kl1_model.specs.Term.{Term, variable, integer, atom, structure, Terms, none, more, count_of, same_term, same_terms, substituted, each_substituted}
-use Rattle.kl1_model.specs.Same.{clash, any_clash, same, differs, unknown}
-use Rattle.kl1_model.specs.code.Awaited.{awaited, all_awaited, same_as_all, all_same, clashes_with_some, some_clash, awaited_with, awaited_by}
+use Rattle.kl1_model.specs.code.Comparing.{clash, any_clash, same, differs, unknown, awaited, all_awaited, same_as_all, all_same, clashes_with_some, some_clash, awaited_with, awaited_by}
 use Rattle.kl1_model.specs.code.Waits.{LeavesEach}
 use Rattle.kl1_model.specs.laws.SameLaws.{all_substituted, SameStays, DiffersStays, UnknownWaits, UnknownStays, AllSameStays, SomeDifferStays, AllUnknownWaits, AllUnknownStays}
 use Rattle.kl1_model.proofs.TermFacts.{same_term_decides}

@@ -36,7 +36,7 @@ before b x runs = if b then onto_first x runs else (x ∷ []) ∷ runs
 none_by : (n : ℕ) (c : Clause) (ps : List Replacement) (v : Answer) → is_no v ≡ true → candidate_by n c ps v ≡ []
 none_by n c ps yes e = absurd (false≢true e)
 none_by n c ps no e = refl
-none_by n c ps wait e = absurd (false≢true e)
+none_by n c ps (wait vs) e = absurd (false≢true e)
 
 one_more : (b : Bool) (f : Numbered → List Candidate) (x : Numbered) (run : List Numbered) (o : Option (List Numbered)) → f x ≡ [] → flat_map f (unwrap_or (if b then Some (x ∷ run) else o) []) ≡ flat_map f (unwrap_or (if b then Some run else o) [])
 one_more true f x run o e = ap (λ (ks : List Candidate). ks ++ flat_map f run) e

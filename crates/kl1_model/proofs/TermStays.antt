@@ -23,17 +23,17 @@ use Rattle.kl1_model.proofs.ScanStays.{evaluated_stays}
 use Rattle.kl1_model.proofs.LookStays.{spelling_stays, order_substituted, order_stays}
 use Rattle.kl1_model.proofs.VerdictStays.{clauses_stay}
 use Rattle.kl1_model.specs.Found.{Found, found, awaits, wrong}
-use Rattle.kl1_model.specs.code.Awaited.{awaited_by_found}
+use Rattle.kl1_model.specs.code.Waits.{awaited_by_found}
 
 -- ---- calls
 
-call_of-not_one : (f : List ℕ) (a : Term) → call_of (structure f (more a none)) ≡ None
+pub call_of-not_one : (f : List ℕ) (a : Term) → call_of (structure f (more a none)) ≡ None
 call_of-not_one f (variable v) = refl
 call_of-not_one f (integer i) = refl
 call_of-not_one f (atom m) = refl
 call_of-not_one f (structure g us) = refl
 
-call_of-not_many : (f : List ℕ) (a b c : Term) (us : Terms) → call_of (structure f (more a (more b (more c us)))) ≡ None
+pub call_of-not_many : (f : List ℕ) (a b c : Term) (us : Terms) → call_of (structure f (more a (more b (more c us)))) ≡ None
 call_of-not_many f (variable v) b c us = refl
 call_of-not_many f (integer i) b c us = refl
 call_of-not_many f (atom m) (variable p) c us = refl
@@ -42,7 +42,7 @@ call_of-not_many f (atom m) (atom p) c us = refl
 call_of-not_many f (atom m) (structure p ts) c us = refl
 call_of-not_many f (structure g ts) b c us = refl
 
-call_of-other : (f : List ℕ) (a b : Term) → bytes_eq f (codes ":") ≡ false → call_of (structure f (more a (more b none))) ≡ None
+pub call_of-other : (f : List ℕ) (a b : Term) → bytes_eq f (codes ":") ≡ false → call_of (structure f (more a (more b none))) ≡ None
 call_of-other f (variable v) b e = refl
 call_of-other f (integer i) b e = refl
 call_of-other f (atom m) (variable p) e = refl

@@ -5,13 +5,14 @@ use Rattle.std.specs.List.{AllByRecursion}
 use Rattle.std.proofs.lemmas.Bool.{and_parts}
 use Rattle.kl1_model.specs.declared.life.Life.{Life}
 use Rattle.kl1_model.specs.declared.life.Life.TheVariants.{Terminated, Aborted}
+use Rattle.kl1_model.specs.declared.rules.Rules.{Rules}
 use Rattle.kl1_model.specs.Term.{Term, variable, integer, atom, structure}
 use Rattle.kl1_model.specs.Meaning.{nil, cell}
 use Rattle.kl1_model.specs.Module.{is_among}
-use Rattle.kl1_model.specs.State.{Task, monitor, reduces, substitutes, Goal, Shoen, State, shoen_at, replace_in_task, replace_in_goal, replace_in_shoen, replace_in_state, change_shoen, is_monitor, is_living}
+use Rattle.kl1_model.specs.State.{Task, monitor, reduces, substitutes, Goal, Shoen, State, has_forgetting, shoen_at, replace_in_task, replace_in_goal, replace_in_shoen, replace_in_state, change_shoen, is_monitor, is_living}
 use Rattle.kl1_model.specs.Tree.{path, is_on_path}
 use Rattle.kl1_model.specs.Report.{broken_at, has_made_last, report_tail, reported_on, reported_at, report, report_each, closed_at, close, exhausted_report, terminated_report, aborted_report}
-use Rattle.kl1_model.specs.Ending.{has_goal, has_living_child, lives, ends_now, without_monitor, ended_at, terminate, terminate_each, ending_of, settle, has_reached, newly_exhausted, after_reduction, ended_below, abort}
+use Rattle.kl1_model.specs.Ending.{has_goal, has_living_child, lives, ends_now, without_monitor, ended_as, ended_at, terminate, terminate_each, ending_of, settle, has_reached, newly_exhausted, after_reduction, ended_below, abort}
 use Rattle.kl1_model.specs.code.Steps.{report_of, close_of, aborted_below}
 use Rattle.kl1_model.specs.laws.TreeLaws.{lives_of, numbers_of, AbortEndsAllBelow, AbortRemovesAllBelow, TerminationsEnd, TerminationsEndAlone, EndingHaveNoGoals, ReachedGoOn}
 
@@ -85,7 +86,7 @@ pub leaves_replace : (v : ℕ) (t : Term) (s : State) → Leaves s (replace_in_s
 leaves_replace v t s = record { marks = replaced_marks v t s.shoens; goals = replaced_numbers v t s.goals; posts = replaced_posts v t s.goals }
 
 leaves_broken : (n : ℕ) (s : State) → Leaves s (broken_at n s)
-leaves_broken n s = leaves_change n (λ h. record h { is_broken = true }) s (λ h. refl)
+leaves_broken n s = leaves_change n (λ h. record h { is_broken = true; tail = if has_forgetting s.rules then nil else h.tail }) s (λ h. refl)
 
 told_leaves : (n : ℕ) (m : Term) (o : Option ℕ) (s : State) → Leaves s (reported_on n m o s)
 told_leaves n m None s = leaves_broken n s
@@ -138,16 +139,16 @@ abort_leaves n s =
     let b = report n aborted_report a in
     leaves_both a b (close n b) (leaves_report n aborted_report a) (leaves_close n b)
 
-aborted_life : (c : Bool) (h : Shoen) → (if c then record h { life = Aborted } else h).life ≡ (if c then Aborted else h.life)
-aborted_life true h = refl
-aborted_life false h = refl
+aborted_life : (rules : Rules) (c : Bool) (h : Shoen) → (if c then ended_as rules Aborted h else h).life ≡ (if c then Aborted else h.life)
+aborted_life rules true h = refl
+aborted_life rules false h = refl
 
-aborted_lives : (all : List Shoen) (n : ℕ) (hs : List Shoen) → lives_of (map (aborted_below all n) hs) ≡ map (λ h. if is_living h.life && is_on_path all n h.number then Aborted else h.life) hs
-aborted_lives all n [] = refl
-aborted_lives all n (h ∷ hs) = ap₂ (λ (l : Life) (ls : List Life). l ∷ ls) (aborted_life (is_living h.life && is_on_path all n h.number) h) (aborted_lives all n hs)
+aborted_lives : (rules : Rules) (all : List Shoen) (n : ℕ) (hs : List Shoen) → lives_of (map (aborted_below rules all n) hs) ≡ map (λ h. if is_living h.life && is_on_path all n h.number then Aborted else h.life) hs
+aborted_lives rules all n [] = refl
+aborted_lives rules all n (h ∷ hs) = ap₂ (λ (l : Life) (ls : List Life). l ∷ ls) (aborted_life rules (is_living h.life && is_on_path all n h.number) h) (aborted_lives rules all n hs)
 
 pub abort_ends_all_below : AbortEndsAllBelow
-abort_ends_all_below n s = same_lives (abort n s).shoens (ended_below n s).shoens (abort_leaves n s).marks ∙ aborted_lives s.shoens n s.shoens
+abort_ends_all_below n s = same_lives (abort n s).shoens (ended_below n s).shoens (abort_leaves n s).marks ∙ aborted_lives s.rules s.shoens n s.shoens
 
 pub abort_removes_all_below : AbortRemovesAllBelow
 abort_removes_all_below n s = (abort_leaves n s).goals
@@ -158,19 +159,19 @@ abort_removes_all_below n s = (abort_leaves n s).goals
 abbrev pub ended_mark : List ℕ → Mark → Mark
 ended_mark ns m = record { number = m.number; life = if is_among m.number ns then Terminated else m.life }
 
-ended_by : (c : Bool) (h : Shoen) → mark_of (if c then record h { life = Terminated } else h) ≡ record { number = h.number; life = if c || false then Terminated else h.life }
-ended_by true h = refl
-ended_by false h = refl
+ended_by : (rules : Rules) (c : Bool) (h : Shoen) → mark_of (if c then ended_as rules Terminated h else h) ≡ record { number = h.number; life = if c || false then Terminated else h.life }
+ended_by rules true h = refl
+ended_by rules false h = refl
 
-pub ended_marks : (n : ℕ) (hs : List Shoen) → marks_of (map (λ (h : Shoen). if h.number == n then record h { life = Terminated } else h) hs) ≡ map (ended_mark (n ∷ [])) (marks_of hs)
-ended_marks n [] = refl
-ended_marks n (h ∷ hs) = ap₂ (λ (m : Mark) (ms : List Mark). m ∷ ms) (ended_by (h.number == n) h) (ended_marks n hs)
+pub ended_marks : (rules : Rules) (n : ℕ) (hs : List Shoen) → marks_of (map (λ (h : Shoen). if h.number == n then ended_as rules Terminated h else h) hs) ≡ map (ended_mark (n ∷ [])) (marks_of hs)
+ended_marks rules n [] = refl
+ended_marks rules n (h ∷ hs) = ap₂ (λ (m : Mark) (ms : List Mark). m ∷ ms) (ended_by rules (h.number == n) h) (ended_marks rules n hs)
 
 pub terminate_marks : (n : ℕ) (s : State) → marks_of (terminate n s).shoens ≡ map (ended_mark (n ∷ [])) (marks_of s.shoens)
 terminate_marks n s =
     let a = without_monitor n (ended_at n s) in
     let b = report n terminated_report a in
-    (leaves_both a b (close n b) (leaves_report n terminated_report a) (leaves_close n b)).marks ∙ ended_marks n s.shoens
+    (leaves_both a b (close n b) (leaves_report n terminated_report a) (leaves_close n b)).marks ∙ ended_marks s.rules n s.shoens
 
 two_ends : (c d : Bool) (l : Life) → (if d then Terminated else (if c || false then Terminated else l)) ≡ (if c || d then Terminated else l)
 two_ends true true l = refl

@@ -249,7 +249,7 @@ move_follows g t (unifies a b) s = unified_follows g t (mgu (equation a b)) s s 
 move_follows g t (names text a) s =
     let u = record s { names = with_name s.names text } in
     let k : Keeps s u = record { parents = refl; work = refl; last = refl; owners = λ n w. w; numbered = λ n w. w } in
-    follows_or (not (are_too_many (with_name s.names text))) g t s (unified g t (mgu (equation a (atom text))) u) (unified_follows g t (mgu (equation a (atom text))) s u k)
+    follows_or (not (are_too_many s.rules (with_name s.names text))) g t s (unified g t (mgu (equation a (atom text))) u) (unified_follows g t (mgu (equation a (atom text))) s u k)
 move_follows g t (opens o) s =
     follows_or (has_room_for_child s g.shoen) g t s (open_child s g.shoen o) (opening_follows g.shoen (child_shoen s g.shoen o) o.goal s refl (λ few. few))
 move_follows g t goes s = follows_kept g.shoen s s (keeps_same s)

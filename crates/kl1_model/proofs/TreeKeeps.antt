@@ -1,17 +1,19 @@
 -- What effects keep of the tree of shoens and of charges.
-use Rattle.std.proofs.Common.{◌≡◌, ◌≤◌, ℕ, suc, ◌==◌, not, ◌&&◌, Bool, true, false, if◌then◌else◌, List, [], ◌∷◌, refl, sym, ap, ap₂, ◌∙◌, subst}
+use Rattle.std.proofs.Common.{◌≡◌, ◌≤◌, ℕ, zero, suc, ◌==◌, not, ◌&&◌, Bool, true, false, if◌then◌else◌, List, [], ◌∷◌, refl, sym, ap, ap₂, ◌∙◌, subst}
 use Rattle.std.specs.Prelude.{map, filter, length, get_or, Option, Some, None}
 use Rattle.std.specs.List.{AllByRecursion}
 use Rattle.kl1_model.specs.declared.life.Life.TheVariants.{Terminated, Aborted}
 use Rattle.kl1_model.specs.declared.message.Message.{Message}
 use Rattle.kl1_model.specs.declared.message.Message.TheVariants.{Stop, Start, Abort, Allow}
+use Rattle.kl1_model.specs.declared.rules.Rules.{Rules}
 use Rattle.kl1_model.specs.Term.{Term, variable, integer, atom, structure, Replacement}
 use Rattle.kl1_model.specs.Meaning.{nil, cell}
-use Rattle.kl1_model.specs.State.{Goal, Shoen, State, shoen_at, replace_in_goal, replace_in_shoen, replace_in_state, replace_all, change_shoen, is_living}
+use Rattle.kl1_model.specs.State.{Goal, Origin, Shoen, State, has_forgetting, shoen_at, replace_in_goal, replace_in_shoen, replace_in_state, replace_all, change_shoen, is_living}
 use Rattle.kl1_model.specs.Tree.{parents_of, path, is_on_path}
 use Rattle.kl1_model.specs.Control.{Control, awaits_message, tells, tells_other, ends, breaks_off}
 use Rattle.kl1_model.specs.Report.{broken_at, has_made_last, report_tail, reported_on, reported_at, report, report_each, closed_at, close, exception, illegal_input, exhausted_report, terminated_report, aborted_report, stopped_report, resumed_report}
-use Rattle.kl1_model.specs.Ending.{without_monitor, ended_at, terminate, terminate_each, ending_of, settle, newly_exhausted, after_reduction, ended_below, abort}
+use Rattle.kl1_model.specs.Ending.{without_monitor, ended_as, ended_at, terminate, terminate_each, ending_of, settle, newly_exhausted, after_reduction, ended_below, abort}
+use Rattle.kl1_model.specs.Forgetting.{with_origin, without_reports, empty_place, gone_below, gone}
 use Rattle.kl1_model.specs.Reduction.{obeyed, with_control, heard}
 use Rattle.kl1_model.specs.code.Steps.{report_of, close_of, aborted_below, stopped_of, resumed_of, allowed_more}
 use Rattle.kl1_model.specs.laws.TreeLaws.{AreNumbered, AreWithin, IsTree}
@@ -95,7 +97,7 @@ keeps_all [] s = keeps_same s
 keeps_all (r ∷ rs) s = keeps_both s (replace_in_state r.number r.by s) (replace_all rs (replace_in_state r.number r.by s)) (keeps_replace r.number r.by s) (keeps_all rs (replace_in_state r.number r.by s))
 
 pub keeps_broken : (n : ℕ) (s : State) → Keeps s (broken_at n s)
-keeps_broken n s = keeps_change n (λ h. record h { is_broken = true }) s (λ h. refl) (λ h. refl)
+keeps_broken n s = keeps_change n (λ h. record h { is_broken = true; tail = if has_forgetting s.rules then nil else h.tail }) s (λ h. refl) (λ h. refl)
 
 told_keeps : (n : ℕ) (m : Term) (o : Option ℕ) (s : State) → Keeps s (reported_on n m o s)
 told_keeps n m None s = keeps_broken n s
@@ -140,7 +142,7 @@ pub keeps_without_monitor : (n : ℕ) (s : State) → Keeps s (without_monitor n
 keeps_without_monitor n s = keeps_fewer _ s
 
 pub keeps_ended : (n : ℕ) (s : State) → Keeps s (ended_at n s)
-keeps_ended n s = keeps_change n (λ h. record h { life = Terminated }) s (λ h. refl) (λ h. refl)
+keeps_ended n s = keeps_change n (ended_as s.rules Terminated) s (λ h. refl) (λ h. refl)
 
 pub keeps_terminate : (n : ℕ) (s : State) → Keeps s (terminate n s)
 keeps_terminate n s =
@@ -162,28 +164,49 @@ keeps_settle_charged n s =
     let t = report_each (newly_exhausted s ending (path s.shoens n)) exhausted_report s in
     keeps_both s t (terminate_each ending t) (keeps_report_each (newly_exhausted s ending (path s.shoens n)) exhausted_report s) (keeps_terminate_each ending t)
 
-if_aborted : (c : Bool) (h : Shoen) → (if c then record h { life = Aborted } else h).parent ≡ h.parent
-if_aborted true h = refl
-if_aborted false h = refl
+if_aborted : (rules : Rules) (c : Bool) (h : Shoen) → (if c then ended_as rules Aborted h else h).parent ≡ h.parent
+if_aborted rules true h = refl
+if_aborted rules false h = refl
 
-aborted_parents : (all : List Shoen) (n : ℕ) (hs : List Shoen) → parents_of (map (aborted_below all n) hs) ≡ parents_of hs
-aborted_parents all n [] = refl
-aborted_parents all n (h ∷ hs) = ap₂ (λ (p : ℕ) (ps : List ℕ). p ∷ ps) (if_aborted (is_living h.life && is_on_path all n h.number) h) (aborted_parents all n hs)
+aborted_parents : (rules : Rules) (all : List Shoen) (n : ℕ) (hs : List Shoen) → parents_of (map (aborted_below rules all n) hs) ≡ parents_of hs
+aborted_parents rules all n [] = refl
+aborted_parents rules all n (h ∷ hs) = ap₂ (λ (p : ℕ) (ps : List ℕ). p ∷ ps) (if_aborted rules (is_living h.life && is_on_path all n h.number) h) (aborted_parents rules all n hs)
 
-if_aborted_number : (c : Bool) (h : Shoen) (n : ℕ) → h.number ≡ n → (if c then record h { life = Aborted } else h).number ≡ n
-if_aborted_number true h n e = e
-if_aborted_number false h n e = e
+if_aborted_number : (rules : Rules) (c : Bool) (h : Shoen) (n : ℕ) → h.number ≡ n → (if c then ended_as rules Aborted h else h).number ≡ n
+if_aborted_number rules true h n e = e
+if_aborted_number rules false h n e = e
 
-aborted_numbers : (all : List Shoen) (n m : ℕ) (hs : List Shoen) → AreNumbered m hs → AreNumbered m (map (aborted_below all n) hs)
-aborted_numbers all n m [] a = tt
-aborted_numbers all n m (h ∷ hs) a = (if_aborted_number (is_living h.life && is_on_path all n h.number) h (suc m) a.0, aborted_numbers all n (suc m) hs a.1)
+aborted_numbers : (rules : Rules) (all : List Shoen) (n m : ℕ) (hs : List Shoen) → AreNumbered m hs → AreNumbered m (map (aborted_below rules all n) hs)
+aborted_numbers rules all n m [] a = tt
+aborted_numbers rules all n m (h ∷ hs) a = (if_aborted_number rules (is_living h.life && is_on_path all n h.number) h (suc m) a.0, aborted_numbers rules all n (suc m) hs a.1)
 
 pub keeps_abort : (n : ℕ) (s : State) → Keeps s (abort n s)
 keeps_abort n s =
     let a = ended_below n s in
     let b = report n aborted_report a in
-    let k : Keeps s a = record { parents = aborted_parents s.shoens n s.shoens; work = refl; last = refl; owners = λ m within. filtered_owners (λ g. not (is_on_path s.shoens n g.shoen)) m s.goals within; numbered = λ m a. aborted_numbers s.shoens n m s.shoens a } in
+    let k : Keeps s a = record { parents = aborted_parents s.rules s.shoens n s.shoens; work = refl; last = refl; owners = λ m within. filtered_owners (λ g. not (is_on_path s.shoens n g.shoen)) m s.goals within; numbered = λ m a. aborted_numbers s.rules s.shoens n m s.shoens a } in
     keeps_both s b (close n b) (keeps_both s a b k (keeps_report n aborted_report a)) (keeps_close n b)
+
+if_gone : (c : Bool) (h : Shoen) → (if c then empty_place h else h).parent ≡ h.parent
+if_gone true h = refl
+if_gone false h = refl
+
+gone_parents : (all : List Shoen) (n : ℕ) (hs : List Shoen) → parents_of (map (gone_below all n) hs) ≡ parents_of hs
+gone_parents all n [] = refl
+gone_parents all n (h ∷ hs) = ap₂ (λ (p : ℕ) (ps : List ℕ). p ∷ ps) (if_gone (not (is_living h.life) && is_on_path all n h.number) h) (gone_parents all n hs)
+
+if_gone_number : (c : Bool) (h : Shoen) (n : ℕ) → h.number ≡ n → (if c then empty_place h else h).number ≡ n
+if_gone_number true h n e = e
+if_gone_number false h n e = e
+
+gone_numbers : (all : List Shoen) (n m : ℕ) (hs : List Shoen) → AreNumbered m hs → AreNumbered m (map (gone_below all n) hs)
+gone_numbers all n m [] a = tt
+gone_numbers all n m (h ∷ hs) a = (if_gone_number (not (is_living h.life) && is_on_path all n h.number) h (suc m) a.0, gone_numbers all n (suc m) hs a.1)
+
+-- letting go keeps the tree
+pub keeps_gone : (n count : ℕ) (o : Origin) (s : State) → Keeps s (gone n count o s)
+keeps_gone n zero o s = record { parents = gone_parents s.shoens n s.shoens; work = refl; last = refl; owners = λ m a. a; numbered = λ m a. gone_numbers s.shoens n m s.shoens a }
+keeps_gone n (suc count) o s = keeps_change n (with_origin (without_reports (suc count) o)) s (λ h. refl) (λ h. refl)
 
 stopped_keeps : (o : Option Shoen) (n : ℕ) (s : State) → Keeps s (stopped_of o n s)
 stopped_keeps None n s = keeps_same s

@@ -4,10 +4,11 @@ use Rattle.std.specs.Prelude.{map, filter, Option, Some, option_map, unwrap_or}
 use Rattle.std.specs.List.{AllByRecursion, list_any}
 use Rattle.std.proofs.lemmas.Bool.{false≢true, eqb-true}
 use Rattle.kl1_model.specs.declared.life.Life.TheVariants.{Terminated, Aborted}
+use Rattle.kl1_model.specs.declared.rules.Rules.{Rules}
 use Rattle.kl1_model.specs.State.{Goal, Shoen, State, shoen_at, is_monitor, is_living}
 use Rattle.kl1_model.specs.Tree.{path, is_on_path}
 use Rattle.kl1_model.specs.Report.{report, report_each, close, exhausted_report, terminated_report}
-use Rattle.kl1_model.specs.Ending.{has_goal, lives, without_monitor, ended_at, terminate, terminate_each, ending_of, settle, newly_exhausted, after_reduction, ended_below, abort}
+use Rattle.kl1_model.specs.Ending.{has_goal, lives, without_monitor, ended_as, ended_at, terminate, terminate_each, ending_of, settle, newly_exhausted, after_reduction, ended_below, abort}
 use Rattle.kl1_model.specs.code.Steps.{aborted_below}
 use Rattle.kl1_model.specs.laws.TreeLaws.{AreOfLiving, owners_of}
 use Rattle.kl1_model.proofs.TreeEndings.{Mark, mark_of, marks_of, Post, post_of, posts_of, Leaves, leaves_both, leaves_report, leaves_report_each, leaves_close, abort_leaves, ended_mark, ended_marks, ending_have_no_goals}
@@ -26,7 +27,7 @@ found_lives : (c : Bool) (h : Shoen) (o : Option Shoen) (b : Bool) → unwrap_or
 found_lives true h o b e = refl
 found_lives false h o b e = e
 
-marked_lives : (n : ℕ) (hs : List Shoen) → unwrap_or (option_map (λ (h : Shoen). is_living h.life) (shoen_at n hs)) false ≡ lives_in (marks_of hs) n
+pub marked_lives : (n : ℕ) (hs : List Shoen) → unwrap_or (option_map (λ (h : Shoen). is_living h.life) (shoen_at n hs)) false ≡ lives_in (marks_of hs) n
 marked_lives n [] = refl
 marked_lives n (h ∷ hs) = found_lives (h.number == n) h (shoen_at n hs) (lives_in (marks_of hs) n) (marked_lives n hs)
 
@@ -117,7 +118,7 @@ terminate_posted : (n : ℕ) (s : State) → has_goal n s ≡ false → IsPosted
 terminate_posted n s e a =
     let b = without_case n (marks_of s.shoens) s.goals (sym (posted_goal n s.goals) ∙ e) a in
     posted_left (without_monitor n (ended_at n s)) (terminate n s) (terminate_leaves n s)
-    (subst (λ ms. Posted ms (posts_of (filter (λ g. not (g.shoen == n && is_monitor g.task)) s.goals))) (sym (ended_marks n s.shoens)) b)
+    (subst (λ ms. Posted ms (posts_of (filter (λ g. not (g.shoen == n && is_monitor g.task)) s.goals))) (sym (ended_marks s.rules n s.shoens)) b)
 
 terminate_none : (n m : ℕ) (s : State) → has_goal m s ≡ false → has_goal m (terminate n s) ≡ false
 terminate_none n m s e =
@@ -149,16 +150,16 @@ settle_charged_posted n s a =
 
 -- ---- aborts
 
-aborted_life : (b : Bool) (h : Shoen) → b ≡ false → mark_of (if is_living h.life && b then record h { life = Aborted } else h) ≡ mark_of h
-aborted_life b h e = ap (λ c. mark_of (if is_living h.life && c then record h { life = Aborted } else h)) e ∙ no_abort (is_living h.life) h
+aborted_life : (rules : Rules) (b : Bool) (h : Shoen) → b ≡ false → mark_of (if is_living h.life && b then ended_as rules Aborted h else h) ≡ mark_of h
+aborted_life rules b h e = ap (λ c. mark_of (if is_living h.life && c then ended_as rules Aborted h else h)) e ∙ no_abort (is_living h.life) h
   where
-    no_abort : (c : Bool) (h : Shoen) → mark_of (if c && false then record h { life = Aborted } else h) ≡ mark_of h
+    no_abort : (c : Bool) (h : Shoen) → mark_of (if c && false then ended_as rules Aborted h else h) ≡ mark_of h
     no_abort true h = refl
     no_abort false h = refl
 
-if_aborted : (c : Bool) (h : Shoen) → (if c then record h { life = Aborted } else h).number ≡ h.number
-if_aborted true h = refl
-if_aborted false h = refl
+if_aborted : (rules : Rules) (c : Bool) (h : Shoen) → (if c then ended_as rules Aborted h else h).number ≡ h.number
+if_aborted rules true h = refl
+if_aborted rules false h = refl
 
 other_case : (c : Bool) (h k : Shoen) (m : ℕ) (x y : Bool) → k.number ≡ h.number → h.number == m ≡ c → (h.number ≡ m → mark_of k ≡ mark_of h) → x ≡ y → (if k.number == m then is_living k.life else x) ≡ (if c then is_living h.life else y)
 other_case true h k m x y n d e f =
@@ -166,21 +167,21 @@ other_case true h k m x y n d e f =
 other_case false h k m x y n d e f = ap (λ j. if j == m then is_living k.life else x) n ∙ ap (λ b. if b then is_living k.life else x) d ∙ f
 
 -- an abort leaves the lives of shoens that aren't below
-aborted_other : (all : List Shoen) (n m : ℕ) (hs : List Shoen) → is_on_path all n m ≡ false → lives_in (marks_of (map (aborted_below all n) hs)) m ≡ lives_in (marks_of hs) m
-aborted_other all n m [] e = refl
-aborted_other all n m (h ∷ hs) e =
-    other_case (h.number == m) h (aborted_below all n h) m (lives_in (marks_of (map (aborted_below all n) hs)) m) (lives_in (marks_of hs) m)
-    (if_aborted (is_living h.life && is_on_path all n h.number) h) refl (λ same. aborted_life (is_on_path all n h.number) h (ap (is_on_path all n) same ∙ e)) (aborted_other all n m hs e)
+aborted_other : (rules : Rules) (all : List Shoen) (n m : ℕ) (hs : List Shoen) → is_on_path all n m ≡ false → lives_in (marks_of (map (aborted_below rules all n) hs)) m ≡ lives_in (marks_of hs) m
+aborted_other rules all n m [] e = refl
+aborted_other rules all n m (h ∷ hs) e =
+    other_case (h.number == m) h (aborted_below rules all n h) m (lives_in (marks_of (map (aborted_below rules all n) hs)) m) (lives_in (marks_of hs) m)
+    (if_aborted rules (is_living h.life && is_on_path all n h.number) h) refl (λ same. aborted_life rules (is_on_path all n h.number) h (ap (is_on_path all n) same ∙ e)) (aborted_other rules all n m hs e)
 
-below_case : (c : Bool) (all : List Shoen) (n : ℕ) (hs : List Shoen) (g : Goal) (gs : List Goal) → is_on_path all n g.shoen ≡ c → lives_in (marks_of hs) g.shoen ≡ true →
-    Posted (marks_of (map (aborted_below all n) hs)) (posts_of gs) → Posted (marks_of (map (aborted_below all n) hs)) (posts_of (if not c then g ∷ gs else gs))
-below_case true all n hs g gs e l a = a
-below_case false all n hs g gs e l a = (aborted_other all n g.shoen hs e ∙ l, a)
+below_case : (rules : Rules) (c : Bool) (all : List Shoen) (n : ℕ) (hs : List Shoen) (g : Goal) (gs : List Goal) → is_on_path all n g.shoen ≡ c → lives_in (marks_of hs) g.shoen ≡ true →
+    Posted (marks_of (map (aborted_below rules all n) hs)) (posts_of gs) → Posted (marks_of (map (aborted_below rules all n) hs)) (posts_of (if not c then g ∷ gs else gs))
+below_case rules true all n hs g gs e l a = a
+below_case rules false all n hs g gs e l a = (aborted_other rules all n g.shoen hs e ∙ l, a)
 
-not_below : (all : List Shoen) (n : ℕ) (hs : List Shoen) (gs : List Goal) → Posted (marks_of hs) (posts_of gs) →
-    Posted (marks_of (map (aborted_below all n) hs)) (posts_of (filter (λ g. not (is_on_path all n g.shoen)) gs))
-not_below all n hs [] a = tt
-not_below all n hs (g ∷ gs) a = below_case (is_on_path all n g.shoen) all n hs g (filter (λ g. not (is_on_path all n g.shoen)) gs) refl a.0 (not_below all n hs gs a.1)
+not_below : (rules : Rules) (all : List Shoen) (n : ℕ) (hs : List Shoen) (gs : List Goal) → Posted (marks_of hs) (posts_of gs) →
+    Posted (marks_of (map (aborted_below rules all n) hs)) (posts_of (filter (λ g. not (is_on_path all n g.shoen)) gs))
+not_below rules all n hs [] a = tt
+not_below rules all n hs (g ∷ gs) a = below_case rules (is_on_path all n g.shoen) all n hs g (filter (λ g. not (is_on_path all n g.shoen)) gs) refl a.0 (not_below rules all n hs gs a.1)
 
 pub abort_posted : (n : ℕ) (s : State) → IsPosted s → IsPosted (abort n s)
-abort_posted n s a = posted_left (ended_below n s) (abort n s) (abort_leaves n s) (not_below s.shoens n s.shoens s.goals a)
+abort_posted n s a = posted_left (ended_below n s) (abort n s) (abort_leaves n s) (not_below s.rules s.shoens n s.shoens s.goals a)

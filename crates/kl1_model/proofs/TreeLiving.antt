@@ -1,6 +1,6 @@
 -- Each event leaves goals and monitors to living shoens alone.
-use Rattle.std.proofs.Common.{◌≡◌, ◌≤◌, ℕ, suc, ◌+◌, ◌-◌, ◌==◌, not, ◌&&◌, Bool, true, false, if◌then◌else◌, List, [], ◌∷◌, ◌++◌, refl, ap, ◌∙◌, subst, arith}
-use Rattle.std.specs.Prelude.{nat_lt, nat_le, length, Option, Some, None, is_some}
+use Rattle.std.proofs.Common.{◌≡◌, ◌≤◌, ℕ, zero, suc, ◌+◌, ◌-◌, ◌==◌, not, ◌&&◌, Bool, true, false, if◌then◌else◌, List, [], ◌∷◌, ◌++◌, refl, sym, ap, ap₂, ◌∙◌, subst, arith}
+use Rattle.std.specs.Prelude.{nat_lt, nat_le, map, length, Option, Some, None, is_some}
 use Rattle.std.specs.List.{AllByRecursion}
 use Rattle.std.proofs.lemmas.Bool.{false≢true, eq-eqb, ne_eqb}
 use Rattle.std.proofs.lemmas.Option.{none-some, same_Some}
@@ -13,24 +13,26 @@ use Rattle.kl1_model.specs.Meaning.{cell, highest}
 use Rattle.kl1_model.specs.Nodes.{goal_nodes}
 use Rattle.kl1_model.specs.Module.{Module, Reading, good, bad, read_module}
 use Rattle.kl1_model.specs.Match.{Candidate, module_of}
-use Rattle.kl1_model.specs.State.{Task, reduces, substitutes, Goal, Origin, Shoen, State, has_substitutes, goal_at, shoen_at, names_of, names_of_module, with_name, with_names, replace_in_state, replace_all, change_shoen, without_goal, is_living}
-use Rattle.kl1_model.specs.Tree.{parents_of, charge}
+use Rattle.kl1_model.specs.State.{Task, reduces, substitutes, Goal, Origin, Shoen, State, has_substitutes, has_forgetting, goal_at, shoen_at, names_of, names_of_module, with_name, with_names, replace_in_state, replace_all, change_shoen, without_goal, is_living}
+use Rattle.kl1_model.specs.Tree.{parents_of, is_on_path, charge}
 use Rattle.kl1_model.specs.Control.{Control, awaits_message, tells, tells_other, ends, breaks_off, message_term, message_nodes}
-use Rattle.kl1_model.specs.Event.{Refusal, exists, shoen_ended, syntax, too_many_names, limit_passed, journal_full, sessions_refused, Query, value, status, reports, modules, is_quiet, Event, load, start, control, reduce, read, login, logout, reset, answer, loaded, opened, sent, reduced, welcome, bye, Transition, refuse, is_number, unless, are_too_many, is_full, needs_entry, with_entry, with_reduction}
+use Rattle.kl1_model.specs.Event.{Refusal, exists, shoen_ended, syntax, too_many_names, limit_passed, journal_full, sessions_refused, answer_refused, Query, value, status, reports, modules, is_quiet, Event, load, start, control, reduce, read, login, logout, reset, answer, forget, loaded, opened, sent, reduced, welcome, bye, forgot, Transition, refuse, is_number, unless, are_too_many, is_full, needs_entry, with_entry, with_reduction}
 use Rattle.kl1_model.specs.Report.{report, is_reported, exception, exception_with, failure, illegal_input, exhaustion, started_report, exhausted_report, stopped_report, resumed_report}
 use Rattle.kl1_model.specs.Ending.{without_monitor}
 use Rattle.kl1_model.specs.Opening.{may_start, has_room_to_start, with_shoen, open_shoen, with_next_variables, started_shoen, start_goal, has_room_for_child, child_shoen, open_child}
 use Rattle.kl1_model.specs.Reduction.{Move, commits, raises, unifies, names, opens, goes, gives_way, Action, moves, reads, action_of, goals_from, has_room_for, committed, replaced_by, substituted_by, raised, unified, equation, or_exhaustion, moved, obeyed, with_control, heard, acted, reduce_goal}
 use Rattle.kl1_model.specs.Sending.{may_send, has_room_to_send, send_living, with_control_tail, sent_on, send_to}
-use Rattle.kl1_model.specs.Asking.{origin_at, reply_to}
-use Rattle.kl1_model.specs.Answering.{may_answer, has_room_to_answer, answer_living, unanswered_at, answered, answer_by, answer_to}
+use Rattle.kl1_model.specs.Asking.{origin_at, kept_at, reply_to}
+use Rattle.kl1_model.specs.Answering.{may_answer, has_room_to_answer, asked_at, given, answer_asked, answer_living, answered, answer_by, answer_to}
+use Rattle.kl1_model.specs.Telling.{Asked, Given}
+use Rattle.kl1_model.specs.Forgetting.{may_forget, with_origin, without_reports, empty_place, gone_below, gone, may_go, forget_by, forget_of}
 use Rattle.kl1_model.specs.Choice.{is_in_run}
 use Rattle.kl1_model.specs.Step.{load_module, start_by, step}
 use Rattle.kl1_model.specs.code.Steps.{opening_goals, stopped_of, resumed_of, allowed_more, reduced_by, send_by, value_of, status_of, reports_of, answer_in, with_module}
 use Rattle.kl1_model.specs.laws.TreeLaws.{AreNumbered, IsTree, FreshIsOfLiving, EndedHaveNoGoals}
 use Rattle.kl1_model.proofs.TreeKeeps.{Keeps, kept_tree, keeps_fewer}
 use Rattle.kl1_model.proofs.TreeGrows.{with_reduction_keeps, found_within}
-use Rattle.kl1_model.proofs.TreeEndings.{marks_of, Post, posts_of, Leaves, leaves_same, leaves_both, leaves_if, leaves_change, leaves_replace, leaves_report}
+use Rattle.kl1_model.proofs.TreeEndings.{Mark, mark_of, marks_of, Post, posts_of, Leaves, leaves_same, leaves_both, leaves_if, leaves_change, leaves_replace, leaves_report}
 use Rattle.kl1_model.proofs.TreeLives.{lives_in, Posted, IsPosted, to_posted, from_posted, posted_left, fewer_posts, settle_posted, settle_charged_posted, abort_posted}
 
 -- ---- what monitors read
@@ -161,7 +163,7 @@ moved_posted g t (raises kind) s l tree a = raised_posted g kind t s l a
 moved_posted g t (unifies x y) s l tree a = unified_posted g t (mgu (equation x y)) s l a
 moved_posted g t (names text x) s l tree a =
     let u = record s { names = with_name s.names text } in
-    posted_or (not (are_too_many (with_name s.names text))) g t (unified g t (mgu (equation x (atom text))) u) s (unified_posted g t (mgu (equation x (atom text))) u l a) l a
+    posted_or (not (are_too_many s.rules (with_name s.names text))) g t (unified g t (mgu (equation x (atom text))) u) s (unified_posted g t (mgu (equation x (atom text))) u l a) l a
 moved_posted g t (opens o) s l tree a =
     posted_or (has_room_for_child s g.shoen) g t (open_child s g.shoen o) s (open_posted (child_shoen s g.shoen o) o.goal s refl refl tree a) l a
 moved_posted g t goes s l tree a = a
@@ -213,7 +215,7 @@ load_posts : (s : State) (r : Reading Module) → IsPosted s → Posts (load_mod
 load_posts s (bad line) a = a
 load_posts s (good m) a =
     posts_unless s
-    ((is_some (module_of s.modules m.name), exists) ∷ (are_too_many (with_names s.names (names_of_module m)), too_many_names)
+    ((is_some (module_of s.modules m.name), exists) ∷ (are_too_many s.rules (with_names s.names (names_of_module m)), too_many_names)
     ∷ (not (nat_lt (length s.modules) MOST_MODULES), limit_passed) ∷ (is_full s, journal_full) ∷ [])
     (record { state = with_entry (with_module s m); reply = loaded m.name }) a a
 
@@ -230,7 +232,7 @@ start_posts : (s : State) (allowance low high : ℕ) (t : Term) → IsTree s →
 start_posts s allowance low high t tree a =
     posts_if (may_start allowance low high t) (start_by s allowance low high t) (refuse s syntax)
     (posts_unless s
-    ((are_too_many (with_names s.names (names_of t)), too_many_names) ∷ (not (has_room_to_start s t), limit_passed) ∷ (is_full s, journal_full) ∷ [])
+    ((are_too_many s.rules (with_names s.names (names_of t)), too_many_names) ∷ (not (has_room_to_start s t), limit_passed) ∷ (is_full s, journal_full) ∷ [])
     (record { state = with_entry (start_goal s allowance low high t); reply = opened (suc s.last_shoen) }) a (started_posted s allowance low high t tree a)) a
 
 sent_leaves : (n : ℕ) (m : Message) (t : Term) (s : State) → Leaves s (sent_on n m t s)
@@ -270,31 +272,69 @@ reports_posts s from (Some o) a = a
 
 query_posts : (s : State) (q : Query) → IsPosted s → Posts (reply_to s q)
 query_posts s (value n) a = posts_if (is_number n) (value_of s (origin_at n s.shoens)) (refuse s syntax) (value_posts s (origin_at n s.shoens) a) a
-query_posts s (status n) a = posts_if (is_number n) (status_of s (shoen_at n s.shoens)) (refuse s syntax) (status_posts s (shoen_at n s.shoens) a) a
+query_posts s (status n) a = posts_if (is_number n) (status_of s (kept_at n s.shoens)) (refuse s syntax) (status_posts s (kept_at n s.shoens) a) a
 query_posts s (reports n from) a = posts_if (is_number n && is_number from && nat_le 1 from) (reports_of s from (origin_at n s.shoens)) (refuse s syntax) (reports_posts s from (origin_at n s.shoens) a) a
 query_posts s modules a = a
 query_posts s is_quiet a = a
 
-answered_leaves : (v : ℕ) (t : Term) (s : State) → Leaves s (answered v t s)
-answered_leaves v t s =
-    let k = leaves_replace v (with_next_variables s.last_variable t) s in
+answered_leaves : (v : ℕ) (g : Given) (t : Term) (s : State) → Leaves s (answered v g t s)
+answered_leaves v g t s =
+    let k = leaves_replace v g.goal s in
     record { marks = k.marks; goals = k.goals; posts = k.posts }
 
-answer_by_posts : (s : State) (t : Term) (o : Option ℕ) → IsPosted s → Posts (answer_by s t o)
-answer_by_posts s t None a = a
-answer_by_posts s t (Some v) a = posted_left s (answered v t s) (answered_leaves v t s) a
+answer_by_posts : (s : State) (g : Given) (t : Term) (o : Option Asked) → IsPosted s → Posts (answer_by s g t o)
+answer_by_posts s g t None a = a
+answer_by_posts s g t (Some b) a =
+    posts_unless s ((g.tells_gone, answer_refused) ∷ []) (record { state = with_entry (answered b.new g t s); reply = sent }) a (posted_left s (answered b.new g t s) (answered_leaves b.new g t s) a)
+
+asked_posts : (s : State) (t : Term) (o : Option Asked) → IsPosted s → Posts (answer_asked s t o)
+asked_posts s t o a =
+    let g = given s o t in
+    posts_unless s
+    ((are_too_many s.rules (with_names s.names (names_of t)), too_many_names) ∷ (not (has_room_to_answer s g.new t), limit_passed) ∷ (is_full s, journal_full) ∷ [])
+    (answer_by s g t o) a (answer_by_posts s g t o a)
 
 answer_in_posts : (s : State) (report : ℕ) (t : Term) (h : Shoen) (o : Option Origin) → IsPosted s → Posts (answer_in s report t h o)
 answer_in_posts s report t h None a = a
 answer_in_posts s report t h (Some o) a =
-    posts_if (is_living h.life) (answer_living s report t o) (refuse s shoen_ended)
-    (posts_unless s
-    ((are_too_many (with_names s.names (names_of t)), too_many_names) ∷ (not (has_room_to_answer s t), limit_passed) ∷ (is_full s, journal_full) ∷ [])
-    (answer_by s t (unanswered_at o.reports report)) a (answer_by_posts s t (unanswered_at o.reports report) a)) a
+    posts_if (is_living h.life) (answer_living s report t o) (refuse s shoen_ended) (asked_posts s t (asked_at o report) a) a
 
 answer_to_posts : (s : State) (report : ℕ) (t : Term) (o : Option Shoen) → IsPosted s → Posts (answer_to s report t o)
 answer_to_posts s report t None a = a
 answer_to_posts s report t (Some h) a = answer_in_posts s report t h h.origin a
+
+-- ---- letting go
+
+gone_lives : (c l : Bool) (h : Shoen) (ms ns : List Mark) (m : ℕ) → is_living h.life ≡ l → lives_in ms m ≡ lives_in ns m →
+    lives_in (mark_of (if not l && c then empty_place h else h) ∷ ms) m ≡ lives_in (mark_of h ∷ ns) m
+gone_lives true true h ms ns m f e = ap (λ z. if h.number == m then is_living h.life else z) e
+gone_lives false true h ms ns m f e = ap (λ z. if h.number == m then is_living h.life else z) e
+gone_lives true false h ms ns m f e = ap₂ (λ (l : Bool) (z : Bool). if h.number == m then l else z) (sym f) e
+gone_lives false false h ms ns m f e = ap (λ z. if h.number == m then is_living h.life else z) e
+
+-- who lives isn't let go
+pub lives_gone : (all : List Shoen) (n : ℕ) (hs : List Shoen) (m : ℕ) → lives_in (marks_of (map (gone_below all n) hs)) m ≡ lives_in (marks_of hs) m
+lives_gone all n [] m = refl
+lives_gone all n (h ∷ hs) m = gone_lives (is_on_path all n h.number) (is_living h.life) h (marks_of (map (gone_below all n) hs)) (marks_of hs) m refl (lives_gone all n hs m)
+
+posted_beside : (ms ns : List Mark) (ps : List Post) → ((m : ℕ) → lives_in ns m ≡ lives_in ms m) → Posted ms ps → Posted ns ps
+posted_beside ms ns [] e a = tt
+posted_beside ms ns (p ∷ ps) e a = (e p.shoen ∙ a.0, posted_beside ms ns ps e a.1)
+
+gone_posted : (n count : ℕ) (o : Origin) (s : State) → IsPosted s → IsPosted (gone n count o s)
+gone_posted n zero o s a = posted_beside (marks_of s.shoens) (marks_of (map (gone_below s.shoens n) s.shoens)) (posts_of s.goals) (lives_gone s.shoens n s.shoens) a
+gone_posted n (suc count) o s a =
+    let f = with_origin (without_reports (suc count) o) in
+    posted_left s (change_shoen n f s) (leaves_change n f s (λ h. refl)) a
+
+forget_by_posts : (s : State) (n count : ℕ) (h : Shoen) (o : Option Origin) → IsPosted s → Posts (forget_by s n count h o)
+forget_by_posts s n count h None a = a
+forget_by_posts s n count h (Some o) a =
+    posts_unless s ((is_full s, journal_full) ∷ (not (may_go count h o), answer_refused) ∷ []) (record { state = with_entry (gone n count o s); reply = forgot }) a (gone_posted n count o s a)
+
+forget_posts : (s : State) (n count : ℕ) (o : Option Shoen) → IsPosted s → Posts (forget_of s n count o)
+forget_posts s n count None a = a
+forget_posts s n count (Some h) a = forget_by_posts s n count h h.origin a
 
 step_posts : (s : State) (e : Event) → IsTree s → IsPosted s → Posts (step s e)
 step_posts s (load text) tree a = posts_if (nat_le (length text) MOST_SOURCE_BYTES) (load_module s (read_module text)) (refuse s syntax) (load_posts s (read_module text) a) a
@@ -305,7 +345,8 @@ step_posts s (read q) tree a = query_posts s q a
 step_posts s login tree a = posts_if (nat_lt s.sessions MOST_SESSIONS) (record { state = record s { sessions = suc s.sessions }; reply = welcome s.own_name }) (refuse s sessions_refused) a a
 step_posts s logout tree a = posts_if (nat_lt 0 s.sessions) (record { state = record s { sessions = s.sessions - 1 }; reply = bye }) (refuse s sessions_refused) a a
 step_posts s reset tree a = tt
-step_posts s (answer n report t) tree a = posts_if (has_substitutes s.rules && may_answer n report t) (answer_to s report t (shoen_at n s.shoens)) (refuse s syntax) (answer_to_posts s report t (shoen_at n s.shoens) a) a
+step_posts s (answer n report t) tree a = posts_if (may_answer s.rules n report t) (answer_to s report t (shoen_at n s.shoens)) (refuse s syntax) (answer_to_posts s report t (shoen_at n s.shoens) a) a
+step_posts s (forget n count) tree a = posts_if (has_forgetting s.rules && may_forget n count) (forget_of s n count (shoen_at n s.shoens)) (refuse s syntax) (forget_posts s n count (shoen_at n s.shoens) a) a
 
 pub ended_have_no_goals : EndedHaveNoGoals
 ended_have_no_goals s e tree a = from_posted (step s e).state (step_posts s e tree (to_posted s a))

@@ -11,20 +11,22 @@ use Rattle.kl1_model.specs.Nodes.{goal_nodes}
 use Rattle.kl1_model.specs.Module.{Module, Reading, good, bad, read_module}
 use Rattle.kl1_model.specs.Match.{call_of, module_of}
 use Rattle.kl1_model.specs.Look.{goal_look}
-use Rattle.kl1_model.specs.State.{Task, monitor, reduces, substitutes, Goal, Origin, Shoen, State, has_substitutes, fresh_with, goal_at, shoen_at, names_of, names_of_module, with_names, replace_in_state, change_shoen, is_monitor, is_living}
+use Rattle.kl1_model.specs.State.{Task, monitor, reduces, substitutes, Goal, Origin, Shoen, State, has_forgetting, fresh_with, goal_at, shoen_at, names_of, names_of_module, with_names, replace_in_state, change_shoen, is_monitor, is_living}
 use Rattle.kl1_model.specs.Tree.{is_on_path, charged_of, is_enabled}
 use Rattle.kl1_model.specs.Control.{Control, awaits_message, tells, tells_other, ends, breaks_off, control_of, message_term, message_nodes}
-use Rattle.kl1_model.specs.Event.{Refusal, syntax, source, exists, no_shoen, shoen_ended, step_refused, too_many_names, limit_passed, journal_full, sessions_refused, answer_refused, Query, value, status, reports, modules, is_quiet, load, start, control, reduce, read, login, logout, reset, answer, Reply, loaded, opened, sent, reduced, welcome, bye, Transition, refuse, is_number, unless, are_too_many, is_full, needs_entry, with_entry, with_reduction, is_refused}
+use Rattle.kl1_model.specs.Event.{Refusal, syntax, source, exists, no_shoen, shoen_ended, step_refused, too_many_names, limit_passed, journal_full, sessions_refused, answer_refused, Query, value, status, reports, modules, is_quiet, load, start, control, reduce, read, login, logout, reset, answer, forget, Reply, loaded, opened, sent, reduced, welcome, bye, forgot, Transition, refuse, is_number, unless, are_too_many, is_full, needs_entry, with_entry, with_reduction, is_refused}
 use Rattle.kl1_model.specs.Reduction.{Move, Action, moves, reads, term_move, read_action, task_action, action_of, acted, reduce_goal}
 use Rattle.kl1_model.specs.Opening.{may_start, has_room_to_start, with_next_variables, started_shoen, start_goal}
 use Rattle.kl1_model.specs.Sending.{may_send, has_room_to_send, send_living, with_control_tail, sent_on, send_to}
-use Rattle.kl1_model.specs.Asking.{origin_at, reply_to}
-use Rattle.kl1_model.specs.Answering.{may_answer, has_room_to_answer, answer_living, unanswered_at, answered, answer_by, answer_to}
+use Rattle.kl1_model.specs.Asking.{origin_at, kept_at, reply_to}
+use Rattle.kl1_model.specs.Answering.{may_answer, has_room_to_answer, asked_at, given, answer_asked, answer_living, answered, answer_by, answer_to}
+use Rattle.kl1_model.specs.Telling.{Asked, Given}
+use Rattle.kl1_model.specs.Forgetting.{may_forget, gone, may_go, forget_by, forget_of}
 use Rattle.kl1_model.specs.Choice.{is_in_run}
 use Rattle.kl1_model.specs.Step.{load_module, start_by, step}
 use Rattle.kl1_model.specs.code.Steps.{substitute_move, monitor_action, reduced_by, send_by, value_of, status_of, reports_of, answer_in, with_module, log_in, log_out}
 use Rattle.kl1_model.specs.laws.TreeLaws.{IsTree, FreshIsTree, TreesStay, ReductionsCharge, MonitorsChargeNobody, OthersChargeNobody, RefusalsChangeNothing}
-use Rattle.kl1_model.proofs.TreeKeeps.{Keeps, keeps_same, keeps_both, kept_tree, keeps_change, keeps_replace}
+use Rattle.kl1_model.proofs.TreeKeeps.{Keeps, keeps_same, keeps_both, kept_tree, keeps_change, keeps_replace, keeps_gone}
 use Rattle.kl1_model.proofs.TreeGrows.{Follows, follows_kept, follows_then, opening_follows, acted_move, acted_reading, charged_among, charged_kept, with_entry_keeps, with_reduction_keeps, found_within}
 
 pub fresh_is_tree : FreshIsTree
@@ -64,7 +66,7 @@ comes_load : (s : State) (r : Reading Module) → Comes s (load_module s r)
 comes_load s (bad line) = comes_refused s (source line)
 comes_load s (good m) =
     comes_unless s
-    ((is_some (module_of s.modules m.name), exists) ∷ (are_too_many (with_names s.names (names_of_module m)), too_many_names)
+    ((is_some (module_of s.modules m.name), exists) ∷ (are_too_many s.rules (with_names s.names (names_of_module m)), too_many_names)
     ∷ (not (nat_lt (length s.modules) MOST_MODULES), limit_passed) ∷ (is_full s, journal_full) ∷ [])
     (record { state = with_entry (with_module s m); reply = loaded m.name }) (comes_loaded s m)
 
@@ -88,7 +90,7 @@ comes_start : (s : State) (allowance low high : ℕ) (t : Term) → Comes s (ste
 comes_start s allowance low high t =
     comes_or (may_start allowance low high t) s (start_by s allowance low high t) syntax
     (comes_unless s
-    ((are_too_many (with_names s.names (names_of t)), too_many_names) ∷ (not (has_room_to_start s t), limit_passed) ∷ (is_full s, journal_full) ∷ [])
+    ((are_too_many s.rules (with_names s.names (names_of t)), too_many_names) ∷ (not (has_room_to_start s t), limit_passed) ∷ (is_full s, journal_full) ∷ [])
     (record { state = with_entry (start_goal s allowance low high t); reply = opened (suc s.last_shoen) }) (comes_started s allowance low high t))
 
 sent_keeps : (n : ℕ) (m : Message) (t : Term) (s : State) → Keeps s (sent_on n m t s)
@@ -134,37 +136,58 @@ comes_reports s from (Some o) = comes_said s _
 
 comes_query : (s : State) (q : Query) → Comes s (reply_to s q)
 comes_query s (value n) = comes_or (is_number n) s (value_of s (origin_at n s.shoens)) syntax (comes_value s (origin_at n s.shoens))
-comes_query s (status n) = comes_or (is_number n) s (status_of s (shoen_at n s.shoens)) syntax (comes_status s (shoen_at n s.shoens))
+comes_query s (status n) = comes_or (is_number n) s (status_of s (kept_at n s.shoens)) syntax (comes_status s (kept_at n s.shoens))
 comes_query s (reports n from) = comes_or (is_number n && is_number from && nat_le 1 from) s (reports_of s from (origin_at n s.shoens)) syntax (comes_reports s from (origin_at n s.shoens))
 comes_query s modules = comes_said s _
 comes_query s is_quiet = comes_said s _
 
-answered_keeps : (v : ℕ) (t : Term) (s : State) → Keeps s (answered v t s)
-answered_keeps v t s =
-    let k = keeps_replace v (with_next_variables s.last_variable t) s in
+answered_keeps : (v : ℕ) (g : Given) (t : Term) (s : State) → Keeps s (answered v g t s)
+answered_keeps v g t s =
+    let k = keeps_replace v g.goal s in
     record { parents = k.parents; work = k.work; last = k.last; owners = k.owners; numbered = k.numbered }
 
-comes_answer_by : (s : State) (t : Term) (o : Option ℕ) → Comes s (answer_by s t o)
-comes_answer_by s t None = comes_refused s answer_refused
-comes_answer_by s t (Some v) = record {
-  follows = follows_kept 0 s (with_entry (answered v t s)) (keeps_both s (answered v t s) (with_entry (answered v t s)) (answered_keeps v t s) (with_entry_keeps (answered v t s)));
-  kept = λ e. absurd (false≢true e);
-}
+comes_answer_by : (s : State) (g : Given) (t : Term) (o : Option Asked) → Comes s (answer_by s g t o)
+comes_answer_by s g t None = comes_refused s answer_refused
+comes_answer_by s g t (Some a) =
+    let x : Transition = record { state = with_entry (answered a.new g t s); reply = sent } in
+    comes_unless s ((g.tells_gone, answer_refused) ∷ []) x (record {
+      follows = follows_kept 0 s (with_entry (answered a.new g t s)) (keeps_both s (answered a.new g t s) (with_entry (answered a.new g t s)) (answered_keeps a.new g t s) (with_entry_keeps (answered a.new g t s)));
+      kept = λ e. absurd (false≢true e);
+    })
+
+comes_asked : (s : State) (t : Term) (o : Option Asked) → Comes s (answer_asked s t o)
+comes_asked s t o =
+    let g = given s o t in
+    comes_unless s
+    ((are_too_many s.rules (with_names s.names (names_of t)), too_many_names) ∷ (not (has_room_to_answer s g.new t), limit_passed) ∷ (is_full s, journal_full) ∷ [])
+    (answer_by s g t o) (comes_answer_by s g t o)
 
 comes_answer_in : (s : State) (report : ℕ) (t : Term) (h : Shoen) (o : Option Origin) → Comes s (answer_in s report t h o)
 comes_answer_in s report t h None = comes_refused s no_shoen
-comes_answer_in s report t h (Some o) =
-    comes_or (is_living h.life) s (answer_living s report t o) shoen_ended
-    (comes_unless s
-    ((are_too_many (with_names s.names (names_of t)), too_many_names) ∷ (not (has_room_to_answer s t), limit_passed) ∷ (is_full s, journal_full) ∷ [])
-    (answer_by s t (unanswered_at o.reports report)) (comes_answer_by s t (unanswered_at o.reports report)))
+comes_answer_in s report t h (Some o) = comes_or (is_living h.life) s (answer_living s report t o) shoen_ended (comes_asked s t (asked_at o report))
 
 comes_answer_to : (s : State) (report : ℕ) (t : Term) (o : Option Shoen) → Comes s (answer_to s report t o)
 comes_answer_to s report t None = comes_refused s no_shoen
 comes_answer_to s report t (Some h) = comes_answer_in s report t h h.origin
 
 comes_answer : (s : State) (n report : ℕ) (t : Term) → Comes s (step s (answer n report t))
-comes_answer s n report t = comes_or (has_substitutes s.rules && may_answer n report t) s (answer_to s report t (shoen_at n s.shoens)) syntax (comes_answer_to s report t (shoen_at n s.shoens))
+comes_answer s n report t = comes_or (may_answer s.rules n report t) s (answer_to s report t (shoen_at n s.shoens)) syntax (comes_answer_to s report t (shoen_at n s.shoens))
+
+-- ---- letting go
+
+comes_forget_by : (s : State) (n count : ℕ) (h : Shoen) (o : Option Origin) → Comes s (forget_by s n count h o)
+comes_forget_by s n count h None = comes_refused s no_shoen
+comes_forget_by s n count h (Some o) =
+    let t = gone n count o s in
+    comes_unless s ((is_full s, journal_full) ∷ (not (may_go count h o), answer_refused) ∷ []) (record { state = with_entry t; reply = forgot })
+    (record { follows = follows_kept 0 s (with_entry t) (keeps_both s t (with_entry t) (keeps_gone n count o s) (with_entry_keeps t)); kept = λ e. absurd (false≢true e) })
+
+comes_forget_of : (s : State) (n count : ℕ) (o : Option Shoen) → Comes s (forget_of s n count o)
+comes_forget_of s n count None = comes_refused s no_shoen
+comes_forget_of s n count (Some h) = comes_forget_by s n count h h.origin
+
+comes_forget : (s : State) (n count : ℕ) → Comes s (step s (forget n count))
+comes_forget s n count = comes_or (has_forgetting s.rules && may_forget n count) s (forget_of s n count (shoen_at n s.shoens)) syntax (comes_forget_of s n count (shoen_at n s.shoens))
 
 -- ---- reductions
 
@@ -315,6 +338,7 @@ trees_stay s login tree = tree_from s (log_in s) (comes_login s) tree
 trees_stay s logout tree = tree_from s (log_out s) (comes_logout s) tree
 trees_stay s reset tree = reset_tree s
 trees_stay s (answer n report t) tree = tree_from s (step s (answer n report t)) (comes_answer s n report t) tree
+trees_stay s (forget n count) tree = tree_from s (step s (forget n count)) (comes_forget s n count) tree
 
 charged_from : (s : State) (x : Transition) (a : ℕ) → Comes s x → IsTree s → charged_of x.state a ≡ charged_of s a
 charged_from s x a c tree = charged_among s x.state c.follows.more a tree c.follows.parents c.follows.work
@@ -329,6 +353,7 @@ others_charge_nobody s login tree e a = charged_from s (log_in s) a (comes_login
 others_charge_nobody s logout tree e a = charged_from s (log_out s) a (comes_logout s) tree
 others_charge_nobody s reset tree e a = refl
 others_charge_nobody s (answer n report t) tree e a = charged_from s (step s (answer n report t)) a (comes_answer s n report t) tree
+others_charge_nobody s (forget n count) tree e a = charged_from s (step s (forget n count)) a (comes_forget s n count) tree
 
 pub refusals_change_nothing : RefusalsChangeNothing
 refusals_change_nothing s (load text) e = (comes_load_event s text).kept e
@@ -340,3 +365,4 @@ refusals_change_nothing s login e = (comes_login s).kept e
 refusals_change_nothing s logout e = (comes_logout s).kept e
 refusals_change_nothing s reset e = absurd (false≢true e)
 refusals_change_nothing s (answer n report t) e = (comes_answer s n report t).kept e
+refusals_change_nothing s (forget n count) e = (comes_forget s n count).kept e

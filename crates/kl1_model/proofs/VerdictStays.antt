@@ -4,90 +4,92 @@ use Rattle.std.specs.Prelude.{bytes_eq, Option, Some, None}
 use Rattle.std.proofs.lemmas.List.{map-append}
 use Rattle.kl1_model.specs.Term.{Term, variable, integer, atom, structure, Terms, none, more, count_of, substituted, each_substituted, Replacement}
 use Rattle.kl1_model.specs.Module.{Clause}
-use Rattle.kl1_model.specs.code.Outcome.{Outcome, agrees, clashes, waits, both, Matched, with_outcome, match_both, match_term, match_terms, each_alike, guard_outcome, awaited_in, Verdict, accepts, rejects, suspends, verdict_with, verdict_of, named_verdict}
+use Rattle.kl1_model.specs.Answer.{Answer, yes, no, wait, together, awaited_in}
+use Rattle.kl1_model.specs.Match.{Match, with_answer, match_both, match_pattern, match_patterns, each_answer, guard_answer, whole}
+use Rattle.kl1_model.specs.code.Verdicts.{Verdict, accepts, rejects, suspends, verdict_with, verdict_of, named_verdict}
 use Rattle.kl1_model.specs.code.Waits.{LeavesEach}
 use Rattle.kl1_model.specs.laws.WaitsLaws.{place_substituted, places_substituted, ClausesStay}
-use Rattle.kl1_model.specs.laws.OutcomeLaws.{NamedRejectsStays, NamedAcceptsStays, NamedSuspendsStays}
+use Rattle.kl1_model.specs.laws.VerdictLaws.{NamedRejectsStays, NamedAcceptsStays, NamedSuspendsStays}
 use Rattle.kl1_model.proofs.Substitutions.{count-each_substituted}
 use Rattle.kl1_model.proofs.SameStays.{left_front, left_back}
 use Rattle.kl1_model.proofs.NamedWaits.{named_least_by, named_least_within, named_least_from, named_after, named_within, named_by_clauses, least_from_named, clauses_named}
-use Rattle.kl1_model.proofs.GuardStays.{Stays, both_stay, guard_stays, each_alike_stays}
+use Rattle.kl1_model.proofs.GuardStays.{Stays, both_stay, guard_stays, each_answer_stays}
 
 -- ---- outcomes that stay
 
 -- an outcome that is no clash, and whose variables a substitution leaves
-abbrev Left : (ℕ → Term) → Outcome → Type 0
-Left s agrees = Unit {0}
-Left s clashes = ⊥
-Left s (waits vs) = LeavesEach s vs
+abbrev Left : (ℕ → Term) → Answer → Type 0
+Left s yes = Unit {0}
+Left s no = ⊥
+Left s (wait vs) = LeavesEach s vs
 
-left_both : (s : ℕ → Term) (a b : Outcome) → Left s (both a b) → Left s a × Left s b
-left_both s agrees b l = (tt, l)
-left_both s clashes b l = absurd l
-left_both s (waits vs) agrees l = (l, tt)
-left_both s (waits vs) clashes l = absurd l
-left_both s (waits vs) (waits ws) l = (left_front s vs ws l, left_back s vs ws l)
+left_both : (s : ℕ → Term) (a b : Answer) → Left s (together a b) → Left s a × Left s b
+left_both s yes b l = (tt, l)
+left_both s no b l = absurd l
+left_both s (wait vs) yes l = (l, tt)
+left_both s (wait vs) no l = absurd l
+left_both s (wait vs) (wait ws) l = (left_front s vs ws l, left_back s vs ws l)
 
 -- a match after a substitution
-abbrev after : (ℕ → Term) → Matched → Matched
-after s m = record { outcome = m.outcome; places = places_substituted s m.places }
+abbrev after : (ℕ → Term) → Match → Match
+after s m = record { answer = m.answer; places = places_substituted s m.places }
 
-after_both : (s : ℕ → Term) (a b : Matched) → match_both (after s a) (after s b) ≡ after s (match_both a b)
-after_both s a b = ap (λ (l : List Replacement). let m : Matched = record { outcome = both a.outcome b.outcome; places = l } in m) (sym (map-append (place_substituted s) a.places b.places))
+after_both : (s : ℕ → Term) (a b : Match) → match_both (after s a) (after s b) ≡ after s (match_both a b)
+after_both s a b = ap (λ (l : List Replacement). let m : Match = record { answer = together a.answer b.answer; places = l } in m) (sym (map-append (place_substituted s) a.places b.places))
 
-inside : (s : ℕ → Term) (c : Bool) (m n : Matched) → Left s (if c then m else with_outcome clashes).outcome → (Left s m.outcome → n ≡ after s m) → (if c then n else with_outcome clashes) ≡ after s (if c then m else with_outcome clashes)
+inside : (s : ℕ → Term) (c : Bool) (m n : Match) → Left s (if c then m else with_answer no).answer → (Left s m.answer → n ≡ after s m) → (if c then n else with_answer no) ≡ after s (if c then m else with_answer no)
 inside s true m n l f = f l
 inside s false m n l f = refl
 
 mutual
-  match_stays : (s : ℕ → Term) (p t : Term) → Left s (match_term p t).outcome → match_term p (substituted s t) ≡ after s (match_term p t)
+  match_stays : (s : ℕ → Term) (p t : Term) → Left s (match_pattern p t).answer → match_pattern p (substituted s t) ≡ after s (match_pattern p t)
   match_stays s (variable v) t l = refl
-  match_stays s (integer i) (variable w) l = ap (match_term (integer i)) l.0
+  match_stays s (integer i) (variable w) l = ap (match_pattern (integer i)) l.0
   match_stays s (integer i) (integer j) l = refl
   match_stays s (integer i) (atom b) l = refl
   match_stays s (integer i) (structure g us) l = refl
-  match_stays s (atom a) (variable w) l = ap (match_term (atom a)) l.0
+  match_stays s (atom a) (variable w) l = ap (match_pattern (atom a)) l.0
   match_stays s (atom a) (integer j) l = refl
   match_stays s (atom a) (atom b) l = refl
   match_stays s (atom a) (structure g us) l = refl
-  match_stays s (structure f ps) (variable w) l = ap (match_term (structure f ps)) l.0
+  match_stays s (structure f ps) (variable w) l = ap (match_pattern (structure f ps)) l.0
   match_stays s (structure f ps) (integer j) l = refl
   match_stays s (structure f ps) (atom b) l = refl
   match_stays s (structure f ps) (structure g ts) l =
-      ap (λ n. if bytes_eq f g && count_of ps == n then match_terms ps (each_substituted s ts) else with_outcome clashes) (count-each_substituted s ts)
-      ∙ inside s (bytes_eq f g && count_of ps == count_of ts) (match_terms ps ts) (match_terms ps (each_substituted s ts)) l (match_all_stays s ps ts)
+      ap (λ n. if bytes_eq f g && count_of ps == n then match_patterns ps (each_substituted s ts) else with_answer no) (count-each_substituted s ts)
+      ∙ inside s (bytes_eq f g && count_of ps == count_of ts) (match_patterns ps ts) (match_patterns ps (each_substituted s ts)) l (match_all_stays s ps ts)
 
-  match_all_stays : (s : ℕ → Term) (ps ts : Terms) → Left s (match_terms ps ts).outcome → match_terms ps (each_substituted s ts) ≡ after s (match_terms ps ts)
+  match_all_stays : (s : ℕ → Term) (ps ts : Terms) → Left s (match_patterns ps ts).answer → match_patterns ps (each_substituted s ts) ≡ after s (match_patterns ps ts)
   match_all_stays s none none l = refl
   match_all_stays s none (more t ts) l = refl
   match_all_stays s (more p ps) none l = refl
   match_all_stays s (more p ps) (more t ts) l =
-      let b = left_both s (match_term p t).outcome (match_terms ps ts).outcome l in
-      ap₂ match_both (match_stays s p t b.0) (match_all_stays s ps ts b.1) ∙ after_both s (match_term p t) (match_terms ps ts)
+      let b = left_both s (match_pattern p t).answer (match_patterns ps ts).answer l in
+      ap₂ match_both (match_stays s p t b.0) (match_all_stays s ps ts b.1) ∙ after_both s (match_pattern p t) (match_patterns ps ts)
 
 -- ---- clashes stay
 
-pub both_clash : (a b : Outcome) → both a b ≡ clashes → (a ≡ clashes) ⊎ (b ≡ clashes)
-both_clash agrees b e = inr e
-both_clash clashes b e = inl refl
-both_clash (waits vs) agrees e = absurd (cc)
-both_clash (waits vs) clashes e = inr refl
-both_clash (waits vs) (waits ws) e = absurd (cc)
+pub both_clash : (a b : Answer) → together a b ≡ no → (a ≡ no) ⊎ (b ≡ no)
+both_clash yes b e = inr e
+both_clash no b e = inl refl
+both_clash (wait vs) yes e = absurd (cc)
+both_clash (wait vs) no e = inr refl
+both_clash (wait vs) (wait ws) e = absurd (cc)
 
-pub clash_left : (a b : Outcome) → a ≡ clashes → both a b ≡ clashes
-clash_left a b e = ap (λ o. both o b) e
+pub clash_left : (a b : Answer) → a ≡ no → together a b ≡ no
+clash_left a b e = ap (λ o. together o b) e
 
-pub clash_right : (a b : Outcome) → b ≡ clashes → both a b ≡ clashes
-clash_right agrees b e = e
-clash_right clashes b e = refl
-clash_right (waits vs) b e = ap (both (waits vs)) e
+pub clash_right : (a b : Answer) → b ≡ no → together a b ≡ no
+clash_right yes b e = e
+clash_right no b e = refl
+clash_right (wait vs) b e = ap (together (wait vs)) e
 
-clash_inside : (c : Bool) (m n : Matched) → (if c then m else with_outcome clashes).outcome ≡ clashes → (m.outcome ≡ clashes → n.outcome ≡ clashes) → (if c then n else with_outcome clashes).outcome ≡ clashes
+clash_inside : (c : Bool) (m n : Match) → (if c then m else with_answer no).answer ≡ no → (m.answer ≡ no → n.answer ≡ no) → (if c then n else with_answer no).answer ≡ no
 clash_inside true m n e f = f e
 clash_inside false m n e f = refl
 
 mutual
-  clash_stays : (s : ℕ → Term) (p t : Term) → (match_term p t).outcome ≡ clashes → (match_term p (substituted s t)).outcome ≡ clashes
+  clash_stays : (s : ℕ → Term) (p t : Term) → (match_pattern p t).answer ≡ no → (match_pattern p (substituted s t)).answer ≡ no
   clash_stays s (variable v) t e = absurd (cc)
   clash_stays s (integer i) (variable w) e = absurd (cc)
   clash_stays s (integer i) (integer j) e = e
@@ -101,86 +103,82 @@ mutual
   clash_stays s (structure f ps) (integer j) e = e
   clash_stays s (structure f ps) (atom b) e = e
   clash_stays s (structure f ps) (structure g ts) e =
-      ap (λ n. (if bytes_eq f g && count_of ps == n then match_terms ps (each_substituted s ts) else with_outcome clashes).outcome) (count-each_substituted s ts)
-      ∙ clash_inside (bytes_eq f g && count_of ps == count_of ts) (match_terms ps ts) (match_terms ps (each_substituted s ts)) e (clashes_stay s ps ts)
+      ap (λ n. (if bytes_eq f g && count_of ps == n then match_patterns ps (each_substituted s ts) else with_answer no).answer) (count-each_substituted s ts)
+      ∙ clash_inside (bytes_eq f g && count_of ps == count_of ts) (match_patterns ps ts) (match_patterns ps (each_substituted s ts)) e (clashes_stay s ps ts)
 
-  pub clashes_stay : (s : ℕ → Term) (ps ts : Terms) → (match_terms ps ts).outcome ≡ clashes → (match_terms ps (each_substituted s ts)).outcome ≡ clashes
+  pub clashes_stay : (s : ℕ → Term) (ps ts : Terms) → (match_patterns ps ts).answer ≡ no → (match_patterns ps (each_substituted s ts)).answer ≡ no
   clashes_stay s none none e = absurd (cc)
   clashes_stay s none (more t ts) e = e
   clashes_stay s (more p ps) none e = e
   clashes_stay s (more p ps) (more t ts) e =
-      elim (both_clash (match_term p t).outcome (match_terms ps ts).outcome e) [
-        | inl a ↦ clash_left (match_term p (substituted s t)).outcome (match_terms ps (each_substituted s ts)).outcome (clash_stays s p t a)
-        | inr b ↦ clash_right (match_term p (substituted s t)).outcome (match_terms ps (each_substituted s ts)).outcome (clashes_stay s ps ts b)
+      elim (both_clash (match_pattern p t).answer (match_patterns ps ts).answer e) [
+        | inl a ↦ clash_left (match_pattern p (substituted s t)).answer (match_patterns ps (each_substituted s ts)).answer (clash_stays s p t a)
+        | inr b ↦ clash_right (match_pattern p (substituted s t)).answer (match_patterns ps (each_substituted s ts)).answer (clashes_stay s ps ts b)
       ]
 
 -- ---- verdicts
 
--- the whole outcome of a match and a guard
-abbrev pub whole : List Term → Matched → Outcome
-whole tests m = both (both m.outcome (each_alike m.places)) (guard_outcome m.places tests)
-
--- it stays if the match does, until a variable for which it waits is replaced
-whole_stays : (s : ℕ → Term) (tests : List Term) (m : Matched) → Stays s (whole tests m) (whole tests (after s m))
+-- the whole answer stays if the match does, until a variable for which it waits is replaced
+whole_stays : (s : ℕ → Term) (tests : List Term) (m : Match) → Stays s (whole tests m) (whole tests (after s m))
 whole_stays s tests m =
-    both_stay s (both m.outcome (each_alike m.places)) (guard_outcome m.places tests) (both m.outcome (each_alike (places_substituted s m.places))) (guard_outcome (places_substituted s m.places) tests)
-    (both_stay s m.outcome (each_alike m.places) m.outcome (each_alike (places_substituted s m.places)) (λ l. refl) (each_alike_stays s m.places))
+    both_stay s (together m.answer (each_answer m.places)) (guard_answer m.places tests) (together m.answer (each_answer (places_substituted s m.places))) (guard_answer (places_substituted s m.places) tests)
+    (both_stay s m.answer (each_answer m.places) m.answer (each_answer (places_substituted s m.places)) (λ l. refl) (each_answer_stays s m.places))
     (guard_stays s m.places tests)
 
 -- the verdict if the match stays and the whole outcome is this
-stays_with : (s : ℕ → Term) (c : Clause) (ts : Terms) (o : Outcome) → whole c.tests (match_terms c.patterns ts) ≡ o → Left s (match_terms c.patterns ts).outcome → LeavesEach s (awaited_in o) →
-    named_verdict c (each_substituted s ts) ≡ verdict_with (after s (match_terms c.patterns ts)) o
+stays_with : (s : ℕ → Term) (c : Clause) (ts : Terms) (o : Answer) → whole c.tests (match_patterns c.patterns ts) ≡ o → Left s (match_patterns c.patterns ts).answer → LeavesEach s (awaited_in o) →
+    named_verdict c (each_substituted s ts) ≡ verdict_with (after s (match_patterns c.patterns ts)) o
 stays_with s c ts o e left l =
-    let m = match_terms c.patterns ts in
+    let m = match_patterns c.patterns ts in
     ap (verdict_of c.tests) (match_all_stays s c.patterns ts left)
     ∙ ap (verdict_with (after s m)) (whole_stays s c.tests m (subst (λ p. LeavesEach s (awaited_in p)) (sym e) l) ∙ e)
 
-pub was_clash : (m : Matched) (o : Outcome) (vs : List ℕ) → verdict_with m o ≡ rejects vs → (o ≡ clashes) × (awaited_in m.outcome ≡ vs)
-was_clash m agrees vs e = absurd (cc)
-was_clash m clashes vs e = (refl, cc)
-was_clash m (waits ws) vs e = absurd (cc)
+pub was_clash : (m : Match) (o : Answer) (vs : List ℕ) → verdict_with m o ≡ rejects vs → (o ≡ no) × (awaited_in m.answer ≡ vs)
+was_clash m yes vs e = absurd (cc)
+was_clash m no vs e = (refl, cc)
+was_clash m (wait ws) vs e = absurd (cc)
 
-pub was_agreed : (m : Matched) (o : Outcome) (ps : List Replacement) → verdict_with m o ≡ accepts ps → (o ≡ agrees) × (m.places ≡ ps)
-was_agreed m agrees ps e = (refl, cc)
-was_agreed m clashes ps e = absurd (cc)
-was_agreed m (waits vs) ps e = absurd (cc)
+pub was_agreed : (m : Match) (o : Answer) (ps : List Replacement) → verdict_with m o ≡ accepts ps → (o ≡ yes) × (m.places ≡ ps)
+was_agreed m yes ps e = (refl, cc)
+was_agreed m no ps e = absurd (cc)
+was_agreed m (wait vs) ps e = absurd (cc)
 
-was_waiting : (m : Matched) (o : Outcome) (vs : List ℕ) → verdict_with m o ≡ suspends vs → o ≡ waits vs
-was_waiting m agrees vs e = absurd (cc)
-was_waiting m clashes vs e = absurd (cc)
-was_waiting m (waits ws) vs e = cc
+was_waiting : (m : Match) (o : Answer) (vs : List ℕ) → verdict_with m o ≡ suspends vs → o ≡ wait vs
+was_waiting m yes vs e = absurd (cc)
+was_waiting m no vs e = absurd (cc)
+was_waiting m (wait ws) vs e = cc
 
 -- a match that doesn't clash stays if the variables for which it waits are left, and so does what it names
-open_stays : (s : ℕ → Term) (c : Clause) (ts : Terms) (o : Outcome) → (match_terms c.patterns ts).outcome ≡ o → whole c.tests (match_terms c.patterns ts) ≡ clashes → LeavesEach s (awaited_in o) → named_verdict c (each_substituted s ts) ≡ rejects (awaited_in o)
-open_stays s c ts agrees e w l = stays_with s c ts clashes w (subst (λ o. Left s o) (sym e) tt) tt ∙ ap (λ o. rejects (awaited_in o)) e
-open_stays s c ts clashes e w l =
-    let k : (match_terms c.patterns (each_substituted s ts)).outcome ≡ clashes = clashes_stay s c.patterns ts e in
-    let n = match_terms c.patterns (each_substituted s ts) in
-    ap (verdict_with n) (ap (λ o. both (both o (each_alike n.places)) (guard_outcome n.places c.tests)) k) ∙ ap (λ o. rejects (awaited_in o)) k
-open_stays s c ts (waits vs) e w l = stays_with s c ts clashes w (subst (λ o. Left s o) (sym e) l) tt ∙ ap (λ o. rejects (awaited_in o)) e
+open_stays : (s : ℕ → Term) (c : Clause) (ts : Terms) (o : Answer) → (match_patterns c.patterns ts).answer ≡ o → whole c.tests (match_patterns c.patterns ts) ≡ no → LeavesEach s (awaited_in o) → named_verdict c (each_substituted s ts) ≡ rejects (awaited_in o)
+open_stays s c ts yes e w l = stays_with s c ts no w (subst (λ o. Left s o) (sym e) tt) tt ∙ ap (λ o. rejects (awaited_in o)) e
+open_stays s c ts no e w l =
+    let k : (match_patterns c.patterns (each_substituted s ts)).answer ≡ no = clashes_stay s c.patterns ts e in
+    let n = match_patterns c.patterns (each_substituted s ts) in
+    ap (verdict_with n) (ap (λ o. together (together o (each_answer n.places)) (guard_answer n.places c.tests)) k) ∙ ap (λ o. rejects (awaited_in o)) k
+open_stays s c ts (wait vs) e w l = stays_with s c ts no w (subst (λ o. Left s o) (sym e) l) tt ∙ ap (λ o. rejects (awaited_in o)) e
 
 pub named_rejects_stays : NamedRejectsStays
 named_rejects_stays s c ts vs e l =
-    let m = match_terms c.patterns ts in
+    let m = match_patterns c.patterns ts in
     let w = was_clash m (whole c.tests m) vs e in
-    open_stays s c ts m.outcome refl w.0 (subst (λ (x : List ℕ). LeavesEach s x) (sym w.1) l) ∙ ap (λ x. rejects x) w.1
+    open_stays s c ts m.answer refl w.0 (subst (λ (x : List ℕ). LeavesEach s x) (sym w.1) l) ∙ ap (λ x. rejects x) w.1
 
 -- what a whole outcome that is no clash leaves, its match leaves
-match_left : (s : ℕ → Term) (tests : List Term) (m : Matched) → Left s (whole tests m) → Left s m.outcome
-match_left s tests m l = (left_both s m.outcome (each_alike m.places) (left_both s (both m.outcome (each_alike m.places)) (guard_outcome m.places tests) l).0).0
+match_left : (s : ℕ → Term) (tests : List Term) (m : Match) → Left s (whole tests m) → Left s m.answer
+match_left s tests m l = (left_both s m.answer (each_answer m.places) (left_both s (together m.answer (each_answer m.places)) (guard_answer m.places tests) l).0).0
 
 pub named_accepts_stays : NamedAcceptsStays
 named_accepts_stays s c ts places e =
-    let m = match_terms c.patterns ts in
+    let m = match_patterns c.patterns ts in
     let w = was_agreed m (whole c.tests m) places e in
-    stays_with s c ts agrees w.0 (match_left s c.tests m (subst (λ o. Left s o) (sym w.0) tt)) tt
+    stays_with s c ts yes w.0 (match_left s c.tests m (subst (λ o. Left s o) (sym w.0) tt)) tt
     ∙ ap (λ (ps : List Replacement). accepts (places_substituted s ps)) w.1
 
 pub named_suspends_stays : NamedSuspendsStays
 named_suspends_stays s c ts vs e l =
-    let m = match_terms c.patterns ts in
-    let w : whole c.tests m ≡ waits vs = was_waiting m (whole c.tests m) vs e in
-    stays_with s c ts (waits vs) w (match_left s c.tests m (subst (λ o. Left s o) (sym w) l)) l
+    let m = match_patterns c.patterns ts in
+    let w : whole c.tests m ≡ wait vs = was_waiting m (whole c.tests m) vs e in
+    stays_with s c ts (wait vs) w (match_left s c.tests m (subst (λ o. Left s o) (sym w) l)) l
 
 -- ---- the clauses of a predicate
 

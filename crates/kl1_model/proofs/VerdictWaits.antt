@@ -14,84 +14,57 @@ use Rattle.kl1_model.specs.declared.limits.TheConstants.{MOST_OPERATORS}
 use Rattle.kl1_model.specs.Term.{Term, variable, integer, atom, structure, Terms, none, more, terms_of, count_of, substituted, each_substituted, Replacement}
 use Rattle.kl1_model.specs.Meaning.{variables_of, variables_in, highest_in}
 use Rattle.kl1_model.specs.Module.{is_among, has_only}
-use Rattle.kl1_model.specs.Same.{Passive, same, differs, unknown, passive}
-use Rattle.kl1_model.specs.code.Awaited.{awaited, all_awaited}
+use Rattle.kl1_model.specs.Answer.{Answer, yes, no, wait, together, opposite, known}
+use Rattle.kl1_model.specs.Same.{compare, compare_each}
 use Rattle.kl1_model.specs.Arithmetic.{ArithmeticExpression, with_left, with_right, operator_named, scan, scan_operation, evaluated, Scanned}
-use Rattle.kl1_model.specs.Guard.{type_test_named, comparison_named, Test, holds, looks, is_same, is_other, compares, test_of, test_substituted, is_found, compared}
-use Rattle.kl1_model.specs.code.Outcome.{Outcome, agrees, clashes, waits, both, decided, look, same_outcome, other_outcome, alike, compared_numbers, compared_sides, outcome_of, outcome_by, Matched, with_outcome, match_term, match_terms, places_alike, alike_with, each_alike, beside, test_variable, own_variables, own_outcome, test_outcome, tests_outcome, guard_outcome, suspends, verdict_with}
-use Rattle.kl1_model.specs.laws.OutcomeLaws.{NamedSuspendsWaits}
-use Rattle.kl1_model.proofs.SameStays.{unknown_waits}
+use Rattle.kl1_model.specs.Guard.{type_test_named, comparison_named, Test, holds, looks, is_same, is_other, compares, test_of, test_substituted, is_found, compared, look, numbers_answer, sides_answer, test_answer}
+use Rattle.kl1_model.specs.Match.{Match, option_answer, with_answer, match_pattern, match_patterns, two_answer, one_answer, each_answer, beside, test_variable, own_variables, own_answer, one_test_answer, tests_answer, guard_answer}
+use Rattle.kl1_model.specs.code.Verdicts.{suspends, verdict_with}
+use Rattle.kl1_model.specs.laws.VerdictLaws.{NamedSuspendsWaits}
+use Rattle.kl1_model.proofs.Comparisons.{Names, names_both, names_known, compare_names}
 use Rattle.kl1_model.proofs.ScanStays.{computed}
 use Rattle.kl1_model.specs.Found.{Found, found, awaits, wrong}
 
 -- ---- who waits names a variable
 
--- an outcome that waits does so for some variable
-abbrev Names : Outcome → Type 0
-Names agrees = Unit {0}
-Names clashes = Unit {0}
-Names (waits []) = ⊥
-Names (waits (v ∷ vs)) = Unit {0}
-
-names_both : (a b : Outcome) → Names a → Names b → Names (both a b)
-names_both agrees b n k = k
-names_both clashes b n k = tt
-names_both (waits vs) agrees n k = n
-names_both (waits vs) clashes n k = tt
-names_both (waits []) (waits ws) n k = absurd n
-names_both (waits (v ∷ vs)) (waits ws) n k = tt
-
-names_decided : (b : Bool) (m : Matched) → Names m.outcome → Names (if b then m else with_outcome clashes).outcome
+names_decided : (b : Bool) (m : Match) → Names m.answer → Names (if b then m else with_answer no).answer
 names_decided true m n = n
 names_decided false m n = tt
 
-decided_names : (b : Bool) → Names (if b then agrees else clashes)
-decided_names true = tt
-decided_names false = tt
-
 mutual
-  match_names : (p t : Term) → Names (match_term p t).outcome
+  match_names : (p t : Term) → Names (match_pattern p t).answer
   match_names (variable v) t = tt
   match_names (integer i) (variable w) = tt
-  match_names (integer i) (integer j) = decided_names (int_eq i j)
+  match_names (integer i) (integer j) = names_known (int_eq i j)
   match_names (integer i) (atom b) = tt
   match_names (integer i) (structure g us) = tt
   match_names (atom a) (variable w) = tt
   match_names (atom a) (integer j) = tt
-  match_names (atom a) (atom b) = decided_names (bytes_eq a b)
+  match_names (atom a) (atom b) = names_known (bytes_eq a b)
   match_names (atom a) (structure g us) = tt
   match_names (structure f ps) (variable w) = tt
   match_names (structure f ps) (integer j) = tt
   match_names (structure f ps) (atom b) = tt
-  match_names (structure f ps) (structure g ts) = names_decided (bytes_eq f g && count_of ps == count_of ts) (match_terms ps ts) (match_all_names ps ts)
+  match_names (structure f ps) (structure g ts) = names_decided (bytes_eq f g && count_of ps == count_of ts) (match_patterns ps ts) (match_all_names ps ts)
 
-  match_all_names : (ps ts : Terms) → Names (match_terms ps ts).outcome
+  match_all_names : (ps ts : Terms) → Names (match_patterns ps ts).answer
   match_all_names none none = tt
   match_all_names none (more t ts) = tt
   match_all_names (more p ps) none = tt
-  match_all_names (more p ps) (more t ts) = names_both (match_term p t).outcome (match_terms ps ts).outcome (match_names p t) (match_all_names ps ts)
+  match_all_names (more p ps) (more t ts) = names_both (match_pattern p t).answer (match_patterns ps ts).answer (match_names p t) (match_all_names ps ts)
 
-some_waits : (vs : List ℕ) → (vs ≡ [] → ⊥) → Names (waits vs)
-some_waits [] f = absurd (f refl)
-some_waits (v ∷ vs) f = tt
-
-alike_names_by : (t u : Term) (p : Passive) → passive t u ≡ p → Names (same_outcome p (awaited t u))
-alike_names_by t u same e = tt
-alike_names_by t u differs e = tt
-alike_names_by t u unknown e = some_waits (awaited t u) (unknown_waits t u e)
-
-if_names : (c : Bool) (o : Outcome) → Names o → Names (if c then o else agrees)
+if_names : (c : Bool) (o : Answer) → Names o → Names (if c then o else yes)
 if_names true o n = n
 if_names false o n = tt
 
-alike_with_names : (p : Replacement) (qs : List Replacement) → Names (alike_with p qs)
-alike_with_names p [] = tt
-alike_with_names p (q ∷ qs) =
-    names_both (places_alike p q) (alike_with p qs) (if_names (p.number == q.number) (alike p.by q.by) (alike_names_by p.by q.by (passive p.by q.by) refl)) (alike_with_names p qs)
+one_answer_names : (p : Replacement) (qs : List Replacement) → Names (one_answer p qs)
+one_answer_names p [] = tt
+one_answer_names p (q ∷ qs) =
+    names_both (two_answer p q) (one_answer p qs) (if_names (p.number == q.number) (compare p.by q.by) (compare_names p.by q.by)) (one_answer_names p qs)
 
-each_alike_names : (ps : List Replacement) → Names (each_alike ps)
-each_alike_names [] = tt
-each_alike_names (p ∷ ps) = names_both (alike_with p ps) (each_alike ps) (alike_with_names p ps) (each_alike_names ps)
+each_answer_names : (ps : List Replacement) → Names (each_answer ps)
+each_answer_names [] = tt
+each_answer_names (p ∷ ps) = names_both (one_answer p ps) (each_answer ps) (one_answer_names p ps) (each_answer_names ps)
 
 -- ---- terms of the goal's variables alone
 
@@ -106,16 +79,12 @@ abbrev mutual
   EachAbove last none = Unit {0}
   EachAbove last (more t ts) = Above last t × EachAbove last ts
 
-abbrev AllAbove : ℕ → List ℕ → Type 0
-AllAbove last [] = Unit {0}
-AllAbove last (v ∷ vs) = (suc last ≤ v) × AllAbove last vs
-
 -- an outcome that waits does so first for a variable of the goal
-abbrev Own : ℕ → Outcome → Type 0
-Own last agrees = Unit {0}
-Own last clashes = Unit {0}
-Own last (waits []) = ⊥
-Own last (waits (v ∷ vs)) = suc last ≤ v
+abbrev Own : ℕ → Answer → Type 0
+Own last yes = Unit {0}
+Own last no = Unit {0}
+Own last (wait []) = ⊥
+Own last (wait (v ∷ vs)) = suc last ≤ v
 
 mutual
   beside_above : (last : ℕ) (t : Term) → Above last (beside last t)
@@ -128,57 +97,57 @@ mutual
   each_beside_above last none = tt
   each_beside_above last (more t ts) = (beside_above last t, each_beside_above last ts)
 
-above_append : (last : ℕ) (vs ws : List ℕ) → AllAbove last vs → AllAbove last ws → AllAbove last (vs ++ ws)
-above_append last [] ws a b = b
-above_append last (v ∷ vs) ws a b = (a.0, above_append last vs ws a.1 b)
+own_both : (last : ℕ) (a b : Answer) → Own last a → Own last b → Own last (together a b)
+own_both last yes b n k = k
+own_both last no b n k = tt
+own_both last (wait vs) yes n k = n
+own_both last (wait vs) no n k = tt
+own_both last (wait []) (wait ws) n k = absurd n
+own_both last (wait (v ∷ vs)) (wait ws) n k = n
 
-two_above : (last v w : ℕ) (c : Bool) → suc last ≤ v → suc last ≤ w → AllAbove last (if c then [] else v ∷ w ∷ [])
-two_above last v w true a b = tt
-two_above last v w false a b = (a, (b, tt))
+own_opposite : (last : ℕ) (a : Answer) → Own last a → Own last (opposite a)
+own_opposite last yes n = tt
+own_opposite last no n = tt
+own_opposite last (wait []) n = absurd n
+own_opposite last (wait (v ∷ vs)) n = n
 
-mutual
-  awaited_above : (last : ℕ) (t u : Term) → Above last t → Above last u → AllAbove last (awaited t u)
-  awaited_above last (variable v) (variable w) a b = two_above last v w (v == w) a b
-  awaited_above last (variable v) (integer j) a b = (a, tt)
-  awaited_above last (variable v) (atom y) a b = (a, tt)
-  awaited_above last (variable v) (structure g us) a b = (a, tt)
-  awaited_above last (integer i) (variable w) a b = (b, tt)
-  awaited_above last (integer i) (integer j) a b = tt
-  awaited_above last (integer i) (atom y) a b = tt
-  awaited_above last (integer i) (structure g us) a b = tt
-  awaited_above last (atom x) (variable w) a b = (b, tt)
-  awaited_above last (atom x) (integer j) a b = tt
-  awaited_above last (atom x) (atom y) a b = tt
-  awaited_above last (atom x) (structure g us) a b = tt
-  awaited_above last (structure f ts) (variable w) a b = (b, tt)
-  awaited_above last (structure f ts) (integer j) a b = tt
-  awaited_above last (structure f ts) (atom y) a b = tt
-  awaited_above last (structure f ts) (structure g us) a b = all_awaited_above last ts us a b
+own_if : (last : ℕ) (c : Bool) (a : Answer) → Own last a → Own last (if c then a else no)
+own_if last true a n = n
+own_if last false a n = tt
 
-  all_awaited_above : (last : ℕ) (ts us : Terms) → EachAbove last ts → EachAbove last us → AllAbove last (all_awaited ts us)
-  all_awaited_above last none us a b = tt
-  all_awaited_above last (more t ts) none a b = tt
-  all_awaited_above last (more t ts) (more u us) a b = above_append last (awaited t u) (all_awaited ts us) (awaited_above last t u a.0 b.0) (all_awaited_above last ts us a.1 b.1)
-
-first_above : (last : ℕ) (vs : List ℕ) → AllAbove last vs → (vs ≡ [] → ⊥) → Own last (waits vs)
-first_above last [] a f = absurd (f refl)
-first_above last (v ∷ vs) a f = a.0
+own_two : (last v w : ℕ) (c : Bool) → suc last ≤ v → Own last (if c then yes else wait (v ∷ w ∷ []))
+own_two last v w true a = tt
+own_two last v w false a = a
 
 -- ---- tests of such terms
 
-same_own : (last : ℕ) (t u : Term) (p : Passive) → passive t u ≡ p → Above last t → Above last u → Own last (same_outcome p (awaited t u))
-same_own last t u same e a b = tt
-same_own last t u differs e a b = tt
-same_own last t u unknown e a b = first_above last (awaited t u) (awaited_above last t u a b) (unknown_waits t u e)
-
-other_own : (last : ℕ) (t u : Term) (p : Passive) → passive t u ≡ p → Above last t → Above last u → Own last (other_outcome p (awaited t u))
-other_own last t u same e a b = tt
-other_own last t u differs e a b = tt
-other_own last t u unknown e a b = first_above last (awaited t u) (awaited_above last t u a b) (unknown_waits t u e)
-
-decided_own : (last : ℕ) (b : Bool) → Own last (decided b)
+decided_own : (last : ℕ) (b : Bool) → Own last (known b)
 decided_own last true = tt
 decided_own last false = tt
+
+mutual
+  compare_own : (last : ℕ) (t u : Term) → Above last t → Above last u → Own last (compare t u)
+  compare_own last (variable v) (variable w) a b = own_two last v w (v == w) a
+  compare_own last (variable v) (integer j) a b = a
+  compare_own last (variable v) (atom y) a b = a
+  compare_own last (variable v) (structure g us) a b = a
+  compare_own last (integer i) (variable w) a b = b
+  compare_own last (integer i) (integer j) a b = decided_own last (int_eq i j)
+  compare_own last (integer i) (atom y) a b = tt
+  compare_own last (integer i) (structure g us) a b = tt
+  compare_own last (atom x) (variable w) a b = b
+  compare_own last (atom x) (integer j) a b = tt
+  compare_own last (atom x) (atom y) a b = decided_own last (bytes_eq x y)
+  compare_own last (atom x) (structure g us) a b = tt
+  compare_own last (structure f ts) (variable w) a b = b
+  compare_own last (structure f ts) (integer j) a b = tt
+  compare_own last (structure f ts) (atom y) a b = tt
+  compare_own last (structure f ts) (structure g us) a b = own_if last (bytes_eq f g && count_of ts == count_of us) (compare_each ts us) (each_own last ts us a b)
+
+  each_own : (last : ℕ) (ts us : Terms) → EachAbove last ts → EachAbove last us → Own last (compare_each ts us)
+  each_own last none us a b = tt
+  each_own last (more t ts) none a b = tt
+  each_own last (more t ts) (more u us) a b = own_both last (compare t u) (compare_each ts us) (compare_own last t u a.0 b.0) (each_own last ts us a.1 b.1)
 
 look_own : (last : ℕ) (i : TypeTest) (t : Term) → Above last t → Own last (look i t)
 look_own last i (variable v) a = a
@@ -226,14 +195,14 @@ computed_above last (found e) a = tt
 computed_above last (awaits v) a = a
 computed_above last wrong a = tt
 
-numbers_own : (last : ℕ) (c : Comparison) (x y : Number) → Own last (compared_numbers c x y)
+numbers_own : (last : ℕ) (c : Comparison) (x y : Number) → Own last (numbers_answer c x y)
 numbers_own last c (Value i) (Value j) = decided_own last (compared c i j)
 numbers_own last c (Value i) Overflow = tt
 numbers_own last c (Value i) ZeroDivisor = tt
 numbers_own last c Overflow y = tt
 numbers_own last c ZeroDivisor y = tt
 
-sides_own : (last : ℕ) (c : Comparison) (x y : Found Number) → EvaluatedAbove last x → EvaluatedAbove last y → Own last (compared_sides c x y)
+sides_own : (last : ℕ) (c : Comparison) (x y : Found Number) → EvaluatedAbove last x → EvaluatedAbove last y → Own last (sides_answer c x y)
 sides_own last c (awaits v) y a b = a
 sides_own last c wrong y a b = tt
 sides_own last c (found n) (awaits v) a b = b
@@ -247,22 +216,22 @@ TestAbove last (is_same t u) = Above last t × Above last u
 TestAbove last (is_other t u) = Above last t × Above last u
 TestAbove last (compares c t u) = Above last t × Above last u
 
-test_own : (last : ℕ) (test : Test) → TestAbove last test → Own last (outcome_of test)
+test_own : (last : ℕ) (test : Test) → TestAbove last test → Own last (test_answer test)
 test_own last holds a = tt
 test_own last (looks i t) a = look_own last i t a
-test_own last (is_same t u) a = same_own last t u (passive t u) refl a.0 a.1
-test_own last (is_other t u) a = other_own last t u (passive t u) refl a.0 a.1
+test_own last (is_same t u) a = compare_own last t u a.0 a.1
+test_own last (is_other t u) a = own_opposite last (compare t u) (compare_own last t u a.0 a.1)
 test_own last (compares c t u) a =
     sides_own last c (evaluated t) (evaluated u) (computed_above last (scan MOST_OPERATORS t) (scan_above last MOST_OPERATORS t a.0)) (computed_above last (scan MOST_OPERATORS u) (scan_above last MOST_OPERATORS u a.1))
 
 not_below : (last v : ℕ) → suc last ≤ v → nat_le v last ≡ false
 not_below last v h = false_from_ne_true (nat_le v last) (λ e. let less = leb-true v last e in omega (arith, h, less))
 
-own_names : (last : ℕ) (o : Outcome) → Own last o → Names (own_outcome last o)
-own_names last agrees a = tt
-own_names last clashes a = tt
-own_names last (waits []) a = absurd a
-own_names last (waits (v ∷ vs)) a = subst (λ (l : List ℕ). Names (waits l)) (sym (cond-false (nat_le v last) (own_variables last vs) ((v - suc last) ∷ own_variables last vs) (not_below last v a))) tt
+own_names : (last : ℕ) (o : Answer) → Own last o → Names (own_answer last o)
+own_names last yes a = tt
+own_names last no a = tt
+own_names last (wait []) a = absurd a
+own_names last (wait (v ∷ vs)) a = subst (λ (l : List ℕ). Names (wait l)) (sym (cond-false (nat_le v last) (own_variables last vs) ((v - suc last) ∷ own_variables last vs) (not_below last v a))) tt
 
 -- ---- variables that have a place
 
@@ -325,7 +294,7 @@ module _ (last : ℕ) (places : List Replacement) where
       pair_above (bytes_eq f (codes "=")) (bytes_eq f (codes "\\=")) (comparison_named f) a b k.0 k.1.0
   test_above (structure f (more a (more b (more c ts)))) h = tt
 
-  by_own : (x : Option Test) → OptionAbove x → Own last (outcome_by (test_variable last places) x)
+  by_own : (x : Option Test) → OptionAbove x → Own last (option_answer (test_variable last places) x)
   by_own None h = tt
   by_own (Some test) h = test_own last (test_substituted (test_variable last places) test) h
 
@@ -333,22 +302,22 @@ module _ (last : ℕ) (places : List Replacement) where
   each_has vs [] f h = refl
   each_has vs (n ∷ ns) f h = let b = and_parts (is_among n vs) (list_all (λ v. is_among v vs) ns) h in ap (λ x. x && list_all (has places) ns) (f n b.0) ∙ each_has vs ns f b.1
 
-  tests_names : (vs : List ℕ) → ((v : ℕ) → is_among v vs ≡ true → has places v ≡ true) → (ts : List Term) → list_all (has_only vs) ts ≡ true → Names (tests_outcome last places ts)
+  tests_names : (vs : List ℕ) → ((v : ℕ) → is_among v vs ≡ true → has places v ≡ true) → (ts : List Term) → list_all (has_only vs) ts ≡ true → Names (tests_answer last places ts)
   tests_names vs f [] h = tt
   tests_names vs f (t ∷ ts) h =
       let b = and_parts (has_only vs t) (list_all (has_only vs) ts) h in
-      names_both (test_outcome last places t) (tests_outcome last places ts)
-      (own_names last (outcome_by (test_variable last places) (test_of t)) (by_own (test_of t) (test_above t (each_has vs (variables_of t) f b.0))))
+      names_both (one_test_answer last places t) (tests_answer last places ts)
+      (own_names last (option_answer (test_variable last places) (test_of t)) (by_own (test_of t) (test_above t (each_has vs (variables_of t) f b.0))))
       (tests_names vs f ts b.1)
 
 -- ---- a match that agrees has a place for each variable
 
-both_agree : (a b : Outcome) → both a b ≡ agrees → (a ≡ agrees) × (b ≡ agrees)
-both_agree agrees b e = (refl, e)
-both_agree clashes b e = absurd (cc)
-both_agree (waits vs) agrees e = absurd (cc)
-both_agree (waits vs) clashes e = absurd (cc)
-both_agree (waits vs) (waits ws) e = absurd (cc)
+both_agree : (a b : Answer) → together a b ≡ yes → (a ≡ yes) × (b ≡ yes)
+both_agree yes b e = (refl, e)
+both_agree no b e = absurd (cc)
+both_agree (wait vs) yes e = absurd (cc)
+both_agree (wait vs) no e = absurd (cc)
+both_agree (wait vs) (wait ws) e = absurd (cc)
 
 or_false : (x : Bool) → (x || false) ≡ true → x ≡ true
 or_false true h = refl
@@ -357,31 +326,31 @@ or_false false h = h
 has_one : (w v : ℕ) (t : Term) → v == w ≡ true → has (record { number = w; by = t } ∷ []) v ≡ true
 has_one w v t e = or_left (w == v) false (eq-eqb w v (sym (eqb-true v w e)))
 
-has_inside : (c : Bool) (m : Matched) (v : ℕ) → (if c then m else with_outcome clashes).outcome ≡ agrees → (m.outcome ≡ agrees → has m.places v ≡ true) → has (if c then m else with_outcome clashes).places v ≡ true
+has_inside : (c : Bool) (m : Match) (v : ℕ) → (if c then m else with_answer no).answer ≡ yes → (m.answer ≡ yes → has m.places v ≡ true) → has (if c then m else with_answer no).places v ≡ true
 has_inside true m v e f = f e
-has_inside false m v e f = absurd (let k : clashes ≡ agrees = e in cc)
+has_inside false m v e f = absurd (let k : no ≡ yes = e in cc)
 
 has_either : (ps qs : List Replacement) (v : ℕ) (x y : Bool) → (x || y) ≡ true → (x ≡ true → has ps v ≡ true) → (y ≡ true → has qs v ≡ true) → has (ps ++ qs) v ≡ true
 has_either ps qs v true y h f g = list_any-append (λ p. p.number == v) ps qs ∙ or_left (has ps v) (has qs v) (f refl)
 has_either ps qs v false y h f g = list_any-append (λ p. p.number == v) ps qs ∙ or_right (has ps v) (has qs v) (g h)
 
 mutual
-  match_has : (p t : Term) → (match_term p t).outcome ≡ agrees → (v : ℕ) → is_among v (variables_of p) ≡ true → has (match_term p t).places v ≡ true
+  match_has : (p t : Term) → (match_pattern p t).answer ≡ yes → (v : ℕ) → is_among v (variables_of p) ≡ true → has (match_pattern p t).places v ≡ true
   match_has (variable w) t e v h = has_one w v t (or_false (v == w) h)
   match_has (integer i) t e v h = absurd (false≢true h)
   match_has (atom a) t e v h = absurd (false≢true h)
-  match_has (structure f ps) (variable w) e v h = absurd (let k : waits (w ∷ []) ≡ agrees = e in cc)
-  match_has (structure f ps) (integer j) e v h = absurd (let k : clashes ≡ agrees = e in cc)
-  match_has (structure f ps) (atom b) e v h = absurd (let k : clashes ≡ agrees = e in cc)
-  match_has (structure f ps) (structure g ts) e v h = has_inside (bytes_eq f g && count_of ps == count_of ts) (match_terms ps ts) v e (λ k. match_each_has ps ts k v h)
+  match_has (structure f ps) (variable w) e v h = absurd (let k : wait (w ∷ []) ≡ yes = e in cc)
+  match_has (structure f ps) (integer j) e v h = absurd (let k : no ≡ yes = e in cc)
+  match_has (structure f ps) (atom b) e v h = absurd (let k : no ≡ yes = e in cc)
+  match_has (structure f ps) (structure g ts) e v h = has_inside (bytes_eq f g && count_of ps == count_of ts) (match_patterns ps ts) v e (λ k. match_each_has ps ts k v h)
 
-  match_each_has : (ps ts : Terms) → (match_terms ps ts).outcome ≡ agrees → (v : ℕ) → is_among v (variables_in ps) ≡ true → has (match_terms ps ts).places v ≡ true
+  match_each_has : (ps ts : Terms) → (match_patterns ps ts).answer ≡ yes → (v : ℕ) → is_among v (variables_in ps) ≡ true → has (match_patterns ps ts).places v ≡ true
   match_each_has none none e v h = absurd (false≢true h)
   match_each_has none (more t ts) e v h = absurd (false≢true h)
-  match_each_has (more p ps) none e v h = absurd (let k : clashes ≡ agrees = e in cc)
+  match_each_has (more p ps) none e v h = absurd (let k : no ≡ yes = e in cc)
   match_each_has (more p ps) (more t ts) e v h =
-      let b = both_agree (match_term p t).outcome (match_terms ps ts).outcome e in
-      has_either (match_term p t).places (match_terms ps ts).places v (is_among v (variables_of p)) (is_among v (variables_in ps))
+      let b = both_agree (match_pattern p t).answer (match_patterns ps ts).answer e in
+      has_either (match_pattern p t).places (match_patterns ps ts).places v (is_among v (variables_of p)) (is_among v (variables_in ps))
       (sym (list_any-append (λ m. v == m) (variables_of p) (variables_in ps)) ∙ h)
       (match_has p t b.0 v)
       (match_each_has ps ts b.1 v)
@@ -389,41 +358,41 @@ mutual
 -- ---- verdicts
 
 -- an outcome that clashes, or waits for some variable
-abbrev Stuck : Outcome → Type 0
-Stuck agrees = ⊥
-Stuck clashes = Unit {0}
-Stuck (waits []) = ⊥
-Stuck (waits (v ∷ vs)) = Unit {0}
+abbrev Stuck : Answer → Type 0
+Stuck yes = ⊥
+Stuck no = Unit {0}
+Stuck (wait []) = ⊥
+Stuck (wait (v ∷ vs)) = Unit {0}
 
-stuck_both : (a b : Outcome) → Stuck a → Stuck (both a b)
-stuck_both agrees b k = absurd k
-stuck_both clashes b k = tt
-stuck_both (waits []) b k = absurd k
-stuck_both (waits (v ∷ vs)) agrees k = tt
-stuck_both (waits (v ∷ vs)) clashes k = tt
-stuck_both (waits (v ∷ vs)) (waits ws) k = tt
+stuck_both : (a b : Answer) → Stuck a → Stuck (together a b)
+stuck_both yes b k = absurd k
+stuck_both no b k = tt
+stuck_both (wait []) b k = absurd k
+stuck_both (wait (v ∷ vs)) yes k = tt
+stuck_both (wait (v ∷ vs)) no k = tt
+stuck_both (wait (v ∷ vs)) (wait ws) k = tt
 
-stuck_names : (o : Outcome) → Stuck o → Names o
-stuck_names agrees k = tt
-stuck_names clashes k = tt
-stuck_names (waits []) k = k
-stuck_names (waits (v ∷ vs)) k = tt
+stuck_names : (o : Answer) → Stuck o → Names o
+stuck_names yes k = tt
+stuck_names no k = tt
+stuck_names (wait []) k = k
+stuck_names (wait (v ∷ vs)) k = tt
 
-whole_names : (a b g : Outcome) → Names a → Names b → (a ≡ agrees → Names g) → Names (both (both a b) g)
-whole_names agrees b g n k f = names_both b g k (f refl)
-whole_names clashes b g n k f = tt
-whole_names (waits []) b g n k f = absurd n
-whole_names (waits (v ∷ vs)) b g n k f = stuck_names (both (both (waits (v ∷ vs)) b) g) (stuck_both (both (waits (v ∷ vs)) b) g (stuck_both (waits (v ∷ vs)) b tt))
+whole_names : (a b g : Answer) → Names a → Names b → (a ≡ yes → Names g) → Names (together (together a b) g)
+whole_names yes b g n k f = names_both b g k (f refl)
+whole_names no b g n k f = tt
+whole_names (wait []) b g n k f = absurd n
+whole_names (wait (v ∷ vs)) b g n k f = stuck_names (together (together (wait (v ∷ vs)) b) g) (stuck_both (together (wait (v ∷ vs)) b) g (stuck_both (wait (v ∷ vs)) b tt))
 
-no_suspension : (m : Matched) (o : Outcome) → verdict_with m o ≡ suspends [] → Names o → ⊥
-no_suspension m agrees e n = absurd (cc)
-no_suspension m clashes e n = absurd (cc)
-no_suspension m (waits []) e n = n
-no_suspension m (waits (v ∷ vs)) e n = absurd (cc)
+no_suspension : (m : Match) (o : Answer) → verdict_with m o ≡ suspends [] → Names o → ⊥
+no_suspension m yes e n = absurd (cc)
+no_suspension m no e n = absurd (cc)
+no_suspension m (wait []) e n = n
+no_suspension m (wait (v ∷ vs)) e n = absurd (cc)
 
 pub named_suspends_waits : NamedSuspendsWaits
 named_suspends_waits c ts g e =
-    let m = match_terms c.patterns ts in
-    no_suspension m (both (both m.outcome (each_alike m.places)) (guard_outcome m.places c.tests)) e
-    (whole_names m.outcome (each_alike m.places) (guard_outcome m.places c.tests) (match_all_names c.patterns ts) (each_alike_names m.places)
+    let m = match_patterns c.patterns ts in
+    no_suspension m (together (together m.answer (each_answer m.places)) (guard_answer m.places c.tests)) e
+    (whole_names m.answer (each_answer m.places) (guard_answer m.places c.tests) (match_all_names c.patterns ts) (each_answer_names m.places)
     (λ k. tests_names (highest_in (terms_of c.tests)) m.places (variables_in c.patterns) (match_each_has c.patterns ts k) c.tests g))

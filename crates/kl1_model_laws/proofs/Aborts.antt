@@ -4,12 +4,13 @@ use Rattle.std.specs.Prelude.{map, filter, get_or}
 use Rattle.std.specs.List.{AllByRecursion}
 use Rattle.std.proofs.Math.Bool.{or-true}
 use Rattle.std.proofs.lemmas.Bool.{false≢true, eqb-true, ne_eqb, cases_Bool, or_cases}
+use Rattle.kl1_model.specs.declared.rules.Rules.{Rules}
 use Rattle.kl1_model.specs.declared.life.Life.TheVariants.{Aborted}
 use Rattle.kl1_model.specs.Module.{is_among}
 use Rattle.kl1_model.specs.State.{Shoen, State, is_living}
 use Rattle.kl1_model.specs.Tree.{parents_of, path, is_on_path}
 use Rattle.kl1_model.specs.Report.{aborted_report}
-use Rattle.kl1_model.specs.Ending.{has_goal, has_living_child, lives, ends_now, ended_below, abort}
+use Rattle.kl1_model.specs.Ending.{has_goal, has_living_child, lives, ends_now, ended_below, abort, ended_as}
 use Rattle.kl1_model.specs.code.Steps.{aborted_below}
 use Rattle.kl1_model.specs.laws.TreeLaws.{AreNumbered, IsTree}
 use Rattle.kl1_model.proofs.TreeKeeps.{keeps_abort}
@@ -22,11 +23,11 @@ use Rattle.kl1_model_laws.proofs.Endings.{Idle, Stays, not_due, stays_alike, zer
 abbrev aborted_node : (ℕ → Bool) → Node → Node
 aborted_node below m = if is_living m.life && below m.number then record m { life = Aborted } else m
 
-aborted_nodes : (all : List Shoen) (n : ℕ) (hs : List Shoen) → nodes_of (map (aborted_below all n) hs) ≡ map (aborted_node (is_on_path all n)) (nodes_of hs)
-aborted_nodes all n [] = refl
-aborted_nodes all n (h ∷ hs) = ap₂ (λ (m : Node) (ms : List Node). m ∷ ms) (by_test (is_living h.life && is_on_path all n h.number) h) (aborted_nodes all n hs)
+aborted_nodes : (rules : Rules) (all : List Shoen) (n : ℕ) (hs : List Shoen) → nodes_of (map (aborted_below rules all n) hs) ≡ map (aborted_node (is_on_path all n)) (nodes_of hs)
+aborted_nodes rules all n [] = refl
+aborted_nodes rules all n (h ∷ hs) = ap₂ (λ (m : Node) (ms : List Node). m ∷ ms) (by_test (is_living h.life && is_on_path all n h.number) h) (aborted_nodes rules all n hs)
   where
-    by_test : (c : Bool) (h : Shoen) → node_of (if c then record h { life = Aborted } else h) ≡ (if c then record (node_of h) { life = Aborted } else node_of h)
+    by_test : (c : Bool) (h : Shoen) → node_of (if c then ended_as rules Aborted h else h) ≡ (if c then record (node_of h) { life = Aborted } else node_of h)
     by_test true h = refl
     by_test false h = refl
 
@@ -116,7 +117,7 @@ dead_case c l x y e = ap (λ b. (l && not b) && x && y) e ∙ by_life l
 
 lives_after : (n m : ℕ) (s : State) → lives m (ended_below n s) ≡ (lives m s && not (is_on_path s.shoens n m))
 lives_after n m s =
-    lives_by m (ended_below n s) ∙ ap (λ ms. lives_in ms m) (aborted_nodes s.shoens n s.shoens) ∙ killed (is_on_path s.shoens n) m (nodes_of s.shoens)
+    lives_by m (ended_below n s) ∙ ap (λ ms. lives_in ms m) (aborted_nodes s.rules s.shoens n s.shoens) ∙ killed (is_on_path s.shoens n) m (nodes_of s.shoens)
     ∙ ap (λ b. b && not (is_on_path s.shoens n m)) (sym (lives_by m s))
 
 below_stays : (n p : ℕ) (s : State) → IsTree s → is_on_path s.shoens n (suc p) ≡ false → is_on_path s.shoens (suc p) n ≡ false → Stays s (ended_below n s) (suc p)
@@ -124,7 +125,7 @@ below_stays n p s tree not_below off = record {
   lives = λ e. was (lives (suc p) s) (is_on_path s.shoens n (suc p)) (sym (lives_after n (suc p) s) ∙ e);
   goals = λ e. goal_by (suc p) (ended_below n s) ∙ ap (λ ds. has_duty ds (suc p)) (filtered (λ d. not (is_on_path s.shoens n d.shoen)) s.goals)
       ∙ away (is_on_path s.shoens n) (suc p) (duties_of s.goals) not_below ∙ sym (goal_by (suc p) s) ∙ e;
-  children = λ e. child_by (suc p) (ended_below n s) ∙ ap (λ ms. has_child ms (suc p)) (aborted_nodes s.shoens n s.shoens)
+  children = λ e. child_by (suc p) (ended_below n s) ∙ ap (λ ms. has_child ms (suc p)) (aborted_nodes s.rules s.shoens n s.shoens)
       ∙ spared (is_on_path s.shoens n) (suc p) (nodes_of s.shoens) (aside 0 n (suc p) s.shoens s.shoens tree.numbered (λ k is below. aside_at s n p k tree not_below off is below)) ∙ sym (child_by (suc p) s) ∙ e;
 }
   where

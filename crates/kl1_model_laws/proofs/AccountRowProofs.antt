@@ -200,19 +200,19 @@ result_in_the_goal_row : option_map (λ o. print o.goal) (origin_at 1 (after_lin
 unfolding digits tokens_within expression_at parted_by grouped_by mgu_within path_within
 result_in_the_goal_row = refl
 
-expression_that_waits_row : (line_done (after_lines (fresh One (codes "alice")) (codes "start 10 0 10 X := 1 + Y" ∷ [])) (parse (codes "quiet"))).reply ≡ quiet_is true
+expression_that_waits_row : (line_done (after_lines (fresh One (codes "alice")) (codes "start 10 0 10 X := 1 + Y" ∷ [])) (parse One (codes "quiet"))).reply ≡ quiet_is true
 unfolding digits tokens_within expression_at parted_by grouped_by mgu_within path_within
 expression_that_waits_row = refl
 
-expression_by_clause_0_row : (line_done (after_lines (fresh One (codes "alice")) (codes "start 10 0 10 X := 1 + Y" ∷ [])) (parse (codes "reduce 2 0"))).reply ≡ refused step_refused
+expression_by_clause_0_row : (line_done (after_lines (fresh One (codes "alice")) (codes "start 10 0 10 X := 1 + Y" ∷ [])) (parse One (codes "reduce 2 0"))).reply ≡ refused step_refused
 unfolding digits tokens_within expression_at parted_by grouped_by mgu_within path_within
 expression_by_clause_0_row = refl
 
-built_in_goal_by_clause_1_row : (line_done (after_lines (fresh One (codes "alice")) (codes "start 10 0 10 X := 1 + 1" ∷ [])) (parse (codes "reduce 2 1"))).reply ≡ refused step_refused
+built_in_goal_by_clause_1_row : (line_done (after_lines (fresh One (codes "alice")) (codes "start 10 0 10 X := 1 + 1" ∷ [])) (parse One (codes "reduce 2 1"))).reply ≡ refused step_refused
 unfolding digits tokens_within expression_at parted_by grouped_by mgu_within path_within
 built_in_goal_by_clause_1_row = refl
 
-built_in_goal_by_clause_0_row : (line_done (after_lines (fresh One (codes "alice")) (codes "start 10 0 10 X := 1 + 1" ∷ [])) (parse (codes "reduce 2 0"))).reply ≡ reduced
+built_in_goal_by_clause_0_row : (line_done (after_lines (fresh One (codes "alice")) (codes "start 10 0 10 X := 1 + 1" ∷ [])) (parse One (codes "reduce 2 0"))).reply ≡ reduced
 unfolding digits tokens_within expression_at parted_by grouped_by mgu_within path_within
 built_in_goal_by_clause_0_row = refl
 
@@ -232,39 +232,39 @@ one_variable_seven_and_one_row : stream 1 (after_lines (having (lines (codes ":-
 unfolding digits tokens_within expression_at parted_by grouped_by mgu_within path_within
 one_variable_seven_and_one_row = refl
 
-failure_is_open_row : (line_done (after_lines (having (lines (codes ":- module m." ∷ codes "p(f(X),X) :- X > 5 | true." ∷ codes "g :- p(V,1), V = f(W)." ∷ []))) (codes "start 9 0 9 m:g" ∷ codes "run 1" ∷ [])) (parse (codes "reduce 3 0"))).reply ≡ reduced
+failure_is_open_row : (line_done (after_lines (having (lines (codes ":- module m." ∷ codes "p(f(X),X) :- X > 5 | true." ∷ codes "g :- p(V,1), V = f(W)." ∷ []))) (codes "start 9 0 9 m:g" ∷ codes "run 1" ∷ [])) (parse One (codes "reduce 3 0"))).reply ≡ reduced
 unfolding digits tokens_within expression_at parted_by grouped_by mgu_within path_within
 failure_is_open_row = refl
 
-failure_closes_row : (line_done (after_lines (having (lines (codes ":- module m." ∷ codes "p(f(X),X) :- X > 5 | true." ∷ codes "g :- p(V,1), V = f(W)." ∷ []))) (codes "start 9 0 9 m:g" ∷ codes "run 1" ∷ codes "reduce 4 0" ∷ [])) (parse (codes "reduce 3 0"))).reply ≡ refused step_refused
+failure_closes_row : (line_done (after_lines (having (lines (codes ":- module m." ∷ codes "p(f(X),X) :- X > 5 | true." ∷ codes "g :- p(V,1), V = f(W)." ∷ []))) (codes "start 9 0 9 m:g" ∷ codes "run 1" ∷ codes "reduce 4 0" ∷ [])) (parse One (codes "reduce 3 0"))).reply ≡ refused step_refused
 unfolding digits tokens_within expression_at parted_by grouped_by mgu_within path_within
 failure_closes_row = refl
 
-clause_below_opens_by_number_row : (line_done (after_lines (having (lines (codes ":- module m." ∷ codes "p(f(X),X) :- X > 5 | true." ∷ codes "otherwise." ∷ codes "p(X,Y)." ∷ codes "g :- p(V,1), V = f(W)." ∷ []))) (codes "start 9 0 9 m:g" ∷ codes "run 1" ∷ [])) (parse (codes "reduce 3 2"))).reply ≡ reduced
+clause_below_opens_by_number_row : (line_done (after_lines (having (lines (codes ":- module m." ∷ codes "p(f(X),X) :- X > 5 | true." ∷ codes "otherwise." ∷ codes "p(X,Y)." ∷ codes "g :- p(V,1), V = f(W)." ∷ []))) (codes "start 9 0 9 m:g" ∷ codes "run 1" ∷ [])) (parse One (codes "reduce 3 2"))).reply ≡ reduced
 unfolding digits tokens_within expression_at parted_by grouped_by mgu_within path_within
 clause_below_opens_by_number_row = refl
 
-clause_below_closes_by_number_row : (line_done (after_lines (having (lines (codes ":- module m." ∷ codes "p(f(X),X) :- X > 5 | true." ∷ codes "otherwise." ∷ codes "p(X,Y)." ∷ codes "g :- p(V,1), V = f(W)." ∷ []))) (codes "start 9 0 9 m:g" ∷ codes "run 1" ∷ codes "reduce 4 0" ∷ [])) (parse (codes "reduce 3 2"))).reply ≡ refused step_refused
+clause_below_closes_by_number_row : (line_done (after_lines (having (lines (codes ":- module m." ∷ codes "p(f(X),X) :- X > 5 | true." ∷ codes "otherwise." ∷ codes "p(X,Y)." ∷ codes "g :- p(V,1), V = f(W)." ∷ []))) (codes "start 9 0 9 m:g" ∷ codes "run 1" ∷ codes "reduce 4 0" ∷ [])) (parse One (codes "reduce 3 2"))).reply ≡ refused step_refused
 unfolding digits tokens_within expression_at parted_by grouped_by mgu_within path_within
 clause_below_closes_by_number_row = refl
 
-second_section_waits_row : (line_done (after_lines (having (lines (codes ":- module m." ∷ codes "p(a,X)." ∷ codes "otherwise." ∷ codes "p(X,b)." ∷ codes "otherwise." ∷ codes "p(X,Y)." ∷ []))) (codes "start 9 0 9 m:p(c,V)" ∷ [])) (parse (codes "quiet"))).reply ≡ quiet_is true
+second_section_waits_row : (line_done (after_lines (having (lines (codes ":- module m." ∷ codes "p(a,X)." ∷ codes "otherwise." ∷ codes "p(X,b)." ∷ codes "otherwise." ∷ codes "p(X,Y)." ∷ []))) (codes "start 9 0 9 m:p(c,V)" ∷ [])) (parse One (codes "quiet"))).reply ≡ quiet_is true
 unfolding digits tokens_within expression_at parted_by grouped_by mgu_within path_within
 second_section_waits_row = refl
 
-third_section_is_closed_row : (line_done (after_lines (having (lines (codes ":- module m." ∷ codes "p(a,X)." ∷ codes "otherwise." ∷ codes "p(X,b)." ∷ codes "otherwise." ∷ codes "p(X,Y)." ∷ []))) (codes "start 9 0 9 m:p(c,V)" ∷ [])) (parse (codes "reduce 2 3"))).reply ≡ refused step_refused
+third_section_is_closed_row : (line_done (after_lines (having (lines (codes ":- module m." ∷ codes "p(a,X)." ∷ codes "otherwise." ∷ codes "p(X,b)." ∷ codes "otherwise." ∷ codes "p(X,Y)." ∷ []))) (codes "start 9 0 9 m:p(c,V)" ∷ [])) (parse One (codes "reduce 2 3"))).reply ≡ refused step_refused
 unfolding digits tokens_within expression_at parted_by grouped_by mgu_within path_within
 third_section_is_closed_row = refl
 
-third_section_is_open_row : (line_done (after_lines (having (lines (codes ":- module m." ∷ codes "p(a,X)." ∷ codes "otherwise." ∷ codes "p(X,b)." ∷ codes "otherwise." ∷ codes "p(X,Y)." ∷ []))) (codes "start 9 0 9 m:p(c,d)" ∷ [])) (parse (codes "reduce 2 3"))).reply ≡ reduced
+third_section_is_open_row : (line_done (after_lines (having (lines (codes ":- module m." ∷ codes "p(a,X)." ∷ codes "otherwise." ∷ codes "p(X,b)." ∷ codes "otherwise." ∷ codes "p(X,Y)." ∷ []))) (codes "start 9 0 9 m:p(c,d)" ∷ [])) (parse One (codes "reduce 2 3"))).reply ≡ reduced
 unfolding digits tokens_within expression_at parted_by grouped_by mgu_within path_within
 third_section_is_open_row = refl
 
-clause_0_of_a_goal_that_waits_row : (line_done (after_lines (having one_fact) (codes "start 10 0 10 t:q(X,b)" ∷ [])) (parse (codes "reduce 2 0"))).reply ≡ refused step_refused
+clause_0_of_a_goal_that_waits_row : (line_done (after_lines (having one_fact) (codes "start 10 0 10 t:q(X,b)" ∷ [])) (parse One (codes "reduce 2 0"))).reply ≡ refused step_refused
 unfolding digits tokens_within expression_at parted_by grouped_by mgu_within path_within
 clause_0_of_a_goal_that_waits_row = refl
 
-variable_in_its_own_expression_row : (line_done (after_lines (fresh One (codes "alice")) (codes "start 10 0 10 X := X + 1" ∷ [])) (parse (codes "quiet"))).reply ≡ quiet_is true
+variable_in_its_own_expression_row : (line_done (after_lines (fresh One (codes "alice")) (codes "start 10 0 10 X := X + 1" ∷ [])) (parse One (codes "quiet"))).reply ≡ quiet_is true
 unfolding digits tokens_within expression_at parted_by grouped_by mgu_within path_within
 variable_in_its_own_expression_row = refl
 

@@ -5,7 +5,7 @@ use Rattle.std.specs.List.{list_any}
 use Rattle.kl1_model.specs.declared.life.Life.{Life}
 use Rattle.kl1_model.specs.Term.{Term, variable, integer, atom, structure, Replacement}
 use Rattle.kl1_model.specs.Meaning.{nil, cell, highest}
-use Rattle.kl1_model.specs.State.{Task, monitor, reduces, substitutes, Goal, Shoen, State, has_substitutes, shoen_at, replace_in_task, replace_in_goal, replace_in_shoen, replace_in_state, replace_all, change_shoen, is_monitor, is_living, names_of, with_names}
+use Rattle.kl1_model.specs.State.{Task, monitor, reduces, substitutes, Goal, Shoen, State, has_substitutes, shoen_at, replace_in_task, replace_in_goal, replace_in_shoen, replace_in_state, replace_all, change_shoen, is_monitor, is_living, names_of, with_names, has_forgetting}
 use Rattle.kl1_model.specs.Report.{broken_at, has_made_last, report_tail, reported_on, reported_at, report, is_reported, report_each, closed_at, close, exception, exception_with, failure, exhaustion, started_report, exhausted_report, stopped_report, resumed_report}
 use Rattle.kl1_model.specs.Ending.{has_goal, has_living_child, lives, ends_now}
 use Rattle.kl1_model.specs.Nodes.{goal_nodes}
@@ -15,6 +15,7 @@ use Rattle.kl1_model.specs.Sending.{with_control_tail, sent_on}
 use Rattle.kl1_model.specs.declared.message.Message.{Message}
 use Rattle.kl1_model.specs.Reduction.{replaced_by, substituted_by, raised, unified, or_exhaustion}
 use Rattle.kl1_model.specs.code.Steps.{report_of, close_of, stopped_of, resumed_of}
+use Rattle.kl1_model.specs.Telling.{Given}
 use Rattle.kl1_model.specs.Answering.{answered}
 
 -- a shoen's number, its parent's, and its life
@@ -92,7 +93,7 @@ alike_all [] s = alike_same s
 alike_all (r ∷ rs) s = alike_both s (replace_in_state r.number r.by s) (replace_all rs (replace_in_state r.number r.by s)) (alike_replace r.number r.by s) (alike_all rs (replace_in_state r.number r.by s))
 
 alike_broken : (n : ℕ) (s : State) → Alike s (broken_at n s)
-alike_broken n s = alike_change n (λ h. record h { is_broken = true }) s (λ h. refl)
+alike_broken n s = alike_change n (λ h. record h { is_broken = true; tail = if has_forgetting s.rules then nil else h.tail }) s (λ h. refl)
 
 told_alike : (n : ℕ) (m : Term) (o : Option ℕ) (s : State) → Alike s (reported_on n m o s)
 told_alike n m None s = alike_broken n s
@@ -179,9 +180,9 @@ alike_sent n m (integer i) s = alike_same s
 alike_sent n m (atom a) s = alike_same s
 alike_sent n m (structure f ts) s = alike_same s
 
-pub alike_answered : (v : ℕ) (t : Term) (s : State) → Alike s (answered v t s)
-alike_answered v t s =
-    let k = alike_replace v (with_next_variables s.last_variable t) s in record { nodes = k.nodes; duties = k.duties; modules = refl; last = refl; rules = refl; work = refl }
+pub alike_answered : (v : ℕ) (g : Given) (t : Term) (s : State) → Alike s (answered v g t s)
+alike_answered v g t s =
+    let k = alike_replace v g.goal s in record { nodes = k.nodes; duties = k.duties; modules = refl; last = refl; rules = refl; work = refl }
 
 -- ---- a goal in the place of another
 

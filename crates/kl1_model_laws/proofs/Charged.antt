@@ -4,6 +4,7 @@ use Rattle.std.specs.Prelude.{map, length, get_or, count_by, cond, Option, Some,
 use Rattle.std.specs.List.{AllByRecursion}
 use Rattle.std.proofs.lemmas.Bool.{true≢false, eq-eqb, ne_eqb, or_from}
 use Rattle.std.proofs.lemmas.List.Sums.{sum_by-cons, count_by-le-length}
+use Rattle.kl1_model.specs.declared.rules.Rules.{Rules}
 use Rattle.kl1_model.specs.declared.life.Life.TheVariants.{Terminated, Aborted}
 use Rattle.kl1_model.specs.declared.message.Message.{Message}
 use Rattle.kl1_model.specs.declared.message.Message.TheVariants.{Stop, Start, Abort, Allow}
@@ -12,15 +13,18 @@ use Rattle.kl1_model.specs.Meaning.{nil, cell}
 use Rattle.kl1_model.specs.Unify.{mgu}
 use Rattle.kl1_model.specs.Module.{is_among}
 use Rattle.kl1_model.specs.Control.{Control, awaits_message, tells, tells_other, ends, breaks_off}
-use Rattle.kl1_model.specs.State.{Goal, Shoen, State, has_substitutes, shoen_at, replace_in_shoen, replace_in_state, replace_all, change_shoen, without_goal, with_name, is_monitor, is_living}
+use Rattle.kl1_model.specs.State.{Goal, Origin, Shoen, State, has_substitutes, shoen_at, replace_in_shoen, replace_in_state, replace_all, change_shoen, without_goal, with_name, is_monitor, is_living, has_forgetting}
 use Rattle.kl1_model.specs.Tree.{parents_of, path_within, path, is_on_path, charged_of, charge, is_enabled}
 use Rattle.kl1_model.specs.Event.{are_too_many, with_entry, with_reduction}
 use Rattle.kl1_model.specs.Report.{broken_at, has_made_last, report_tail, reported_on, reported_at, report, is_reported, report_each, closed_at, close, exception, exception_with, failure, illegal_input, exhaustion, started_report, exhausted_report, stopped_report, resumed_report, terminated_report, aborted_report}
-use Rattle.kl1_model.specs.Ending.{ended_at, ending_of, without_monitor, terminate, terminate_each, settle, newly_exhausted, after_reduction, ended_below, abort}
+use Rattle.kl1_model.specs.Ending.{ended_at, ending_of, without_monitor, terminate, terminate_each, settle, newly_exhausted, after_reduction, ended_below, abort, ended_as}
 use Rattle.kl1_model.specs.Opening.{with_shoen, open_shoen, with_next_variables, start_goal, has_room_for_child, child_shoen, open_child}
 use Rattle.kl1_model.specs.Reduction.{Move, commits, raises, unifies, names, opens, goes, gives_way, moves, reads, has_room_for, committed, substituted_by, raised, unified, equation, or_exhaustion, moved, obeyed, with_control, grown, heard, acted}
 use Rattle.kl1_model.specs.code.Steps.{report_of, close_of, aborted_below, stopped_of, resumed_of, allowed_more, named_by}
-use Rattle.kl1_model.specs.Answering.{answered}
+use Rattle.kl1_model.specs.Answering.{given, answered}
+use Rattle.kl1_model.specs.Telling.{Given}
+use Rattle.kl1_model.specs.Forgetting.{with_origin, without_reports, empty_place, gone_below, gone}
+use Rattle.kl1_model.proofs.TreeKeeps.{keeps_gone}
 use Rattle.kl1_model.specs.Sending.{with_control_tail, sent_on}
 use Rattle.kl1_model.specs.laws.TreeLaws.{AreNumbered, ParentsAreLower, IsTree}
 use Rattle.kl1_model.proofs.TreeKeeps.{kept_tree}
@@ -64,7 +68,7 @@ cap_all b [] s a = a
 cap_all b (r ∷ rs) s a = cap_all b rs (replace_in_state r.number r.by s) (replaced b r.number r.by s a)
 
 cap_broken : (b : ℕ → ℕ) (n : ℕ) (s : State) → Cap b s → Cap b (broken_at n s)
-cap_broken b n s a = changed b n (λ h. record h { is_broken = true }) s (λ h p. p) a
+cap_broken b n s a = changed b n (λ h. record h { is_broken = true; tail = if has_forgetting s.rules then nil else h.tail }) s (λ h p. p) a
 
 told : (b : ℕ → ℕ) (n : ℕ) (m : Term) (o : Option ℕ) (s : State) → Cap b s → Cap b (reported_on n m o s)
 told b n m None s a = cap_broken b n s a
@@ -101,7 +105,7 @@ cap_closing : (b : ℕ → ℕ) (n : ℕ) (m : Term) (s : State) → Cap b s →
 cap_closing b n m s a = let t = report n m s in cap_close_of b (shoen_at n t.shoens) t (cap_report b n m s a)
 
 cap_terminate : (b : ℕ → ℕ) (n : ℕ) (s : State) → Cap b s → Cap b (terminate n s)
-cap_terminate b n s a = cap_closing b n terminated_report (without_monitor n (ended_at n s)) (changed b n (λ h. record h { life = Terminated }) s (λ h p. p) a)
+cap_terminate b n s a = cap_closing b n terminated_report (without_monitor n (ended_at n s)) (changed b n (ended_as s.rules Terminated) s (λ h p. p) a)
 
 cap_terminations : (b : ℕ → ℕ) (ns : List ℕ) (s : State) → Cap b s → Cap b (terminate_each ns s)
 cap_terminations b [] s a = a
@@ -117,13 +121,13 @@ cap_settle_charged b n s a =
     let told = newly_exhausted s ending ns in
     cap_terminations b ending (report_each told exhausted_report s) (cap_each b told exhausted_report s a)
 
-aborted_if : (c : Bool) (b : ℕ → ℕ) (h : Shoen) → b h.number ≤ h.allowance → b (if c then record h { life = Aborted } else h).number ≤ (if c then record h { life = Aborted } else h).allowance
-aborted_if true b h p = p
-aborted_if false b h p = p
+aborted_if : (c : Bool) (rules : Rules) (b : ℕ → ℕ) (h : Shoen) → b h.number ≤ h.allowance → b (if c then ended_as rules Aborted h else h).number ≤ (if c then ended_as rules Aborted h else h).allowance
+aborted_if true rules b h p = p
+aborted_if false rules b h p = p
 
 cap_abort : (b : ℕ → ℕ) (n : ℕ) (s : State) → Cap b s → Cap b (abort n s)
 cap_abort b n s a = cap_closing b n aborted_report (ended_below n s)
-    (all_map (λ h. b h.number ≤ h.allowance) (λ h. b h.number ≤ h.allowance) (aborted_below s.shoens n) (λ h p. aborted_if (is_living h.life && is_on_path s.shoens n h.number) b h p) s.shoens a)
+    (all_map (λ h. b h.number ≤ h.allowance) (λ h. b h.number ≤ h.allowance) (aborted_below s.rules s.shoens n) (λ h p. aborted_if (is_living h.life && is_on_path s.shoens n h.number) s.rules b h p) s.shoens a)
 
 cap_stopped : (b : ℕ → ℕ) (o : Option Shoen) (n : ℕ) (s : State) → Cap b s → Cap b (stopped_of o n s)
 cap_stopped b None n s a = a
@@ -187,7 +191,7 @@ cap_moved b g t (raises kind) s e a = cap_raised b g kind t s a
 cap_moved b g t (unifies x y) s e a = cap_unified b g t (mgu (equation x y)) s a
 cap_moved b g t (names text x) s e a =
     let u = record s { names = with_name s.names text } in
-    cap_or (not (are_too_many (with_name s.names text))) b g t (named_by g t text x s) s (cap_unified b g t (mgu (equation x (atom text))) u a) a
+    cap_or (not (are_too_many s.rules (with_name s.names text))) b g t (named_by g t text x s) s (cap_unified b g t (mgu (equation x (atom text))) u a) a
 cap_moved b g t (opens o) s e a = cap_or (has_room_for_child s g.shoen) b g t (open_child s g.shoen o) s (cap_open b (child_shoen s g.shoen o) o.goal s e a) a
 cap_moved b g t goes s e a = a
 cap_moved b g t gives_way s e a = a
@@ -322,12 +326,39 @@ sent_within s n m t w =
       capped = all_weaker (λ k. charged_of s k.number ≤ k.allowance) (λ k. charged_of end k.number ≤ k.allowance) (λ k p. let x = charged_alike s end k.number alike in omega (arith, x, p)) end.shoens (cap_sent (charged_of s) n m t s w.capped);
     }
 
-answered_within : (s : State) (v : ℕ) (t : Term) → IsWithin s → IsWithin (with_entry (answered v t s))
-answered_within s v t w =
-    let end = answered v t s in
-    let alike = alike_answered v t s in
+answered_within : (s : State) (v : ℕ) (g : Given) (t : Term) → IsWithin s → IsWithin (with_entry (answered v g t s))
+answered_within s v g t w =
+    let end = answered v g t s in
+    let alike = alike_answered v g t s in
     record {
-      capped = all_weaker (λ k. charged_of s k.number ≤ k.allowance) (λ k. charged_of end k.number ≤ k.allowance) (λ k p. let x = charged_alike s end k.number alike in omega (arith, x, p)) end.shoens (replaced (charged_of s) v (with_next_variables s.last_variable t) s w.capped);
+      capped = all_weaker (λ k. charged_of s k.number ≤ k.allowance) (λ k. charged_of end k.number ≤ k.allowance) (λ k p. let x = charged_alike s end k.number alike in omega (arith, x, p)) end.shoens (replaced (charged_of s) v g.goal s w.capped);
+    }
+
+gone_capped : (b : Bool) (c : ℕ → ℕ) (h : Shoen) → c h.number ≤ h.allowance → c (if b then empty_place h else h).number ≤ (if b then empty_place h else h).allowance
+gone_capped true c h e = e
+gone_capped false c h e = e
+
+gone_all : (all : List Shoen) (n : ℕ) (c : ℕ → ℕ) (hs : List Shoen) → AllByRecursion (λ (k : Shoen). c k.number ≤ k.allowance) hs → AllByRecursion (λ (k : Shoen). c k.number ≤ k.allowance) (map (gone_below all n) hs)
+gone_all all n c [] a = tt
+gone_all all n c (h ∷ hs) a = (gone_capped (not (is_living h.life) && is_on_path all n h.number) c h a.0, gone_all all n c hs a.1)
+
+changed_capped : (b : Bool) (c : ℕ → ℕ) (o : Origin) (h : Shoen) → c h.number ≤ h.allowance → c (if b then with_origin o h else h).number ≤ (if b then with_origin o h else h).allowance
+changed_capped true c o h e = e
+changed_capped false c o h e = e
+
+changed_all : (n : ℕ) (c : ℕ → ℕ) (o : Origin) (hs : List Shoen) → AllByRecursion (λ (k : Shoen). c k.number ≤ k.allowance) hs → AllByRecursion (λ (k : Shoen). c k.number ≤ k.allowance) (map (λ h. if h.number == n then with_origin o h else h) hs)
+changed_all n c o [] a = tt
+changed_all n c o (h ∷ hs) a = (changed_capped (h.number == n) c o h a.0, changed_all n c o hs a.1)
+
+gone_capped_all : (s : State) (n count : ℕ) (o : Origin) → AllByRecursion (λ (k : Shoen). charged_of s k.number ≤ k.allowance) s.shoens → AllByRecursion (λ (k : Shoen). charged_of s k.number ≤ k.allowance) (gone n count o s).shoens
+gone_capped_all s n zero o a = gone_all s.shoens n (charged_of s) s.shoens a
+gone_capped_all s n (suc count) o a = changed_all n (charged_of s) (without_reports (suc count) o) s.shoens a
+
+gone_within : (s : State) (n count : ℕ) (o : Origin) → IsWithin s → IsWithin (with_entry (gone n count o s))
+gone_within s n count o w =
+    let end = gone n count o s in
+    record {
+      capped = all_weaker (λ k. charged_of s k.number ≤ k.allowance) (λ k. charged_of end k.number ≤ k.allowance) (λ k p. let x = charged_kept s end k.number (keeps_gone n count o s) in omega (arith, x, p)) end.shoens (gone_capped_all s n count o w.capped);
     }
 
 keeping : Keeping IsWithin
@@ -339,7 +370,8 @@ keeping = record {
   sends = λ s n m h o tree there is w. sent_within s n m o.control w;
   moving = λ s r n clause g t m tree there task is enabled w. moving_within s r g t m tree (found_within s.last_shoen n s.goals g there tree.owners) (ap is_monitor task) enabled w;
   substituting = λ s r n g t m tree there task is enabled w. moving_within s r g t m tree (found_within s.last_shoen n s.goals g there tree.owners) (ap is_monitor task) enabled w;
-  answers = λ s n number v t h o tree there origin may room is w. answered_within s v t w;
+  answers = λ s n number v t h o tree there origin may room is w. answered_within s v.new (given s (Some v) t) t w;
+  forgets = λ s n count h o tree there origin may w. gone_within s n count o w;
   reading = λ s r n g h c tree there found is w. reading_within s r g c w;
 }
 

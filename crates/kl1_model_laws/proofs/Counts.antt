@@ -1,5 +1,5 @@
 -- Goals of an account have rising numbers, and are few.
-use Rattle.std.proofs.Common.{◌≡◌, ◌≤◌, ◌<◌, ℕ, suc, ◌+◌, ◌==◌, ◌&&◌, not, Bool, true, false, if◌then◌else◌, List, [], ◌∷◌, ◌++◌, length, refl, sym, ap, ◌∙◌, subst, arith}
+use Rattle.std.proofs.Common.{◌≡◌, ◌≤◌, ◌<◌, ℕ, zero, suc, ◌+◌, ◌==◌, ◌&&◌, not, Bool, true, false, if◌then◌else◌, List, [], ◌∷◌, ◌++◌, length, refl, sym, ap, ◌∙◌, subst, arith}
 use Rattle.std.specs.Prelude.{nat_le, nat_lt, map, filter, count_by, cond, Some}
 use Rattle.std.proofs.lemmas.Bool.{and_parts, eqb-true, leb-true, ltb-true}
 use Rattle.std.proofs.lemmas.List.Sums.{sum_by-cons}
@@ -12,14 +12,15 @@ use Rattle.kl1_model.specs.Module.{BodyGoal, goals_of}
 use Rattle.kl1_model.specs.Match.{Candidate}
 use Rattle.kl1_model.specs.Unify.{mgu}
 use Rattle.kl1_model.specs.Instance.{body_variable, body_instance, body_priorities, fresh_variables}
-use Rattle.kl1_model.specs.State.{fresh, limits_of, reduces, Goal, Shoen, State, goal_at, shoen_at, with_name, without_goal, is_monitor}
+use Rattle.kl1_model.specs.State.{fresh, limits_of, reduces, Goal, Origin, Shoen, State, goal_at, shoen_at, with_name, without_goal, is_monitor}
 use Rattle.kl1_model.specs.Tree.{charge, goals_alive}
-use Rattle.kl1_model.specs.Event.{Event, are_too_many, with_reduction}
+use Rattle.kl1_model.specs.Event.{Event, are_too_many, with_entry, with_reduction}
 use Rattle.kl1_model.specs.Opening.{with_shoen, with_next_variables, start_goal, has_room_to_start, has_room_for_child, child_shoen, open_child}
 use Rattle.kl1_model.specs.Step.{step}
 use Rattle.kl1_model.specs.code.Steps.{opening_goals, priority_of, named_by}
 use Rattle.kl1_model.specs.Reduction.{Move, commits, raises, unifies, names, opens, goes, gives_way, moves, goals_from, has_room_for, committed, replaced_by, equation, moved, heard, acted}
-use Rattle.kl1_model.specs.Answering.{answered}
+use Rattle.kl1_model.specs.Answering.{given, answered}
+use Rattle.kl1_model.specs.Forgetting.{gone}
 use Rattle.kl1_model.specs.Sending.{sent_on}
 use Rattle.kl1_model_server.proofs.Replays.{rules_stay}
 use Rattle.kl1_model_laws.specs.Reached.{after, reached}
@@ -203,7 +204,7 @@ moved_counted g t (raises kind) s e a = by_raised (Of AreCounted) g kind t s (la
 moved_counted g t (unifies x y) s e a = by_unified (Of AreCounted) g t (mgu (equation x y)) s (lasts_counted g s e a)
 moved_counted g t (names text x) s e a =
     let u = record s { names = with_name s.names text } in
-    by_limit (Of AreCounted) (not (are_too_many (with_name s.names text))) g t (named_by g t text x s) s
+    by_limit (Of AreCounted) (not (are_too_many s.rules (with_name s.names text))) g t (named_by g t text x s) s
     (λ _. by_unified (Of AreCounted) g t (mgu (equation x (atom text))) u (lasts_counted g u e a)) (lasts_counted g s e a)
 moved_counted g t (opens o) s e a =
     let h = child_shoen s g.shoen o in
@@ -236,6 +237,10 @@ start_counted s allowance low high t room a =
 pub fresh_counted : (most : ℕ) → AreCounted most [] 0
 fresh_counted most = record { few = omega arith; rising = omega arith }
 
+pub gone_counted : (s : State) (n count : ℕ) (o : Origin) → Of AreCounted s → Of AreCounted (with_entry (gone n count o s))
+gone_counted s n zero o a = a
+gone_counted s n (suc count) o a = a
+
 keeping : Keeping (Of AreCounted)
 keeping = record {
   fresh = λ rules name names sessions. fresh_counted (limits_of rules).goals;
@@ -245,7 +250,8 @@ keeping = record {
   sends = λ s n m h o tree there is a. of_alike AreCounted s (sent_on n m o.control s) (alike_sent n m o.control s) a;
   moving = λ s r n clause g t m tree there task is enabled a. acted_counted g t m (with_reduction r s) (found_goal n s.goals g there) (ap is_monitor task) a;
   substituting = λ s r n g t m tree there task is enabled a. acted_counted g t m (with_reduction r s) (found_goal n s.goals g there) (ap is_monitor task) a;
-  answers = λ s n number v t h o tree there origin may room is a. of_alike AreCounted s (answered v t s) (alike_answered v t s) a;
+  answers = λ s n number v t h o tree there origin may room is a. of_alike AreCounted s (answered v.new (given s (Some v) t) t s) (alike_answered v.new (given s (Some v) t) t s) a;
+  forgets = λ s n count h o tree there origin may a. gone_counted s n count o a;
   reading = λ s r n g h c tree there found is a. of_settle AreCounted counted_fewer g.shoen (heard g.shoen c (with_reduction r s)) (of_heard AreCounted counted_fewer g.shoen c (with_reduction r s) a);
 }
 

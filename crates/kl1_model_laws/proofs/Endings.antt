@@ -4,12 +4,13 @@ use Rattle.std.specs.Prelude.{map, filter, get_or}
 use Rattle.std.specs.List.{AllByRecursion}
 use Rattle.std.proofs.Math.Bool.{or-true}
 use Rattle.std.proofs.lemmas.Bool.{false≢true, and_parts, not-true, eqb-true, eq-eqb, ne_eqb, cases_eq, or_cases}
+use Rattle.kl1_model.specs.declared.rules.Rules.{Rules}
 use Rattle.kl1_model.specs.declared.life.Life.TheVariants.{Terminated}
 use Rattle.kl1_model.specs.Module.{is_among}
 use Rattle.kl1_model.specs.State.{Goal, Shoen, State, is_monitor, is_living}
 use Rattle.kl1_model.specs.Tree.{parents_of, path_within, path, is_on_path}
 use Rattle.kl1_model.specs.Report.{report_each, exhausted_report, terminated_report}
-use Rattle.kl1_model.specs.Ending.{has_goal, has_living_child, lives, ends_now, ended_at, ending_of, without_monitor, terminate, terminate_each, settle, newly_exhausted, after_reduction}
+use Rattle.kl1_model.specs.Ending.{has_goal, has_living_child, lives, ends_now, ended_at, ending_of, without_monitor, terminate, terminate_each, settle, newly_exhausted, after_reduction, ended_as}
 use Rattle.kl1_model.specs.laws.TreeLaws.{AreNumbered, ParentsAreLower, IsTree}
 use Rattle.kl1_model.proofs.TreeKeeps.{keeps_ended}
 use Rattle.kl1_model_laws.specs.EndingLaws.{AreDue, EndingAreDue, DueTerminate, DueTerminateAlone, NoneIsLeftDue, NoneIsLeftDueAlone}
@@ -21,11 +22,11 @@ use Rattle.kl1_model_laws.proofs.Alike.{Node, node_of, nodes_of, duties_of, Alik
 abbrev pub ended_node : ℕ → Node → Node
 ended_node n m = if m.number == n then record m { life = Terminated } else m
 
-ended_nodes : (n : ℕ) (hs : List Shoen) → nodes_of (map (λ (h : Shoen). if h.number == n then record h { life = Terminated } else h) hs) ≡ map (ended_node n) (nodes_of hs)
-ended_nodes n [] = refl
-ended_nodes n (h ∷ hs) = ap₂ (λ (m : Node) (ms : List Node). m ∷ ms) (by_number (h.number == n) h) (ended_nodes n hs)
+ended_nodes : (rules : Rules) (n : ℕ) (hs : List Shoen) → nodes_of (map (λ (h : Shoen). if h.number == n then ended_as rules Terminated h else h) hs) ≡ map (ended_node n) (nodes_of hs)
+ended_nodes rules n [] = refl
+ended_nodes rules n (h ∷ hs) = ap₂ (λ (m : Node) (ms : List Node). m ∷ ms) (by_number (h.number == n) h) (ended_nodes rules n hs)
   where
-    by_number : (c : Bool) (h : Shoen) → node_of (if c then record h { life = Terminated } else h) ≡ (if c then record (node_of h) { life = Terminated } else node_of h)
+    by_number : (c : Bool) (h : Shoen) → node_of (if c then ended_as rules Terminated h else h) ≡ (if c then record (node_of h) { life = Terminated } else node_of h)
     by_number true h = refl
     by_number false h = refl
 
@@ -113,19 +114,19 @@ stays_alike s t k m = record {
 }
 
 pub dead_at : (n : ℕ) (s : State) → lives n (ended_at n s) ≡ false
-dead_at n s = lives_by n (ended_at n s) ∙ ap (λ ms. lives_in ms n) (ended_nodes n s.shoens) ∙ dead n (nodes_of s.shoens)
+dead_at n s = lives_by n (ended_at n s) ∙ ap (λ ms. lives_in ms n) (ended_nodes s.rules n s.shoens) ∙ dead n (nodes_of s.shoens)
 
 lived_at : (n m : ℕ) (s : State) → lives m (ended_at n s) ≡ true → lives m s ≡ true
-lived_at n m s e = lives_by m s ∙ lived n m (nodes_of s.shoens) (sym (ap (λ ms. lives_in ms m) (ended_nodes n s.shoens)) ∙ sym (lives_by m (ended_at n s)) ∙ e)
+lived_at n m s e = lives_by m s ∙ lived n m (nodes_of s.shoens) (sym (ap (λ ms. lives_in ms m) (ended_nodes s.rules n s.shoens)) ∙ sym (lives_by m (ended_at n s)) ∙ e)
 
 was_child_at : (n m : ℕ) (s : State) → has_living_child m (ended_at n s) ≡ true → has_living_child m s ≡ true
-was_child_at n m s e = child_by m s ∙ was_child n m (nodes_of s.shoens) (sym (ap (λ ms. has_child ms m) (ended_nodes n s.shoens)) ∙ sym (child_by m (ended_at n s)) ∙ e)
+was_child_at n m s e = child_by m s ∙ was_child n m (nodes_of s.shoens) (sym (ap (λ ms. has_child ms m) (ended_nodes s.rules n s.shoens)) ∙ sym (child_by m (ended_at n s)) ∙ e)
 
 stays_at : (n m : ℕ) (s : State) → NoChild n m (nodes_of s.shoens) → Stays s (ended_at n s) m
 stays_at n m s none = record {
   lives = lived_at n m s;
   goals = λ e. e;
-  children = λ e. child_by m (ended_at n s) ∙ ap (λ ms. has_child ms m) (ended_nodes n s.shoens) ∙ child_stays n m (nodes_of s.shoens) none ∙ sym (child_by m s) ∙ e;
+  children = λ e. child_by m (ended_at n s) ∙ ap (λ ms. has_child ms m) (ended_nodes s.rules n s.shoens) ∙ child_stays n m (nodes_of s.shoens) none ∙ sym (child_by m s) ∙ e;
 }
 
 -- no shoen is due
@@ -168,7 +169,7 @@ follows_end : (n : ℕ) (s t : State) → Follows s t → Follows (ended_at n s)
 follows_end n s t k =
     let u = without_monitor n (ended_at n t) in
     let a = alike_closing n terminated_report u in record {
-      nodes = a.nodes ∙ ended_nodes n t.shoens ∙ ap (map (ended_node n)) k.nodes ∙ sym (ended_nodes n s.shoens);
+      nodes = a.nodes ∙ ended_nodes t.rules n t.shoens ∙ ap (map (ended_node n)) k.nodes ∙ sym (ended_nodes s.rules n s.shoens);
       goals = λ m. (follows_alike u (terminate n t) a).goals m ∙ goal_aside n m (ended_at n t) ∙ k.goals m;
     }
 

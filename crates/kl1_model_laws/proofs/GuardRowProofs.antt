@@ -7,12 +7,13 @@ use Rattle.kl1_model.specs.Term.{integer, atom, variable}
 use Rattle.kl1_model.specs.Meaning.{pair}
 use Rattle.kl1_model.specs.Arithmetic.{operated, evaluated}
 use Rattle.kl1_model.specs.Module.{bad, read_module}
-use Rattle.kl1_model.specs.code.Outcome.{agrees, clashes, waits, comparison, accepts, rejects, suspends}
+use Rattle.kl1_model.specs.Match.{yes, no, wait}
+use Rattle.kl1_model.specs.code.Verdicts.{accepts, rejects, suspends}
 use Rattle.kl1_model.specs.Print.{print}
 use Rattle.std.specs.Fmt.{digits}
 use Rattle.kl1_model.specs.Token.{tokens_within}
 use Rattle.kl1_model.specs.reader.Reader.{expression_at, parted_by, grouped_by}
-use Rattle.kl1_model_laws.specs.GuardRows.{lines, term_in, outcome_in, ones_to_the_left, ones_to_the_right, ones_behind, is_read, sections_in, verdict_in, GuardRowsHold}
+use Rattle.kl1_model_laws.specs.GuardRows.{lines, term_in, answer_in, comparison, ones_to_the_left, ones_to_the_right, ones_behind, is_read, sections_in, verdict_in, GuardRowsHold}
 use Rattle.kl1_model.specs.Found.{found, awaits, wrong}
 
 sum_at_the_end_row : operated Plus (pos 9223372036854775807) (pos 0) ≡ Value (pos 9223372036854775807)
@@ -167,175 +168,175 @@ expression_of_65_to_the_right_row : evaluated (ones_to_the_right 65) ≡ wrong
 unfolding digits tokens_within expression_at parted_by grouped_by
 expression_of_65_to_the_right_row = refl
 
-each_side_has_64_operators_row : comparison SameNumber (ones_to_the_left 64) (ones_to_the_right 64) ≡ agrees
+each_side_has_64_operators_row : comparison SameNumber (ones_to_the_left 64) (ones_to_the_right 64) ≡ yes
 unfolding digits tokens_within expression_at parted_by grouped_by
 each_side_has_64_operators_row = refl
 
-true_holds_row : outcome_in (codes "true") ≡ agrees
+true_holds_row : answer_in (codes "true") ≡ yes
 unfolding digits tokens_within expression_at parted_by grouped_by
 true_holds_row = refl
 
-wait_agrees_row : outcome_in (codes "wait(a)") ≡ agrees
+wait_agrees_row : answer_in (codes "wait(a)") ≡ yes
 unfolding digits tokens_within expression_at parted_by grouped_by
 wait_agrees_row = refl
 
-wait_waits_row : outcome_in (codes "wait(X)") ≡ waits (1 ∷ [])
+wait_waits_row : answer_in (codes "wait(X)") ≡ wait (1 ∷ [])
 unfolding digits tokens_within expression_at parted_by grouped_by
 wait_waits_row = refl
 
-integer_agrees_row : outcome_in (codes "integer(3)") ≡ agrees
+integer_agrees_row : answer_in (codes "integer(3)") ≡ yes
 unfolding digits tokens_within expression_at parted_by grouped_by
 integer_agrees_row = refl
 
-integer_clashes_row : outcome_in (codes "integer(a)") ≡ clashes
+integer_clashes_row : answer_in (codes "integer(a)") ≡ no
 unfolding digits tokens_within expression_at parted_by grouped_by
 integer_clashes_row = refl
 
-integer_waits_row : outcome_in (codes "integer(X)") ≡ waits (1 ∷ [])
+integer_waits_row : answer_in (codes "integer(X)") ≡ wait (1 ∷ [])
 unfolding digits tokens_within expression_at parted_by grouped_by
 integer_waits_row = refl
 
-atom_agrees_row : outcome_in (codes "atom([])") ≡ agrees
+atom_agrees_row : answer_in (codes "atom([])") ≡ yes
 unfolding digits tokens_within expression_at parted_by grouped_by
 atom_agrees_row = refl
 
-atom_clashes_row : outcome_in (codes "atom(f(X))") ≡ clashes
+atom_clashes_row : answer_in (codes "atom(f(X))") ≡ no
 unfolding digits tokens_within expression_at parted_by grouped_by
 atom_clashes_row = refl
 
-atom_waits_row : outcome_in (codes "atom(X)") ≡ waits (1 ∷ [])
+atom_waits_row : answer_in (codes "atom(X)") ≡ wait (1 ∷ [])
 unfolding digits tokens_within expression_at parted_by grouped_by
 atom_waits_row = refl
 
-list_agrees_row : outcome_in (codes "list([X])") ≡ agrees
+list_agrees_row : answer_in (codes "list([X])") ≡ yes
 unfolding digits tokens_within expression_at parted_by grouped_by
 list_agrees_row = refl
 
-list_clashes_row : outcome_in (codes "list([])") ≡ clashes
+list_clashes_row : answer_in (codes "list([])") ≡ no
 unfolding digits tokens_within expression_at parted_by grouped_by
 list_clashes_row = refl
 
-list_waits_row : outcome_in (codes "list(X)") ≡ waits (1 ∷ [])
+list_waits_row : answer_in (codes "list(X)") ≡ wait (1 ∷ [])
 unfolding digits tokens_within expression_at parted_by grouped_by
 list_waits_row = refl
 
-same_agrees_row : outcome_in (codes "f(X,a) = f(X,a)") ≡ agrees
+same_agrees_row : answer_in (codes "f(X,a) = f(X,a)") ≡ yes
 unfolding digits tokens_within expression_at parted_by grouped_by
 same_agrees_row = refl
 
-same_clashes_row : outcome_in (codes "f(X,a) = f(Y,b)") ≡ clashes
+same_clashes_row : answer_in (codes "f(X,a) = f(Y,b)") ≡ no
 unfolding digits tokens_within expression_at parted_by grouped_by
 same_clashes_row = refl
 
-same_waits_row : outcome_in (codes "f(X,Z,g(Y)) = f(1,Z,g(W))") ≡ waits (1 ∷ 3 ∷ 4 ∷ [])
+same_waits_row : answer_in (codes "f(X,Z,g(Y)) = f(1,Z,g(W))") ≡ wait (1 ∷ 3 ∷ 4 ∷ [])
 unfolding digits tokens_within expression_at parted_by grouped_by
 same_waits_row = refl
 
-other_agrees_row : outcome_in (codes "f(X,a) \\= f(Y,b)") ≡ agrees
+other_agrees_row : answer_in (codes "f(X,a) \\= f(Y,b)") ≡ yes
 unfolding digits tokens_within expression_at parted_by grouped_by
 other_agrees_row = refl
 
-other_clashes_row : outcome_in (codes "X \\= X") ≡ clashes
+other_clashes_row : answer_in (codes "X \\= X") ≡ no
 unfolding digits tokens_within expression_at parted_by grouped_by
 other_clashes_row = refl
 
-other_waits_row : outcome_in (codes "X \\= a") ≡ waits (1 ∷ [])
+other_waits_row : answer_in (codes "X \\= a") ≡ wait (1 ∷ [])
 unfolding digits tokens_within expression_at parted_by grouped_by
 other_waits_row = refl
 
-less_agrees_row : outcome_in (codes "1 < 2") ≡ agrees
+less_agrees_row : answer_in (codes "1 < 2") ≡ yes
 unfolding digits tokens_within expression_at parted_by grouped_by
 less_agrees_row = refl
 
-less_clashes_row : outcome_in (codes "2 < 2") ≡ clashes
+less_clashes_row : answer_in (codes "2 < 2") ≡ no
 unfolding digits tokens_within expression_at parted_by grouped_by
 less_clashes_row = refl
 
-less_waits_row : outcome_in (codes "X < 1") ≡ waits (1 ∷ [])
+less_waits_row : answer_in (codes "X < 1") ≡ wait (1 ∷ [])
 unfolding digits tokens_within expression_at parted_by grouped_by
 less_waits_row = refl
 
-greater_agrees_row : outcome_in (codes "2 > 1") ≡ agrees
+greater_agrees_row : answer_in (codes "2 > 1") ≡ yes
 unfolding digits tokens_within expression_at parted_by grouped_by
 greater_agrees_row = refl
 
-greater_clashes_row : outcome_in (codes "2 > 2") ≡ clashes
+greater_clashes_row : answer_in (codes "2 > 2") ≡ no
 unfolding digits tokens_within expression_at parted_by grouped_by
 greater_clashes_row = refl
 
-greater_waits_row : outcome_in (codes "X > 1") ≡ waits (1 ∷ [])
+greater_waits_row : answer_in (codes "X > 1") ≡ wait (1 ∷ [])
 unfolding digits tokens_within expression_at parted_by grouped_by
 greater_waits_row = refl
 
-at_most_agrees_row : outcome_in (codes "2 =< 2") ≡ agrees
+at_most_agrees_row : answer_in (codes "2 =< 2") ≡ yes
 unfolding digits tokens_within expression_at parted_by grouped_by
 at_most_agrees_row = refl
 
-at_most_clashes_row : outcome_in (codes "3 =< 2") ≡ clashes
+at_most_clashes_row : answer_in (codes "3 =< 2") ≡ no
 unfolding digits tokens_within expression_at parted_by grouped_by
 at_most_clashes_row = refl
 
-at_most_waits_row : outcome_in (codes "X =< 1") ≡ waits (1 ∷ [])
+at_most_waits_row : answer_in (codes "X =< 1") ≡ wait (1 ∷ [])
 unfolding digits tokens_within expression_at parted_by grouped_by
 at_most_waits_row = refl
 
-at_least_agrees_row : outcome_in (codes "2 >= 2") ≡ agrees
+at_least_agrees_row : answer_in (codes "2 >= 2") ≡ yes
 unfolding digits tokens_within expression_at parted_by grouped_by
 at_least_agrees_row = refl
 
-at_least_clashes_row : outcome_in (codes "1 >= 2") ≡ clashes
+at_least_clashes_row : answer_in (codes "1 >= 2") ≡ no
 unfolding digits tokens_within expression_at parted_by grouped_by
 at_least_clashes_row = refl
 
-at_least_waits_row : outcome_in (codes "X >= 1") ≡ waits (1 ∷ [])
+at_least_waits_row : answer_in (codes "X >= 1") ≡ wait (1 ∷ [])
 unfolding digits tokens_within expression_at parted_by grouped_by
 at_least_waits_row = refl
 
-same_number_agrees_row : outcome_in (codes "2 =:= 1 + 1") ≡ agrees
+same_number_agrees_row : answer_in (codes "2 =:= 1 + 1") ≡ yes
 unfolding digits tokens_within expression_at parted_by grouped_by
 same_number_agrees_row = refl
 
-same_number_clashes_row : outcome_in (codes "2 =:= 3") ≡ clashes
+same_number_clashes_row : answer_in (codes "2 =:= 3") ≡ no
 unfolding digits tokens_within expression_at parted_by grouped_by
 same_number_clashes_row = refl
 
-same_number_waits_row : outcome_in (codes "X =:= 1") ≡ waits (1 ∷ [])
+same_number_waits_row : answer_in (codes "X =:= 1") ≡ wait (1 ∷ [])
 unfolding digits tokens_within expression_at parted_by grouped_by
 same_number_waits_row = refl
 
-other_number_agrees_row : outcome_in (codes "2 =\\= 3") ≡ agrees
+other_number_agrees_row : answer_in (codes "2 =\\= 3") ≡ yes
 unfolding digits tokens_within expression_at parted_by grouped_by
 other_number_agrees_row = refl
 
-other_number_clashes_row : outcome_in (codes "2 =\\= 1 + 1") ≡ clashes
+other_number_clashes_row : answer_in (codes "2 =\\= 1 + 1") ≡ no
 unfolding digits tokens_within expression_at parted_by grouped_by
 other_number_clashes_row = refl
 
-other_number_waits_row : outcome_in (codes "X =\\= 1") ≡ waits (1 ∷ [])
+other_number_waits_row : answer_in (codes "X =\\= 1") ≡ wait (1 ∷ [])
 unfolding digits tokens_within expression_at parted_by grouped_by
 other_number_waits_row = refl
 
-left_side_first_row : outcome_in (codes "a < X") ≡ clashes
+left_side_first_row : answer_in (codes "a < X") ≡ no
 unfolding digits tokens_within expression_at parted_by grouped_by
 left_side_first_row = refl
 
-left_side_waits_row : outcome_in (codes "X < a") ≡ waits (1 ∷ [])
+left_side_waits_row : answer_in (codes "X < a") ≡ wait (1 ∷ [])
 unfolding digits tokens_within expression_at parted_by grouped_by
 left_side_waits_row = refl
 
-right_side_clashes_row : outcome_in (codes "1 < a") ≡ clashes
+right_side_clashes_row : answer_in (codes "1 < a") ≡ no
 unfolding digits tokens_within expression_at parted_by grouped_by
 right_side_clashes_row = refl
 
-right_side_waits_row : outcome_in (codes "1 < X") ≡ waits (1 ∷ [])
+right_side_waits_row : answer_in (codes "1 < X") ≡ wait (1 ∷ [])
 unfolding digits tokens_within expression_at parted_by grouped_by
 right_side_waits_row = refl
 
-fault_of_computing_row : outcome_in (codes "1 / 0 =\\= 1") ≡ clashes
+fault_of_computing_row : answer_in (codes "1 / 0 =\\= 1") ≡ no
 unfolding digits tokens_within expression_at parted_by grouped_by
 fault_of_computing_row = refl
 
-scan_before_fault_row : outcome_in (codes "1 / 0 < X") ≡ waits (1 ∷ [])
+scan_before_fault_row : answer_in (codes "1 / 0 < X") ≡ wait (1 ∷ [])
 unfolding digits tokens_within expression_at parted_by grouped_by
 scan_before_fault_row = refl
 
@@ -551,11 +552,11 @@ unbound_before_65_operators_row : evaluated (pair (codes "+") (variable 1) (ones
 unfolding digits tokens_within expression_at parted_by grouped_by
 unbound_before_65_operators_row = refl
 
-one_variable_is_the_same_row : outcome_in (codes "X = X") ≡ agrees
+one_variable_is_the_same_row : answer_in (codes "X = X") ≡ yes
 unfolding digits tokens_within expression_at parted_by grouped_by
 one_variable_is_the_same_row = refl
 
-relation_as_an_operand_clashes_row : outcome_in (codes "(a = b) = c") ≡ clashes
+relation_as_an_operand_clashes_row : answer_in (codes "(a = b) = c") ≡ no
 unfolding digits tokens_within expression_at parted_by grouped_by
 relation_as_an_operand_clashes_row = refl
 

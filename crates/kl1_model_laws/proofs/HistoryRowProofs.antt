@@ -139,59 +139,59 @@ modules_reset_row : (step (after_reset (with_modules 32 (fresh Three (codes "ali
 unfolding digits tokens_within expression_at parted_by grouped_by mgu_within path_within
 modules_reset_row = refl
 
-load_line_row : entry_in (codes "load 3a0a7e") ≡ Some (loads (58 ∷ 10 ∷ 126 ∷ []))
+load_line_row : entry_in One (codes "load 3a0a7e") ≡ Some (loads (58 ∷ 10 ∷ 126 ∷ []))
 unfolding digits tokens_within expression_at parted_by grouped_by mgu_within path_within
 load_line_row = refl
 
-load_line_of_other_letters_row : entry_in (codes "load g0") ≡ None
+load_line_of_other_letters_row : entry_in One (codes "load g0") ≡ None
 unfolding digits tokens_within expression_at parted_by grouped_by mgu_within path_within
 load_line_of_other_letters_row = refl
 
-load_line_of_capitals_row : entry_in (codes "load 3A") ≡ None
+load_line_of_capitals_row : entry_in One (codes "load 3A") ≡ None
 unfolding digits tokens_within expression_at parted_by grouped_by mgu_within path_within
 load_line_of_capitals_row = refl
 
-load_line_of_three_digits_row : entry_in (codes "load 3a0") ≡ None
+load_line_of_three_digits_row : entry_in One (codes "load 3a0") ≡ None
 unfolding digits tokens_within expression_at parted_by grouped_by mgu_within path_within
 load_line_of_three_digits_row = refl
 
-start_line_row : entry_in (codes "start 7 0 4095 '='(_1,1)") ≡ Some (starts 7 0 4095 (equals (variable 1) (integer (pos 1))))
+start_line_row : entry_in One (codes "start 7 0 4095 '='(_1,1)") ≡ Some (starts 7 0 4095 (equals (variable 1) (integer (pos 1))))
 unfolding digits tokens_within expression_at parted_by grouped_by mgu_within path_within
 start_line_row = refl
 
-start_line_in_another_spelling_row : entry_in (codes "start 7 0 4095 X = 1") ≡ None
+start_line_in_another_spelling_row : entry_in One (codes "start 7 0 4095 X = 1") ≡ None
 unfolding digits tokens_within expression_at parted_by grouped_by mgu_within path_within
 start_line_in_another_spelling_row = refl
 
-allow_line_row : entry_in (codes "allow 3 9223372036854775807") ≡ Some (sends 3 (Allow 9223372036854775807))
+allow_line_row : entry_in One (codes "allow 3 9223372036854775807") ≡ Some (sends 3 (Allow 9223372036854775807))
 unfolding digits tokens_within expression_at parted_by grouped_by mgu_within path_within
 allow_line_row = refl
 
-allow_line_of_64_bits_row : entry_in (codes "allow 3 9223372036854775808") ≡ None
+allow_line_of_64_bits_row : entry_in One (codes "allow 3 9223372036854775808") ≡ None
 unfolding digits tokens_within expression_at parted_by grouped_by mgu_within path_within
 allow_line_of_64_bits_row = refl
 
-reduce_line_row : entry_in (codes "reduce 2 0") ≡ Some (steps 2 0)
+reduce_line_row : entry_in One (codes "reduce 2 0") ≡ Some (steps 2 0)
 unfolding digits tokens_within expression_at parted_by grouped_by mgu_within path_within
 reduce_line_row = refl
 
-reduce_line_with_a_zero_row : entry_in (codes "reduce 2 00") ≡ None
+reduce_line_with_a_zero_row : entry_in One (codes "reduce 2 00") ≡ None
 unfolding digits tokens_within expression_at parted_by grouped_by mgu_within path_within
 reduce_line_with_a_zero_row = refl
 
-reduce_line_with_two_blanks_row : entry_in (codes "reduce 2  0") ≡ None
+reduce_line_with_two_blanks_row : entry_in One (codes "reduce 2  0") ≡ None
 unfolding digits tokens_within expression_at parted_by grouped_by mgu_within path_within
 reduce_line_with_two_blanks_row = refl
 
-reduce_line_with_a_blank_row : entry_in (codes "reduce 2 0 ") ≡ None
+reduce_line_with_a_blank_row : entry_in One (codes "reduce 2 0 ") ≡ None
 unfolding digits tokens_within expression_at parted_by grouped_by mgu_within path_within
 reduce_line_with_a_blank_row = refl
 
-reduce_line_with_a_return_row : entry_in (codes "reduce 2 0" ++ 13 ∷ []) ≡ None
+reduce_line_with_a_return_row : entry_in One (codes "reduce 2 0" ++ 13 ∷ []) ≡ None
 unfolding digits tokens_within expression_at parted_by grouped_by mgu_within path_within
 reduce_line_with_a_return_row = refl
 
-empty_line_row : entry_in [] ≡ None
+empty_line_row : entry_in One [] ≡ None
 unfolding digits tokens_within expression_at parted_by grouped_by mgu_within path_within
 empty_line_row = refl
 

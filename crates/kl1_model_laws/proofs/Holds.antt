@@ -1,13 +1,12 @@
 -- What holds of each variable of a goal holds of each variable of what its step makes of it.
-use Rattle.std.proofs.Common.{◌≡◌, ◌≤◌, ◌<◌, ℕ, zero, suc, ◌-◌, ◌==◌, ◌&&◌, Bool, true, false, if◌then◌else◌, List, [], ◌∷◌, ◌++◌, max, refl, sym, ap, ap₂, subst, arith}
+use Rattle.std.proofs.Common.{◌≡◌, ℕ, zero, suc, ◌-◌, ◌==◌, ◌&&◌, ◌||◌, Bool, true, false, if◌then◌else◌, List, [], ◌∷◌, ◌++◌, refl, sym, subst}
 use Rattle.std.specs.Prelude.{nat_le, find, slice_get, codes, bytes_eq, Option, Some, None, option_map, option_and_then, ⊤}
 use Rattle.std.specs.List.{AllByRecursion}
-use Rattle.std.proofs.lemmas.Bool.{and_parts, leb-true, cond_both, ne_eqb}
-use Rattle.std.proofs.Math.Nat.{le-max_left, le-max_right}
+use Rattle.std.proofs.lemmas.Bool.{cond_both, eqb-true, false≢true}
 use Rattle.kl1_model.specs.declared.number.Number.{Number}
 use Rattle.kl1_model.specs.declared.number.Number.TheVariants.{Value, Overflow, ZeroDivisor}
-use Rattle.kl1_model.specs.Term.{Term, variable, integer, atom, structure, Terms, none, more, count_of, replace, replace_each, Replacement, substituted, each_substituted}
-use Rattle.kl1_model.specs.Meaning.{nil, variables_of, variables_in, highest, highest_in, numbered_after}
+use Rattle.kl1_model.specs.Term.{Term, variable, integer, atom, structure, Terms, none, more, count_of, occurs, occurs_in, Replacement}
+use Rattle.kl1_model.specs.Meaning.{nil}
 use Rattle.kl1_model.specs.Arithmetic.{evaluated}
 use Rattle.kl1_model.specs.Unify.{Equation, argument_equations, replace_in_all, mgu}
 use Rattle.kl1_model.specs.Goal.{is_execute}
@@ -17,124 +16,16 @@ use Rattle.kl1_model.specs.code.Sections.{candidates_within, candidates_from}
 use Rattle.kl1_model.proofs.SectionRuns.{candidates_walked}
 use Rattle.kl1_model.specs.Look.{spelling, ExecuteArguments, arguments_look}
 use Rattle.kl1_model.specs.declared.rules.Rules.{Rules}
-use Rattle.kl1_model.specs.State.{most_spelled}
+use Rattle.kl1_model.specs.State.{Origin, most_spelled}
 use Rattle.kl1_model.specs.Reduction.{Move, commits, raises, unifies, names, opens, goes, gives_way, failure, call_move, becomes, execute_arguments, execute_move, pair_move, built_in_move, term_move, equation, move_found}
 use Rattle.kl1_model.specs.code.Steps.{order_move, substitute_move, elements_in}
 use Rattle.kl1_model.specs.Asking.{elements_of}
-use Rattle.kl1_model.specs.Answering.{unanswered, unanswered_at}
-use Rattle.kl1_model_laws.proofs.UnifySound.{HoldsInEachCase, holds_of_solution}
+use Rattle.kl1_model.specs.Answering.{asked, asked_at}
+use Rattle.kl1_model.specs.Telling.{Asked}
+use Rattle.kl1_model.specs.Forgetting.{without_cells}
+use Rattle.kl1_model.proofs.UnifySound.{HoldsInEachCase, holds_of_solution}
 use Rattle.kl1_model.specs.Found.{Found, found, awaits, wrong}
-
--- ---- terms
-
--- a fact holds of each variable of a term
-abbrev mutual
-  pub Holds : (ℕ → Type 0) → Term → Type 0
-  Holds P (variable v) = P v
-  Holds P (integer i) = Unit {0}
-  Holds P (atom a) = Unit {0}
-  Holds P (structure f ts) = HoldsEach P ts
-
-  pub HoldsEach : (ℕ → Type 0) → Terms → Type 0
-  HoldsEach P none = Unit {0}
-  HoldsEach P (more t ts) = Holds P t × HoldsEach P ts
-
-mutual
-  pub holds_replace : (P : ℕ → Type 0) (v : ℕ) (u t : Term) → Holds P u → Holds P t → Holds P (replace v u t)
-  holds_replace P v u (variable n) k h = cond_both (n == v) u (variable n) (Holds P) (λ _. k) (λ _. h)
-  holds_replace P v u (integer i) k h = tt
-  holds_replace P v u (atom a) k h = tt
-  holds_replace P v u (structure f ts) k h = holds_replace_each P v u ts k h
-
-  pub holds_replace_each : (P : ℕ → Type 0) (v : ℕ) (u : Term) (ts : Terms) → Holds P u → HoldsEach P ts → HoldsEach P (replace_each v u ts)
-  holds_replace_each P v u none k h = tt
-  holds_replace_each P v u (more t ts) k h = (holds_replace P v u t k h.0, holds_replace_each P v u ts k h.1)
-
-mutual
-  -- a fact that follows
-  pub holds_weaker : (P Q : ℕ → Type 0) → ((v : ℕ) → P v → Q v) → (t : Term) → Holds P t → Holds Q t
-  holds_weaker P Q f (variable v) h = f v h
-  holds_weaker P Q f (integer i) h = tt
-  holds_weaker P Q f (atom a) h = tt
-  holds_weaker P Q f (structure g ts) h = each_weaker P Q f ts h
-
-  each_weaker : (P Q : ℕ → Type 0) → ((v : ℕ) → P v → Q v) → (ts : Terms) → HoldsEach P ts → HoldsEach Q ts
-  each_weaker P Q f none h = tt
-  each_weaker P Q f (more t ts) h = (holds_weaker P Q f t h.0, each_weaker P Q f ts h.1)
-
-mutual
-  -- a variable of which the fact doesn't hold isn't there to be replaced
-  pub holds_unchanged : (P : ℕ → Type 0) (v : ℕ) (u : Term) → (P v → ⊥) → (t : Term) → Holds P t → replace v u t ≡ t
-  holds_unchanged P v u f (variable n) h = ap (λ b. if b then u else variable n) (ne_eqb n v (λ same. f (subst P same h)))
-  holds_unchanged P v u f (integer i) h = refl
-  holds_unchanged P v u f (atom a) h = refl
-  holds_unchanged P v u f (structure g ts) h = ap (structure g) (each_unchanged P v u f ts h)
-
-  each_unchanged : (P : ℕ → Type 0) (v : ℕ) (u : Term) → (P v → ⊥) → (ts : Terms) → HoldsEach P ts → replace_each v u ts ≡ ts
-  each_unchanged P v u f none h = refl
-  each_unchanged P v u f (more t ts) h = ap₂ more (holds_unchanged P v u f t h.0) (each_unchanged P v u f ts h.1)
-
-mutual
-  pub holds_substituted : (R P : ℕ → Type 0) (f : ℕ → Term) → ((v : ℕ) → R v → Holds P (f v)) → (t : Term) → Holds R t → Holds P (substituted f t)
-  holds_substituted R P f k (variable v) h = k v h
-  holds_substituted R P f k (integer i) h = tt
-  holds_substituted R P f k (atom a) h = tt
-  holds_substituted R P f k (structure g ts) h = each_holds_substituted R P f k ts h
-
-  each_holds_substituted : (R P : ℕ → Type 0) (f : ℕ → Term) → ((v : ℕ) → R v → Holds P (f v)) → (ts : Terms) → HoldsEach R ts → HoldsEach P (each_substituted f ts)
-  each_holds_substituted R P f k none h = tt
-  each_holds_substituted R P f k (more t ts) h = (holds_substituted R P f k t h.0, each_holds_substituted R P f k ts h.1)
-
-mutual
-  -- each variable is at most the highest
-  pub holds_highest : (top : ℕ) (t : Term) → highest t ≤ top → Holds (λ v. v ≤ top) t
-  holds_highest top (variable v) e = e
-  holds_highest top (integer i) e = tt
-  holds_highest top (atom a) e = tt
-  holds_highest top (structure f ts) e = each_highest top ts e
-
-  each_highest : (top : ℕ) (ts : Terms) → highest_in ts ≤ top → HoldsEach (λ v. v ≤ top) ts
-  each_highest top none e = tt
-  each_highest top (more t ts) e =
-      let a = le-max_left (highest t) (highest_in ts) in let b = le-max_right (highest t) (highest_in ts) in
-      (holds_highest top t (omega (arith, a, e)), each_highest top ts (omega (arith, b, e)))
-
-mutual
-  pub holds_both : (P Q : ℕ → Type 0) (t : Term) → Holds P t → Holds Q t → Holds (λ v. P v × Q v) t
-  holds_both P Q (variable v) g h = (g, h)
-  holds_both P Q (integer i) g h = tt
-  holds_both P Q (atom a) g h = tt
-  holds_both P Q (structure f ts) g h = each_both P Q ts g h
-
-  each_both : (P Q : ℕ → Type 0) (ts : Terms) → HoldsEach P ts → HoldsEach Q ts → HoldsEach (λ v. P v × Q v) ts
-  each_both P Q none g h = tt
-  each_both P Q (more t ts) g h = (holds_both P Q t g.0 h.0, each_both P Q ts g.1 h.1)
-
-split : (P : ℕ → Type 0) (vs ws : List ℕ) → AllByRecursion P (vs ++ ws) → AllByRecursion P vs × AllByRecursion P ws
-split P [] ws a = (tt, a)
-split P (v ∷ vs) ws a = let more = split P vs ws a.1 in ((a.0, more.0), more.1)
-
-mutual
-  listed : (P : ℕ → Type 0) (t : Term) → AllByRecursion P (variables_of t) → Holds P t
-  listed P (variable v) a = a.0
-  listed P (integer i) a = tt
-  listed P (atom a) b = tt
-  listed P (structure f ts) a = each_listed P ts a
-
-  each_listed : (P : ℕ → Type 0) (ts : Terms) → AllByRecursion P (variables_in ts) → HoldsEach P ts
-  each_listed P none a = tt
-  each_listed P (more t ts) a = let parts = split P (variables_of t) (variables_in ts) a in (listed P t parts.0, each_listed P ts parts.1)
-
-positive : (seen : ℕ) (vs : List ℕ) → numbered_after seen vs ≡ true → AllByRecursion (λ v. 0 < v) vs
-positive seen [] e = tt
-positive seen (v ∷ vs) e =
-    let parts = and_parts (nat_le 1 v && nat_le v (suc seen)) (numbered_after (max seen v) vs) e in
-    let one = leb-true 1 v (and_parts (nat_le 1 v) (nat_le v (suc seen)) parts.0).0 in
-    (omega (arith, one), positive (max seen v) vs parts.1)
-
--- variables that are numbered by first occurrence are numbered from 1
-pub holds_positive : (t : Term) → numbered_after 0 (variables_of t) ≡ true → Holds (λ v. 0 < v) t
-holds_positive t e = listed (λ v. 0 < v) t (positive 0 (variables_of t) e)
+pub use Rattle.kl1_model_laws.proofs.HoldsTerms.{Holds, HoldsEach, holds_replace, holds_replace_each, holds_weaker, holds_unchanged, holds_substituted, holds_highest, holds_both, listed, holds_positive}
 
 -- ---- unification
 
@@ -212,7 +103,7 @@ Candidates P ks = AllByRecursion (λ k. Places P k.places) ks
 one_candidate : (P : ℕ → Type 0) (n : ℕ) (c : Clause) (ps : List Replacement) (a : Answer) → Places P ps → Candidates P (candidate_by n c ps a)
 one_candidate P n c ps yes h = (h, tt)
 one_candidate P n c ps no h = tt
-one_candidate P n c ps wait h = tt
+one_candidate P n c ps (wait vs) h = tt
 
 both_candidates : (P : ℕ → Type 0) (ks ls : List Candidate) → Candidates P ks → Candidates P ls → Candidates P (ks ++ ls)
 both_candidates P [] ls a b = b
@@ -386,27 +277,56 @@ mutual
   listed_each P f (more t (more u none)) h = if_each (bytes_eq f (codes ".")) P (t ∷ elements_of u) [] (h.0, listed_holds P u h.1.0) tt
   listed_each P f (more t (more u (more w ts))) h = tt
 
--- a fact holds of a variable that may be there
-abbrev MayBe : (ℕ → Type 0) → Option ℕ → Type 0
-MayBe P None = Unit {0}
-MayBe P (Some v) = P v
+-- a fact holds of the variables of the exception by which a substitute waits, if one does
+abbrev OfAsked : (ℕ → Type 0) → Option Asked → Type 0
+OfAsked P None = Unit {0}
+OfAsked P (Some a) = Holds P a.goal × P a.new
 
-if_maybe : (c : Bool) (P : ℕ → Type 0) (v : ℕ) → P v → MayBe P (if c then Some v else None)
-if_maybe true P v h = h
-if_maybe false P v h = tt
+if_asked : (c : Bool) (P : ℕ → Type 0) (a : Asked) → Holds P a.goal × P a.new → OfAsked P (if c then Some a else None)
+if_asked true P a h = h
+if_asked false P a h = tt
 
-in_report : (P : ℕ → Type 0) (t : Term) → Holds P t → MayBe P (unanswered t)
-in_report P (structure f (more kind (more goal (more (variable v) none)))) h = if_maybe (bytes_eq f (codes "exception")) P v h.1.1.0
+in_report : (P : ℕ → Type 0) (t : Term) → Holds P t → OfAsked P (asked t)
+in_report P (structure f (more kind (more goal (more (variable v) none)))) h = if_asked (bytes_eq f (codes "exception")) P (record { goal = goal; new = v }) (h.1.0, h.1.1.0)
 in_report P t h = tt
 
-in_reports : (P : ℕ → Type 0) (ts : List Term) (n : ℕ) → Each P ts → MayBe P (option_and_then unanswered (slice_get ts n))
+in_reports : (P : ℕ → Type 0) (ts : List Term) (n : ℕ) → Each P ts → OfAsked P (option_and_then asked (slice_get ts n))
 in_reports P [] n a = tt
 in_reports P (t ∷ ts) zero a = in_report P t a.0
 in_reports P (t ∷ ts) (suc n) a = in_reports P ts n a.1
 
--- what holds of the variables of reports holds of the one that a substitute waits for by one of them
-pub holds_unanswered : (P : ℕ → Type 0) (reports : Term) (n v : ℕ) → Holds P reports → unanswered_at reports n ≡ Some v → P v
-holds_unanswered P reports n v h e = subst (MayBe P) e (in_reports P (elements_of reports) (n - 1) (listed_holds P reports h))
+if_kept : (c : Bool) (P : ℕ → Type 0) (a : Option Asked) → OfAsked P a → OfAsked P (if c then None else a)
+if_kept true P a h = tt
+if_kept false P a h = h
+
+-- what holds of the variables of reports holds of those of the exception by which a substitute waits
+pub holds_asked : (P : ℕ → Type 0) (o : Origin) (report : ℕ) (a : Asked) → Holds P o.reports → asked_at o report ≡ Some a → Holds P a.goal × P a.new
+holds_asked P o report a h e =
+    let n = report - 1 - o.forgotten in
+    subst (OfAsked P) e (if_kept (nat_le report o.forgotten) P (option_and_then asked (slice_get (elements_of o.reports) n)) (in_reports P (elements_of o.reports) n (listed_holds P o.reports h)))
+
+-- and of those of the reports that are left
+pub holds_without : (P : ℕ → Type 0) (count : ℕ) (t : Term) → Holds P t → Holds P (without_cells count t)
+holds_without P zero t k = k
+holds_without P (suc count) (structure f (more h (more t none))) k =
+    cond_both (bytes_eq f (codes ".")) (without_cells count t) (structure f (more h (more t none))) (Holds P) (λ _. holds_without P count t k.1.0) (λ _. k)
+holds_without P (suc count) t k = k
+
+pub either : (b c : Bool) (X : Type 0) → (b || c) ≡ true → (b ≡ true → X) → (c ≡ true → X) → X
+either true c X e f g = f refl
+either false c X e f g = g e
+
+mutual
+  -- a fact holds of a variable that occurs
+  pub holds_occurring : (P : ℕ → Type 0) (v : ℕ) (t : Term) → Holds P t → occurs v t ≡ true → P v
+  holds_occurring P v (variable n) h e = subst P (sym (eqb-true v n e)) h
+  holds_occurring P v (integer i) h e = absurd (false≢true e)
+  holds_occurring P v (atom a) h e = absurd (false≢true e)
+  holds_occurring P v (structure f ts) h e = each_occurring P v ts h e
+
+  each_occurring : (P : ℕ → Type 0) (v : ℕ) (ts : Terms) → HoldsEach P ts → occurs_in v ts ≡ true → P v
+  each_occurring P v none h e = absurd (false≢true e)
+  each_occurring P v (more t ts) h e = either (occurs v t) (occurs_in v ts) (P v) e (λ f. holds_occurring P v t h.0 f) (λ f. each_occurring P v ts h.1 f)
 
 pub holds_term_at : (P : ℕ → Type 0) (ps : List Replacement) (v : ℕ) → Places P ps → Holds P (term_at ps v nil)
 holds_term_at P [] v a = tt

@@ -1,7 +1,7 @@
 -- Each living shoen has a goal or a living child.
-use Rattle.std.proofs.Common.{◌≡◌, ◌≤◌, inl, inr, ℕ, zero, suc, ◌==◌, ◌||◌, not, ◌&&◌, Bool, true, false, if◌then◌else◌, List, [], ◌∷◌, ◌++◌, refl, sym, ap, ◌∙◌, subst, arith}
-use Rattle.std.specs.Prelude.{filter, Option, Some, None}
-use Rattle.std.specs.List.{AllByRecursion}
+use Rattle.std.proofs.Common.{◌≡◌, ◌≤◌, inl, inr, ℕ, zero, suc, ◌==◌, ◌||◌, not, ◌&&◌, Bool, true, false, if◌then◌else◌, List, [], ◌∷◌, ◌++◌, refl, sym, ap, ap₂, ◌∙◌, subst, arith}
+use Rattle.std.specs.Prelude.{filter, map, Option, Some, None}
+use Rattle.std.specs.List.{AllByRecursion, list_any}
 use Rattle.std.proofs.Math.Bool.{or-true}
 use Rattle.std.proofs.lemmas.Bool.{false≢true, eqb-true, eqb-false, eq-eqb, ne_eqb, cases_eq}
 use Rattle.std.proofs.lemmas.Option.{none-some, same_Some}
@@ -11,15 +11,18 @@ use Rattle.kl1_model.specs.Unify.{mgu}
 use Rattle.kl1_model.specs.Module.{is_among}
 use Rattle.kl1_model.specs.Match.{Candidate}
 use Rattle.kl1_model.specs.Control.{Control, awaits_message, tells, tells_other, ends, breaks_off}
-use Rattle.kl1_model.specs.State.{limits_of, Task, reduces, substitutes, Goal, Shoen, State, has_substitutes, goal_at, shoen_at, replace_all, with_name, without_goal, is_monitor, is_living}
-use Rattle.kl1_model.specs.Tree.{parents_of, path_within, is_on_path, charge}
-use Rattle.kl1_model.specs.Event.{are_too_many, with_reduction}
+use Rattle.kl1_model.specs.State.{limits_of, Task, reduces, substitutes, Goal, Origin, Shoen, State, has_substitutes, goal_at, shoen_at, replace_all, with_name, without_goal, is_monitor, is_living}
+use Rattle.kl1_model.specs.Tree.{parents_of, path_within, is_on_path, is_living_child, charge}
+use Rattle.kl1_model.specs.Event.{are_too_many, with_entry, with_reduction}
+use Rattle.kl1_model.specs.Forgetting.{with_origin, without_reports, empty_place, gone_below, gone}
+use Rattle.kl1_model.proofs.TreeLives.{marked_lives}
+use Rattle.kl1_model.proofs.TreeLiving.{lives_gone}
 use Rattle.kl1_model.specs.Report.{report, is_reported, exception, exception_with, failure, illegal_input, exhaustion}
 use Rattle.kl1_model.specs.Ending.{has_goal, has_living_child, lives, ends_now, without_monitor, settle}
 use Rattle.kl1_model.specs.Opening.{with_shoen, with_next_variables, start_goal, has_room_to_start, has_room_for_child, child_shoen, open_child}
 use Rattle.kl1_model.specs.Reduction.{Move, commits, raises, unifies, names, opens, goes, gives_way, moves, goals_from, has_room_for, committed, replaced_by, substituted_by, raised, unified, equation, or_exhaustion, moved, with_control, heard, acted}
 use Rattle.kl1_model.specs.code.Steps.{opening_goals, allowed_more, named_by}
-use Rattle.kl1_model.specs.Answering.{answered}
+use Rattle.kl1_model.specs.Answering.{given, answered}
 use Rattle.kl1_model.specs.Sending.{sent_on}
 use Rattle.kl1_model.specs.laws.TreeLaws.{AreWithin, IsTree}
 use Rattle.kl1_model.proofs.TreeKeeps.{Keeps, keeps_same, keeps_both, kept_tree, keeps_change, keeps_all, keeps_report, keeps_fewer, keeps_abort, keeps_heard}
@@ -29,7 +32,7 @@ use Rattle.kl1_model_laws.specs.EndingLaws.{LivingHaveGoals}
 use Rattle.kl1_model_laws.proofs.Reaching.{Keeping, holds_reached}
 use Rattle.kl1_model_laws.proofs.Alike.{Node, node_of, nodes_of, Duty, duties_of, duties_append, next_duty, Alike, Placed, Lasts, placed_after, by_raised, by_unified, by_limit, alike_same, alike_report, alike_stopped, alike_resumed, alike_change, alike_open, begun, begun_shoen, alike_start, alike_sent, alike_answered, lives_in, has_duty, has_child, lives_by, goal_by, child_by}
 use Rattle.kl1_model_laws.proofs.Duties.{Of, filtered, of_alike, of_settle, of_heard}
-use Rattle.kl1_model_laws.proofs.Counts.{Rises, AreCounted, counted_fewer, acted_counted, start_counted, fresh_counted, found_goal}
+use Rattle.kl1_model_laws.proofs.Counts.{Rises, AreCounted, gone_counted, counted_fewer, acted_counted, start_counted, fresh_counted, found_goal}
 use Rattle.kl1_model_laws.proofs.Endings.{Idle, Stays, not_due, stays_alike, goal_aside, zero_not_due, path_begins, settle_none_due, settle_charged_none_due}
 use Rattle.kl1_model_laws.proofs.Aborts.{abort_idle}
 
@@ -161,7 +164,7 @@ moved_idle g t (raises kind) s idle = by_raised (IdleBut g.shoen) g kind t s (la
 moved_idle g t (unifies x y) s idle = by_unified (IdleBut g.shoen) g t (mgu (equation x y)) s (lasts_idle g s idle)
 moved_idle g t (names text x) s idle =
     let u = record s { names = with_name s.names text } in
-    by_limit (IdleBut g.shoen) (not (are_too_many (with_name s.names text))) g t (named_by g t text x s) s
+    by_limit (IdleBut g.shoen) (not (are_too_many s.rules (with_name s.names text))) g t (named_by g t text x s) s
     (λ _. by_unified (IdleBut g.shoen) g t (mgu (equation x (atom text))) u (lasts_idle g u idle)) (lasts_idle g s idle)
 moved_idle g t (opens o) s idle =
     let h = child_shoen s g.shoen o in
@@ -217,7 +220,7 @@ moved_tree g t (unifies x y) s few tree = tree_unified g t (mgu (equation x y)) 
 moved_tree g t (names text x) s few tree =
     let u = record s { names = with_name s.names text } in
     let k : Keeps s u = record { parents = refl; work = refl; last = refl; owners = λ n w. w; numbered = λ n w. w } in
-    tree_or (not (are_too_many (with_name s.names text))) g t (named_by g t text x s) s few (tree_unified g t (mgu (equation x (atom text))) u few (kept_tree s u k tree)) tree
+    tree_or (not (are_too_many s.rules (with_name s.names text))) g t (named_by g t text x s) s few (tree_unified g t (mgu (equation x (atom text))) u few (kept_tree s u k tree)) tree
 moved_tree g t (opens o) s few tree = tree_or (has_room_for_child s g.shoen) g t (open_child s g.shoen o) s few ((opening_follows g.shoen (child_shoen s g.shoen o) o.goal s refl (λ few. few)).tree few tree) tree
 moved_tree g t goes s few tree = tree
 moved_tree g t gives_way s few tree = tree_replaced g (reduces t) s s few (keeps_same s) tree
@@ -294,6 +297,24 @@ acted_busy s r n g t m tree there plain b =
       idle = acted_idle g t m (with_reduction r s) own few entered b.counted b.idle;
     }
 
+gone_child : (c l : Bool) (m : ℕ) (h : Shoen) → is_living h.life ≡ l → is_living_child m (if not l && c then empty_place h else h) ≡ is_living_child m h
+gone_child true true m h f = refl
+gone_child false true m h f = refl
+gone_child true false m h f = ap (λ x. h.parent == m && x) (sym f)
+gone_child false false m h f = refl
+
+-- living children stay
+children_gone : (all : List Shoen) (n m : ℕ) (hs : List Shoen) → list_any (is_living_child m) (map (gone_below all n) hs) ≡ list_any (is_living_child m) hs
+children_gone all n m [] = refl
+children_gone all n m (h ∷ hs) = ap₂ (λ (x : Bool) (y : Bool). x || y) (gone_child (is_on_path all n h.number) (is_living h.life) m h refl) (children_gone all n m hs)
+
+-- no shoen is due after a letting go
+gone_idle : (s : State) (n count : ℕ) (o : Origin) → Idle s → Idle (with_entry (gone n count o s))
+gone_idle s n zero o i = λ m.
+    ap₂ (λ (l : Bool) (c : Bool). l && not (has_goal m s) && not c)
+    (marked_lives m (map (gone_below s.shoens n) s.shoens) ∙ lives_gone s.shoens n s.shoens m ∙ sym (marked_lives m s.shoens)) (children_gone s.shoens n m s.shoens) ∙ i m
+gone_idle s n (suc count) o i = idle_alike s (gone n (suc count) o s) (alike_change n (with_origin (without_reports (suc count) o)) s (λ h. refl)) i
+
 keeping : Keeping IsBusy
 keeping = record {
   fresh = λ rules name names sessions. record { counted = fresh_counted (limits_of rules).goals; idle = λ m. refl };
@@ -305,7 +326,8 @@ keeping = record {
   moving = λ s r n clause g t m tree there task is enabled b. acted_busy s r n g t m tree there (ap is_monitor task) b;
   substituting = λ s r n g t m tree there task is enabled b. acted_busy s r n g t m tree there (ap is_monitor task) b;
   answers = λ s n number v t h o tree there origin may room is b.
-      let k = alike_answered v t s in record { counted = of_alike AreCounted s (answered v t s) k b.counted; idle = idle_alike s (answered v t s) k b.idle };
+      let g = given s (Some v) t in let k = alike_answered v.new g t s in record { counted = of_alike AreCounted s (answered v.new g t s) k b.counted; idle = idle_alike s (answered v.new g t s) k b.idle };
+  forgets = λ s n count h o tree there origin may b. record { counted = gone_counted s n count o b.counted; idle = gone_idle s n count o b.idle };
   reading = λ s r n g h c tree there found is b.
       let entered = kept_tree s (with_reduction r s) (with_reduction_keeps r s) tree in record {
         counted = of_settle AreCounted counted_fewer g.shoen (heard g.shoen c (with_reduction r s)) (of_heard AreCounted counted_fewer g.shoen c (with_reduction r s) b.counted);

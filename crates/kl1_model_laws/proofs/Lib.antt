@@ -1,10 +1,10 @@
+pub mod ShoenExampleRows
+pub mod LineExampleRows
+pub mod ProgramExampleRows
 pub mod ExampleRows
+pub mod HeadingJournalRows
+pub mod EntryJournalRows
 pub mod JournalRows
-pub mod UnifySound
-pub mod UnifySolution
-pub mod UnifyAnswer
-pub mod UnifyDerivation
-pub mod UnifyFails
 pub mod AccountRowProofs
 pub mod HistoryRowProofs
 pub mod RunRowProofs
@@ -23,8 +23,11 @@ pub mod Counts
 pub mod Endings
 pub mod Aborts
 pub mod Idle
+pub mod HoldsTerms
 pub mod Holds
+pub mod GivenPlaces
 pub mod Each
 pub mod Owners
+pub mod TailMoves
 pub mod Tails
 pub mod Charged

@@ -1,5 +1,5 @@
 -- Modules of an account stay, and each that is loaded was read; what a goal does makes no entry by itself.
-use Rattle.std.proofs.Common.{◌≡◌, ℕ, not, Bool, true, false, if◌then◌else◌, List, [], ◌∷◌, ◌++◌, refl, sym, ◌∙◌, subst}
+use Rattle.std.proofs.Common.{◌≡◌, ℕ, zero, suc, not, Bool, true, false, if◌then◌else◌, List, [], ◌∷◌, ◌++◌, refl, sym, ◌∙◌, subst}
 use Rattle.std.specs.Prelude.{filter, bytes_eq, Option, Some}
 use Rattle.std.specs.List.{AllByRecursion}
 use Rattle.kl1_model.specs.declared.message.Message.{Message}
@@ -10,9 +10,10 @@ use Rattle.kl1_model.specs.Match.{Call, module_of, clauses_of}
 use Rattle.kl1_model.specs.code.Sections.{clauses_in}
 use Rattle.kl1_model.specs.Unify.{mgu}
 use Rattle.kl1_model.specs.Control.{Control, awaits_message, tells, tells_other, ends, breaks_off}
-use Rattle.kl1_model.specs.State.{Goal, State, shoen_at, with_name, without_goal}
+use Rattle.kl1_model.specs.State.{Goal, Origin, State, shoen_at, with_name, without_goal}
 use Rattle.kl1_model.specs.Tree.{path, charge}
-use Rattle.kl1_model.specs.Event.{are_too_many, with_reduction}
+use Rattle.kl1_model.specs.Forgetting.{gone}
+use Rattle.kl1_model.specs.Event.{are_too_many, with_entry, with_reduction}
 use Rattle.kl1_model.specs.Report.{report_each, exception, illegal_input, exhausted_report, terminated_report, aborted_report}
 use Rattle.kl1_model.specs.Ending.{ended_at, ending_of, without_monitor, terminate, terminate_each, newly_exhausted, ended_below, settle, after_reduction}
 use Rattle.kl1_model.specs.Opening.{start_goal, has_room_for_child, child_shoen, open_child}
@@ -77,7 +78,7 @@ moved_has g t (raises kind) s = by_raised (Has s) g kind t s (lasts_has g s s (h
 moved_has g t (unifies a b) s = by_unified (Has s) g t (mgu (equation a b)) s (lasts_has g s s (has_same s))
 moved_has g t (names text a) s =
     let u = record s { names = with_name s.names text } in
-    by_limit (Has s) (not (are_too_many (with_name s.names text))) g t (named_by g t text a s) s
+    by_limit (Has s) (not (are_too_many s.rules (with_name s.names text))) g t (named_by g t text a s) s
     (λ _. by_unified (Has s) g t (mgu (equation a (atom text))) u (lasts_has g s u (record { modules = refl; rules = refl; work = refl }))) (lasts_has g s s (has_same s))
 moved_has g t (opens o) s =
     let b = alike_open (child_shoen s g.shoen o) o.goal s in
@@ -120,6 +121,10 @@ one_more (k ∷ ms) m a b = (a.0, one_more ms m a.1 b)
 by_modules : (s t : State) → t.modules ≡ s.modules → AreOrdered s → AreOrdered t
 by_modules s t e a = subst (λ ms. AllByRecursion IsOrdered ms) (sym e) a
 
+gone_ordered : (s : State) (n count : ℕ) (o : Origin) → AreOrdered s → AreOrdered (with_entry (gone n count o s))
+gone_ordered s n zero o a = a
+gone_ordered s n (suc count) o a = a
+
 keeping : Keeping AreOrdered
 keeping = record {
   fresh = λ rules name names sessions. tt;
@@ -130,6 +135,7 @@ keeping = record {
   moving = λ s r n clause g t m tree there task e enabled a. by_modules s (acted g (moves t m) (with_reduction r s)) (move_has g t m (with_reduction r s)).modules a;
   substituting = λ s r n g t m tree there task e enabled a. by_modules s (acted g (moves t m) (with_reduction r s)) (move_has g t m (with_reduction r s)).modules a;
   answers = λ s n number v t h o tree there origin may room e a. a;
+  forgets = λ s n count h o tree there origin may a. gone_ordered s n count o a;
   reading = λ s r n g h c tree there found e a. by_modules s (acted g (reads c) (with_reduction r s)) (reading_has g c (with_reduction r s)).modules a;
 }
 

@@ -3,6 +3,8 @@ use Rattle.std.proofs.Common.{◌≡◌, ◌≤◌, ◌<◌, ℕ, suc, ◌==◌,
 use Rattle.std.specs.Prelude.{map, filter, codes, Option, Some, None, option_map}
 use Rattle.std.specs.List.{AllByRecursion}
 use Rattle.std.proofs.lemmas.Bool.{eqb-true, ne_eqb}
+use Rattle.kl1_model.specs.declared.life.Life.{Life}
+use Rattle.kl1_model.specs.declared.rules.Rules.{Rules}
 use Rattle.kl1_model.specs.declared.life.Life.TheVariants.{Terminated, Aborted}
 use Rattle.kl1_model.specs.declared.message.Message.{Message}
 use Rattle.kl1_model.specs.declared.message.Message.TheVariants.{Stop, Start, Abort, Allow}
@@ -10,10 +12,10 @@ use Rattle.kl1_model.specs.Term.{Term, variable, integer, atom, structure, none,
 use Rattle.kl1_model.specs.Meaning.{nil, cell}
 use Rattle.kl1_model.specs.Control.{message_term, Control, awaits_message, tells, tells_other, ends, breaks_off, control_of, word_of}
 use Rattle.kl1_model.proofs.ControlStays.{control_by}
-use Rattle.kl1_model.specs.State.{Task, monitor, reduces, substitutes, Goal, Origin, Shoen, State, is_monitor, shoen_at, replace_in_task, replace_in_goal, replace_in_origin, replace_in_shoen, replace_in_state, replace_all, change_shoen, is_living}
+use Rattle.kl1_model.specs.State.{Task, monitor, reduces, substitutes, Goal, Origin, Shoen, State, is_monitor, shoen_at, replace_in_task, replace_in_goal, replace_in_origin, replace_in_shoen, replace_in_state, replace_all, change_shoen, is_living, has_forgetting}
 use Rattle.kl1_model.specs.Tree.{path, is_on_path}
 use Rattle.kl1_model.specs.Report.{broken_at, has_made_last, report_tail, reported_on, reported_at, report, report_each, closed_at, close, exception, illegal_input, exhausted_report, stopped_report, resumed_report}
-use Rattle.kl1_model.specs.Ending.{ended_at, ending_of, without_monitor, terminate, terminate_each, settle, newly_exhausted, after_reduction, ended_below, abort}
+use Rattle.kl1_model.specs.Ending.{ended_at, ending_of, without_monitor, terminate, terminate_each, settle, newly_exhausted, after_reduction, ended_below, abort, ended_as, control_left}
 use Rattle.kl1_model.specs.Reduction.{obeyed, with_control, heard}
 use Rattle.kl1_model.specs.code.Steps.{report_of, close_of, aborted_below, stopped_of, resumed_of, allowed_more}
 use Rattle.kl1_model.specs.laws.TreeLaws.{IsTree}
@@ -161,8 +163,13 @@ changed c n f s g a = record {
   above = a.above;
 }
 
+nil_free : (b : Bool) (c : ℕ → ℕ) (last : ℕ) (t : Term) → IsFree c last t → IsFree c last (if b then nil else t)
+nil_free true c last t a = tt
+nil_free false c last t a = a
+
 own_broken : (c : ℕ → ℕ) (n : ℕ) (s : State) → Of c s → Of c (broken_at n s)
-own_broken c n s a = changed c n (λ h. record h { is_broken = true }) s (λ h p. record { tail = p.tail; control = p.control }) a
+own_broken c n s a =
+    changed c n (λ h. record h { is_broken = true; tail = if has_forgetting s.rules then nil else h.tail }) s (λ h p. record { tail = nil_free (has_forgetting s.rules) c s.last_variable h.tail p.tail; control = p.control }) a
 
 pub own_if : (b : Bool) (c : ℕ → ℕ) (s t : State) → Of c s → Of c t → Of c (if b then s else t)
 own_if true c s t p q = p
@@ -235,10 +242,17 @@ own_all c (r ∷ rs) s f a = own_all c rs (replace_in_state r.number r.by s) f.1
 pub fewer : (c : ℕ → ℕ) (p : Goal → Bool) (s : State) → Of c s → Of c (record s { goals = filter p s.goals })
 fewer c p s a = record { goals = all_fewer (λ g. TaskFree c s.last_variable g.task) p s.goals a.goals; shoens = a.shoens; above = a.above }
 
+control_ended : (c : ℕ → ℕ) (rules : Rules) (last n : ℕ) (o : Option Origin) (t : Term) → ControlOf c last n t o → ControlOf c last n (control_left rules o t) o
+control_ended c rules last n None t a = nil_free (has_forgetting rules) c last t a
+control_ended c rules last n (Some o) t a = a
+
+own_ended : (c : ℕ → ℕ) (rules : Rules) (last : ℕ) (life : Life) (h : Shoen) → Owned c last h → Owned c last (ended_as rules life h)
+own_ended c rules last life h p = record { tail = p.tail; control = control_ended c rules last h.number h.origin h.control p.control }
+
 own_terminate : (c : ℕ → ℕ) (n : ℕ) (s : State) → Of c s → Of c (terminate n s)
 own_terminate c n s a =
     let t = ended_at n s in
-    let b = changed c n (λ h. record h { life = Terminated }) s (λ h p. record { tail = p.tail; control = p.control }) a in
+    let b = changed c n (ended_as s.rules Terminated) s (λ h p. own_ended c s.rules s.last_variable Terminated h p) a in
     own_closing c n (codes "terminated") (without_monitor n t) (fewer c (λ g. not (g.shoen == n && is_monitor g.task)) t b)
 
 own_terminations : (c : ℕ → ℕ) (ns : List ℕ) (s : State) → Of c s → Of c (terminate_each ns s)
@@ -255,14 +269,14 @@ own_settle_charged c n s a =
     let told = newly_exhausted s ending ns in
     own_terminations c ending (report_each told exhausted_report s) (own_each c told (codes "exhausted") s a)
 
-aborted_if : (b : Bool) (c : ℕ → ℕ) (last : ℕ) (h : Shoen) → Owned c last h → Owned c last (if b then record h { life = Aborted } else h)
-aborted_if true c last h p = record { tail = p.tail; control = p.control }
-aborted_if false c last h p = p
+aborted_if : (b : Bool) (c : ℕ → ℕ) (rules : Rules) (last : ℕ) (h : Shoen) → Owned c last h → Owned c last (if b then ended_as rules Aborted h else h)
+aborted_if true c rules last h p = own_ended c rules last Aborted h p
+aborted_if false c rules last h p = p
 
 own_abort : (c : ℕ → ℕ) (n : ℕ) (s : State) → Of c s → Of c (abort n s)
 own_abort c n s a = own_closing c n (codes "aborted") (ended_below n s) (record {
   goals = all_fewer (λ g. TaskFree c s.last_variable g.task) (λ g. not (is_on_path s.shoens n g.shoen)) s.goals a.goals;
-  shoens = all_map (Owned c s.last_variable) (Owned c s.last_variable) (aborted_below s.shoens n) (λ h p. aborted_if (is_living h.life && is_on_path s.shoens n h.number) c s.last_variable h p) s.shoens a.shoens;
+  shoens = all_map (Owned c s.last_variable) (Owned c s.last_variable) (aborted_below s.rules s.shoens n) (λ h p. aborted_if (is_living h.life && is_on_path s.shoens n h.number) c s.rules s.last_variable h p) s.shoens a.shoens;
   above = a.above;
 })
 

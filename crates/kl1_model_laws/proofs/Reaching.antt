@@ -1,7 +1,6 @@
 -- What holds of a fresh account, and is kept by what each event does, holds of each account that events make of a fresh one.
 use Rattle.std.proofs.Common.{◌≡◌, ℕ, suc, ◌-◌, ◌==◌, not, ◌&&◌, Bool, true, false, if◌then◌else◌, List, [], ◌∷◌, refl, subst}
 use Rattle.std.specs.Prelude.{nat_lt, nat_le, length, Option, Some, None, is_some, option_map}
-use Rattle.std.proofs.lemmas.Bool.{and_parts}
 use Rattle.std.proofs.lemmas.Option.{none-some, same_Some}
 use Rattle.kl1_model.specs.declared.rules.Rules.{Rules}
 use Rattle.kl1_model.specs.declared.limits.TheConstants.{MOST_MODULES, MOST_SESSIONS, MOST_SOURCE_BYTES}
@@ -9,16 +8,18 @@ use Rattle.kl1_model.specs.declared.message.Message.{Message}
 use Rattle.kl1_model.specs.Term.{Term}
 use Rattle.kl1_model.specs.Module.{Module, Reading, good, bad, read_module}
 use Rattle.kl1_model.specs.Match.{module_of, call_of}
-use Rattle.kl1_model.specs.State.{Task, monitor, reduces, substitutes, Goal, Origin, Shoen, State, fresh, fresh_with, goal_at, shoen_at, names_of, names_of_module, with_names, has_substitutes, is_living}
-use Rattle.kl1_model.specs.Event.{exists, shoen_ended, syntax, too_many_names, limit_passed, journal_full, sessions_refused, Query, value, status, reports, modules, is_quiet, Event, load, start, control, reduce, read, login, logout, reset, answer, loaded, opened, sent, reduced, welcome, bye, Refusal, Transition, refuse, is_number, unless, are_too_many, is_full, needs_entry, with_entry, with_reduction}
+use Rattle.kl1_model.specs.State.{Task, monitor, reduces, substitutes, Goal, Origin, Shoen, State, fresh, fresh_with, goal_at, shoen_at, names_of, names_of_module, with_names, has_forgetting, is_living}
+use Rattle.kl1_model.specs.Event.{exists, shoen_ended, syntax, too_many_names, limit_passed, journal_full, sessions_refused, Query, value, status, reports, modules, is_quiet, Event, load, start, control, reduce, read, login, logout, reset, answer, forget, loaded, opened, sent, reduced, welcome, bye, Refusal, forgot, answer_refused, Transition, refuse, is_number, unless, are_too_many, is_full, needs_entry, with_entry, with_reduction}
 use Rattle.kl1_model.specs.Look.{goal_look}
 use Rattle.kl1_model.specs.Tree.{is_enabled}
 use Rattle.kl1_model.specs.Control.{Control, awaits_message, tells, tells_other, ends, breaks_off, control_of}
 use Rattle.kl1_model.specs.Opening.{may_start, has_room_to_start, start_goal}
 use Rattle.kl1_model.specs.Reduction.{Move, Action, moves, reads, term_move, read_action, task_action, action_of, acted, reduce_goal}
 use Rattle.kl1_model.specs.Sending.{may_send, has_room_to_send, sent_on, send_living, send_to}
-use Rattle.kl1_model.specs.Asking.{origin_at, reply_to}
-use Rattle.kl1_model.specs.Answering.{may_answer, has_room_to_answer, unanswered_at, answered, answer_by, answer_living, answer_to}
+use Rattle.kl1_model.specs.Asking.{origin_at, kept_at, reply_to}
+use Rattle.kl1_model.specs.Answering.{may_answer, has_room_to_answer, asked_at, given, answered, answer_by, answer_living, answer_to}
+use Rattle.kl1_model.specs.Telling.{Asked}
+use Rattle.kl1_model.specs.Forgetting.{may_forget, gone, may_go, forget_by, forget_of}
 use Rattle.kl1_model.specs.Choice.{is_in_run}
 use Rattle.kl1_model.specs.Step.{load_module, start_by, step}
 use Rattle.kl1_model.specs.code.Steps.{substitute_move, monitor_action, reduced_by, send_by, value_of, status_of, reports_of, answer_in, with_module}
@@ -35,7 +36,8 @@ pub record Keeping (P : State → Type 0) : Type 0 where
   pub sends : (s : State) (n : ℕ) (m : Message) (h : Shoen) (o : Origin) → IsTree s → shoen_at n s.shoens ≡ Some h → h.origin ≡ Some o → P s → P (with_entry (sent_on n m o.control s))
   pub moving : (s : State) (r : Bool) (n clause : ℕ) (g : Goal) (t : Term) (m : Move) → IsTree s → goal_at n s.goals ≡ Some g → g.task ≡ reduces t → term_move s.rules s.modules t clause (call_of t) ≡ Some m → is_enabled s g ≡ true → P s → P (acted g (moves t m) (with_reduction r s))
   pub substituting : (s : State) (r : Bool) (n : ℕ) (g : Goal) (t : Term) (m : Move) → IsTree s → goal_at n s.goals ≡ Some g → g.task ≡ substitutes t → substitute_move (goal_look t) ≡ Some m → is_enabled s g ≡ true → P s → P (acted g (moves t m) (with_reduction r s))
-  pub answers : (s : State) (n report v : ℕ) (t : Term) (h : Shoen) (o : Origin) → IsTree s → shoen_at n s.shoens ≡ Some h → h.origin ≡ Some o → may_answer n report t ≡ true → has_room_to_answer s t ≡ true → unanswered_at o.reports report ≡ Some v → P s → P (with_entry (answered v t s))
+  pub answers : (s : State) (n report : ℕ) (a : Asked) (t : Term) (h : Shoen) (o : Origin) → IsTree s → shoen_at n s.shoens ≡ Some h → h.origin ≡ Some o → may_answer s.rules n report t ≡ true → has_room_to_answer s (given s (Some a) t).new t ≡ true → asked_at o report ≡ Some a → P s → P (with_entry (answered a.new (given s (Some a) t) t s))
+  pub forgets : (s : State) (n count : ℕ) (h : Shoen) (o : Origin) → IsTree s → shoen_at n s.shoens ≡ Some h → h.origin ≡ Some o → may_go count h o ≡ true → P s → P (with_entry (gone n count o s))
   pub reading : (s : State) (r : Bool) (n : ℕ) (g : Goal) (h : Shoen) (c : Control) → IsTree s → goal_at n s.goals ≡ Some g → shoen_at g.shoen s.shoens ≡ Some h → control_of h.control ≡ c → P s → P (acted g (reads c) (with_reduction r s))
 
 some_if : {A : Type 0} (c : Bool) (o : Option A) (a : A) → (if c then o else None) ≡ Some a → o ≡ Some a
@@ -73,14 +75,14 @@ module _ (P : State → Type 0) (k : Keeping P) where
   holds_load s source (bad line) e p = p
   holds_load s source (good m) e p =
       holds_unless s
-      ((is_some (module_of s.modules m.name), exists) ∷ (are_too_many (with_names s.names (names_of_module m)), too_many_names)
+      ((is_some (module_of s.modules m.name), exists) ∷ (are_too_many s.rules (with_names s.names (names_of_module m)), too_many_names)
       ∷ (not (nat_lt (length s.modules) MOST_MODULES), limit_passed) ∷ (is_full s, journal_full) ∷ []) (record { state = with_entry (with_module s m); reply = loaded m.name }) p
       (k.loads s source m e p)
 
   holds_start : (s : State) (allowance low high : ℕ) (t : Term) → IsTree s → P s → Holds (step s (start allowance low high t))
   holds_start s allowance low high t tree p =
       holds_if (may_start allowance low high t) s (start_by s allowance low high t) syntax p λ may.
-      holds_room s (are_too_many (with_names s.names (names_of t))) (has_room_to_start s t) (is_full s) too_many_names limit_passed journal_full
+      holds_room s (are_too_many s.rules (with_names s.names (names_of t))) (has_room_to_start s t) (is_full s) too_many_names limit_passed journal_full
       (record { state = with_entry (start_goal s allowance low high t); reply = opened (suc s.last_shoen) }) p λ room. k.starts s allowance low high t tree may room p
 
   holds_by : (s : State) (n : ℕ) (m : Message) (h : Shoen) (o : Option Origin) → h.origin ≡ o → shoen_at n s.shoens ≡ Some h → IsTree s → P s → Holds (send_by s n m h o)
@@ -97,23 +99,42 @@ module _ (P : State → Type 0) (k : Keeping P) where
   -- an answer that may be given
   record Answers (s : State) (n report : ℕ) (t : Term) : Type 0 where
     tree : IsTree s
-    may : may_answer n report t ≡ true
+    may : may_answer s.rules n report t ≡ true
     holds : P s
 
-  answers_by : (s : State) (n report : ℕ) (t : Term) (h : Shoen) (o : Origin) (v : Option ℕ) → unanswered_at o.reports report ≡ v → h.origin ≡ Some o → shoen_at n s.shoens ≡ Some h → has_room_to_answer s t ≡ true → Answers s n report t → Holds (answer_by s t v)
+  answers_by : (s : State) (n report : ℕ) (t : Term) (h : Shoen) (o : Origin) (v : Option Asked) → asked_at o report ≡ v → h.origin ≡ Some o → shoen_at n s.shoens ≡ Some h → has_room_to_answer s (given s v t).new t ≡ true → Answers s n report t → Holds (answer_by s (given s v t) t v)
   answers_by s n report t h o None e origin there room a = a.holds
-  answers_by s n report t h o (Some v) e origin there room a = k.answers s n report v t h o a.tree there origin a.may room e a.holds
+  answers_by s n report t h o (Some v) e origin there room a =
+      let g = given s (Some v) t in
+      holds_unless s ((g.tells_gone, answer_refused) ∷ []) (record { state = with_entry (answered v.new g t s); reply = sent }) a.holds
+      (k.answers s n report v t h o a.tree there origin a.may room e a.holds)
 
   answers_in : (s : State) (n report : ℕ) (t : Term) (h : Shoen) (o : Option Origin) → h.origin ≡ o → shoen_at n s.shoens ≡ Some h → Answers s n report t → Holds (answer_in s report t h o)
   answers_in s n report t h None e there a = a.holds
   answers_in s n report t h (Some o) e there a =
+      let v = asked_at o report in
       holds_if (is_living h.life) s (answer_living s report t o) shoen_ended a.holds λ _.
-      holds_room s (are_too_many (with_names s.names (names_of t))) (has_room_to_answer s t) (is_full s) too_many_names limit_passed journal_full
-      (answer_by s t (unanswered_at o.reports report)) a.holds λ room. answers_by s n report t h o (unanswered_at o.reports report) refl e there room a
+      holds_room s (are_too_many s.rules (with_names s.names (names_of t))) (has_room_to_answer s (given s v t).new t) (is_full s) too_many_names limit_passed journal_full
+      (answer_by s (given s v t) t v) a.holds λ room. answers_by s n report t h o v refl e there room a
 
   answers_to : (s : State) (n report : ℕ) (t : Term) (o : Option Shoen) → shoen_at n s.shoens ≡ o → Answers s n report t → Holds (answer_to s report t o)
   answers_to s n report t None e a = a.holds
   answers_to s n report t (Some h) e a = answers_in s n report t h h.origin refl e a
+
+  holds_may : (c : Bool) (s : State) (x : Transition) (r : Refusal) → P s → (c ≡ true → Holds x) → Holds (if not c then refuse s r else x)
+  holds_may true s x r p f = f refl
+  holds_may false s x r p f = p
+
+  forgets_by : (s : State) (n count : ℕ) (h : Shoen) (o : Option Origin) → h.origin ≡ o → shoen_at n s.shoens ≡ Some h → IsTree s → P s → Holds (forget_by s n count h o)
+  forgets_by s n count h None e there tree p = p
+  forgets_by s n count h (Some o) e there tree p =
+      let x : Transition = record { state = with_entry (gone n count o s); reply = forgot } in
+      holds_or (is_full s) s (if not (may_go count h o) then refuse s answer_refused else x) journal_full p
+      (holds_may (may_go count h o) s x answer_refused p λ may. k.forgets s n count h o tree there e may p)
+
+  forgets_of : (s : State) (n count : ℕ) (o : Option Shoen) → shoen_at n s.shoens ≡ o → IsTree s → P s → Holds (forget_of s n count o)
+  forgets_of s n count None e tree p = p
+  forgets_of s n count (Some h) e tree p = forgets_by s n count h h.origin refl e tree p
 
   -- an account in which a goal has done what it can
   abbrev Acts : State → Bool → Goal → Action → Type 0
@@ -175,7 +196,7 @@ module _ (P : State → Type 0) (k : Keeping P) where
 
   holds_answer : (s : State) (q : Query) → P s → Holds (reply_to s q)
   holds_answer s (value n) p = holds_if (is_number n) s (value_of s (origin_at n s.shoens)) syntax p λ _. holds_value s (origin_at n s.shoens) p
-  holds_answer s (status n) p = holds_if (is_number n) s (status_of s (shoen_at n s.shoens)) syntax p λ _. holds_status s (shoen_at n s.shoens) p
+  holds_answer s (status n) p = holds_if (is_number n) s (status_of s (kept_at n s.shoens)) syntax p λ _. holds_status s (kept_at n s.shoens) p
   holds_answer s (reports n from) p =
       holds_if (is_number n && is_number from && nat_le 1 from) s (reports_of s from (origin_at n s.shoens)) syntax p λ _. holds_reports s from (origin_at n s.shoens) p
   holds_answer s modules p = p
@@ -192,8 +213,9 @@ module _ (P : State → Type 0) (k : Keeping P) where
   holds_step s logout tree p = holds_if (nat_lt 0 s.sessions) s (record { state = record s { sessions = s.sessions - 1 }; reply = bye }) sessions_refused p λ _. k.seats s (s.sessions - 1) p
   holds_step s reset tree p = k.fresh s.rules s.own_name s.names s.sessions
   holds_step s (answer n report t) tree p =
-      holds_if (has_substitutes s.rules && may_answer n report t) s (answer_to s report t (shoen_at n s.shoens)) syntax p λ may.
-      answers_to s n report t (shoen_at n s.shoens) refl (record { tree = tree; may = (and_parts (has_substitutes s.rules) (may_answer n report t) may).1; holds = p })
+      holds_if (may_answer s.rules n report t) s (answer_to s report t (shoen_at n s.shoens)) syntax p λ may.
+      answers_to s n report t (shoen_at n s.shoens) refl (record { tree = tree; may = may; holds = p })
+  holds_step s (forget n count) tree p = holds_if (has_forgetting s.rules && may_forget n count) s (forget_of s n count (shoen_at n s.shoens)) syntax p λ _. forgets_of s n count (shoen_at n s.shoens) refl tree p
 
   holds_after : (s : State) (es : List Event) → IsTree s → P s → P (after s es)
   holds_after s [] tree p = p

@@ -129,27 +129,27 @@ too_many_entries_row : (step (with_entries 16777216 (fresh Four (codes "alice"))
 unfolding digits tokens_within expression_at parted_by grouped_by mgu_within path_within
 too_many_entries_row = refl
 
-run_line_row : entry_in (codes "run 5") ≡ Some (runs 5)
+run_line_row : entry_in Four (codes "run 5") ≡ Some (runs 5)
 unfolding digits tokens_within expression_at parted_by grouped_by mgu_within path_within
 run_line_row = refl
 
-run_line_of_0_row : entry_in (codes "run 0") ≡ None
+run_line_of_0_row : entry_in Four (codes "run 0") ≡ None
 unfolding digits tokens_within expression_at parted_by grouped_by mgu_within path_within
 run_line_of_0_row = refl
 
-run_line_with_a_zero_row : entry_in (codes "run 05") ≡ None
+run_line_with_a_zero_row : entry_in Four (codes "run 05") ≡ None
 unfolding digits tokens_within expression_at parted_by grouped_by mgu_within path_within
 run_line_with_a_zero_row = refl
 
-run_line_without_a_number_row : entry_in (codes "run ") ≡ None
+run_line_without_a_number_row : entry_in Four (codes "run ") ≡ None
 unfolding digits tokens_within expression_at parted_by grouped_by mgu_within path_within
 run_line_without_a_number_row = refl
 
-run_line_of_63_bits_row : entry_in (codes "run 9223372036854775807") ≡ Some (runs 9223372036854775807)
+run_line_of_63_bits_row : entry_in Four (codes "run 9223372036854775807") ≡ Some (runs 9223372036854775807)
 unfolding digits tokens_within expression_at parted_by grouped_by mgu_within path_within
 run_line_of_63_bits_row = refl
 
-run_line_of_64_bits_row : entry_in (codes "run 9223372036854775808") ≡ None
+run_line_of_64_bits_row : entry_in Four (codes "run 9223372036854775808") ≡ None
 unfolding digits tokens_within expression_at parted_by grouped_by mgu_within path_within
 run_line_of_64_bits_row = refl
 
@@ -157,7 +157,7 @@ heading_of_four_row : heading_in (codes "journal 4 0 0") ≡ Some (record { rule
 unfolding digits tokens_within expression_at parted_by grouped_by mgu_within path_within
 heading_of_four_row = refl
 
-heading_of_five_row : heading_in (codes "journal 5 0 0") ≡ None
+heading_of_five_row : heading_in (codes "journal 6 0 0") ≡ None
 unfolding digits tokens_within expression_at parted_by grouped_by mgu_within path_within
 heading_of_five_row = refl
 

@@ -155,11 +155,11 @@ goals_after_an_abort_row : (after_lines with_substitute (codes "abort 1" ∷ cod
 unfolding digits tokens_within expression_at parted_by grouped_by mgu_within path_within
 goals_after_an_abort_row = refl
 
-answer_line_row : entry_in (codes "answer 1 2 '='(_1,2)") ≡ Some (answers 1 2 (equals (variable 1) (integer (pos 2))))
+answer_line_row : entry_in Two (codes "answer 1 2 '='(_1,2)") ≡ Some (answers 1 2 (equals (variable 1) (integer (pos 2))))
 unfolding digits tokens_within expression_at parted_by grouped_by mgu_within path_within
 answer_line_row = refl
 
-answer_line_in_another_spelling_row : entry_in (codes "answer 1 2 X = 2") ≡ None
+answer_line_in_another_spelling_row : entry_in Two (codes "answer 1 2 X = 2") ≡ None
 unfolding digits tokens_within expression_at parted_by grouped_by mgu_within path_within
 answer_line_in_another_spelling_row = refl
 
@@ -171,7 +171,7 @@ heading_line_of_version_3_row : heading_in (codes "journal 3 4 1024") ≡ Some (
 unfolding digits tokens_within expression_at parted_by grouped_by mgu_within path_within
 heading_line_of_version_3_row = refl
 
-heading_line_of_version_5_row : heading_in (codes "journal 5 0 0") ≡ None
+heading_line_of_version_5_row : heading_in (codes "journal 6 0 0") ≡ None
 unfolding digits tokens_within expression_at parted_by grouped_by mgu_within path_within
 heading_line_of_version_5_row = refl
 

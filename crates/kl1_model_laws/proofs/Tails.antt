@@ -1,29 +1,29 @@
 -- The console's control tails are unbound, since no goal, report or other shoen has them.
-use Rattle.std.proofs.Common.{◌≡◌, ◌≤◌, ◌<◌, ℕ, suc, ◌+◌, ◌-◌, ◌==◌, not, ◌&&◌, Bool, true, false, if◌then◌else◌, List, [], ◌∷◌, ◌++◌, refl, sym, ap, ◌∙◌, subst, arith}
+use Rattle.std.proofs.Common.{◌≡◌, ◌≤◌, ◌<◌, ℕ, zero, suc, ◌+◌, ◌-◌, ◌==◌, not, ◌&&◌, ◌||◌, Bool, true, false, if◌then◌else◌, List, [], ◌∷◌, ◌++◌, refl, sym, ap, ◌∙◌, subst, arith}
 use Rattle.std.specs.Prelude.{nat_le, map, length, Option, Some, None, option_map}
 use Rattle.std.specs.List.{AllByRecursion}
-use Rattle.std.proofs.lemmas.Bool.{and_parts, eqb-true, eqb-false, eq-eqb, ne_eqb, leb-false}
-use Rattle.std.proofs.Math.Nat.{le-max_left, le-max_right}
+use Rattle.std.proofs.lemmas.Bool.{and_parts, eqb-true, eqb-false, eq-eqb, ne_eqb}
 use Rattle.kl1_model.specs.declared.limits.TheConstants.{MOST_LINE_BYTES}
 use Rattle.kl1_model.specs.declared.message.Message.{Message}
-use Rattle.kl1_model.specs.Term.{Term, variable, atom, terms_of, replace, Replacement, substituted}
-use Rattle.kl1_model.specs.Meaning.{nil, cell, highest, highest_in, is_numbered, is_writable}
+use Rattle.kl1_model.specs.declared.rules.Rules.{Rules}
+use Rattle.kl1_model.specs.Term.{Term, variable, occurs, replace}
+use Rattle.kl1_model.specs.Meaning.{cell, variables_of, highest, is_numbered, is_writable}
 use Rattle.kl1_model.specs.Goal.{is_goal}
-use Rattle.kl1_model.specs.Unify.{mgu}
-use Rattle.kl1_model.specs.Module.{goals_of}
-use Rattle.kl1_model.specs.Match.{Candidate, call_of, term_at}
-use Rattle.kl1_model.specs.Instance.{head_variables, fresh_variables, body_variable, body_instance, body_priorities}
+use Rattle.kl1_model.specs.Module.{is_among}
+use Rattle.kl1_model.specs.Match.{call_of}
 use Rattle.kl1_model.specs.Look.{goal_look}
 use Rattle.kl1_model.specs.Control.{message_term, Control, control_of}
-use Rattle.kl1_model.specs.State.{Task, monitor, reduces, substitutes, Goal, Origin, Shoen, State, has_substitutes, goal_at, shoen_at, replace_in_task, replace_in_goal, replace_in_origin, replace_in_shoen, without_goal, with_name}
-use Rattle.kl1_model.specs.Tree.{charge}
-use Rattle.kl1_model.specs.Event.{is_number, is_range, are_too_many, with_entry, with_reduction}
-use Rattle.kl1_model.specs.Report.{report, is_reported, exception, exception_with, failure, exhaustion, started_report, exhausted_report}
-use Rattle.kl1_model.specs.Opening.{start_line, may_start, with_shoen, open_shoen, with_next_variables, start_goal, has_room_for_child, child_shoen, open_child}
-use Rattle.kl1_model.specs.Reduction.{Move, commits, raises, unifies, names, opens, goes, gives_way, moves, reads, goals_from, has_room_for, committed, replaced_by, substituted_by, raised, unified, equation, or_exhaustion, moved, heard, acted, term_move}
-use Rattle.kl1_model.specs.Answering.{answer_line, may_answer, unanswered_at, answered}
+use Rattle.kl1_model.specs.State.{Task, monitor, reduces, substitutes, Goal, Origin, Shoen, State, has_substitutes, has_told, is_living, goal_at, shoen_at, replace_in_task, replace_in_goal, replace_in_origin, replace_in_shoen}
+use Rattle.kl1_model.specs.Tree.{is_on_path}
+use Rattle.kl1_model.specs.Event.{is_number, is_range, with_entry, with_reduction}
+use Rattle.kl1_model.specs.Report.{report}
+use Rattle.kl1_model.specs.Opening.{start_line, may_start, with_next_variables, start_goal}
+use Rattle.kl1_model.specs.Reduction.{Move, moves, reads, heard, acted, term_move}
+use Rattle.kl1_model.specs.Answering.{answer_line, may_answer, is_numbered_by, asked_at, given, answered}
+use Rattle.kl1_model.specs.Telling.{Asked, Given, stands_in, new_among, place_among, given_variable, given_told, is_told_term}
+use Rattle.kl1_model.specs.Forgetting.{without_reports, with_origin, empty_place, gone_below, gone}
 use Rattle.kl1_model.specs.Sending.{with_control_tail, sent_on}
-use Rattle.kl1_model.specs.code.Steps.{opening_goals, substitute_move, origin_with, priority_of, named_by}
+use Rattle.kl1_model.specs.code.Steps.{substitute_move, origin_with}
 use Rattle.kl1_model.specs.laws.TreeLaws.{IsTree}
 use Rattle.kl1_model.proofs.TreeKeeps.{kept_tree}
 use Rattle.kl1_model.proofs.TreeGrows.{with_reduction_keeps}
@@ -32,110 +32,11 @@ use Rattle.kl1_model_laws.specs.ControlLaws.{is_unbound, messages_then, ControlT
 use Rattle.kl1_model_laws.proofs.Allowances.{found_number}
 use Rattle.kl1_model_laws.proofs.Reaching.{Keeping, holds_reached}
 use Rattle.kl1_model_laws.proofs.Alike.{begun, begun_shoen}
-use Rattle.kl1_model_laws.proofs.Holds.{Holds, holds_weaker, holds_unchanged, holds_substituted, holds_highest, holds_both, holds_positive, holds_solved, Places, InMove, in_move, in_substitute, holds_unanswered, holds_term_at}
-use Rattle.kl1_model_laws.proofs.Each.{all_weaker, all_append, found_shoen, the_goal, Only, only}
-use Rattle.kl1_model_laws.proofs.Owners.{Free, IsFree, TaskFree, Console, ControlOf, Owned, Of, stream_replaced, stream_longer, term_raised, own_higher, own_replace, own_if, own_report, report_last, own_all, fewer, own_settle, own_settle_charged, own_heard}
-
--- ---- moves
-
--- a goal in the place of another, with free variables alone
-own_placed : (c : ℕ → ℕ) (g : Goal) (task : Task) (s : State) → TaskFree c s.last_variable task → Of c s → Of c (replaced_by g task s)
-own_placed c g task s f a = record { goals = all_append (λ k. TaskFree c s.last_variable k.task) s.goals _ a.goals (f, tt); shoens = a.shoens; above = a.above }
-
--- an exception, with what a substitute waits for
-own_substituted : (c : ℕ → ℕ) (g : Goal) (kind : List ℕ) (t : Term) (s : State) → IsFree c s.last_variable t → Of c s → Of c (substituted_by g kind t s)
-own_substituted c g kind t s f a =
-    let new = suc s.last_variable in
-    let free : IsFree c new (variable new) = (a.above new (omega arith), omega arith) in
-    let told = exception_with kind t (variable new) in
-    let u = record s { last_variable = new } in
-    let b : Of c u = own_higher c s.last_variable new s.goals s.shoens (omega arith) a in
-    own_placed c g (substitutes (variable new)) (report g.shoen told u) (term_raised c new (report g.shoen told u).last_variable (variable new) (report_last g.shoen told u) free)
-    (own_report c g.shoen told u (tt, (term_raised c s.last_variable new t (omega arith) f, (free, tt))) b)
-
-own_raised : (c : ℕ → ℕ) (g : Goal) (kind : List ℕ) (t : Term) (s : State) → IsFree c s.last_variable t → Of c s → Of c (raised g kind t s)
-own_raised c g kind t s f a =
-    own_if (has_substitutes s.rules && is_reported g.shoen (exception kind t) s) c (substituted_by g kind t s) (report g.shoen (exception kind t) s)
-    (own_substituted c g kind t s f a) (own_report c g.shoen (exception kind t) s (tt, (f, tt)) a)
-
-own_unified : (c : ℕ → ℕ) (g : Goal) (t a b : Term) (o : Option (List Replacement)) (s : State) → mgu (equation a b) ≡ o → IsFree c s.last_variable t → IsFree c s.last_variable a → IsFree c s.last_variable b → Of c s → Of c (unified g t o s)
-own_unified c g t a b None s e f h k own = own_raised c g failure t s f own
-own_unified c g t a b (Some rs) s e f h k own = own_all c rs s (holds_solved (Free c s.last_variable) a b rs h k e) own
-
-own_or : (b : Bool) (c : ℕ → ℕ) (g : Goal) (t : Term) (u s : State) → IsFree c s.last_variable t → Of c u → Of c s → Of c (or_exhaustion b g t u s)
-own_or true c g t u s f a b = a
-own_or false c g t u s f a b = own_raised c g exhaustion t s f b
-
--- a shoen that opens, with its goal
-own_open : (c : ℕ → ℕ) (h : Shoen) (goal : Term) (s : State) → Owned c s.last_variable h → IsFree c s.last_variable goal → Of c s → Of c (open_shoen h goal s)
-own_open c h goal s own f a =
-    let t = with_shoen h goal s in
-    let b : Of c t = record {
-      goals = all_append (λ g. TaskFree c s.last_variable g.task) s.goals (opening_goals s.last_goal h goal) a.goals (tt, (f, tt));
-      shoens = all_append (Owned c s.last_variable) s.shoens (h ∷ []) a.shoens (own, tt);
-      above = a.above;
-    } in
-    let u = report h.number started_report t in
-    let d = own_report c h.number started_report t tt b in
-    own_if (h.allowance == 0) c (report h.number exhausted_report u) u (own_report c h.number exhausted_report u tt d) d
-
-own_from : (c : ℕ → ℕ) (top last shoen : ℕ) (ps : List ℕ) (ts : List Term) → AllByRecursion (IsFree c top) ts → AllByRecursion (λ (g : Goal). TaskFree c top g.task) (goals_from last shoen ps ts)
-own_from c top last shoen [] [] a = tt
-own_from c top last shoen [] (t ∷ ts) a = tt
-own_from c top last shoen (p ∷ ps) [] a = tt
-own_from c top last shoen (p ∷ ps) (t ∷ ts) a = (a.0, own_from c top (suc last) shoen ps ts a.1)
-
-body_holds : (R P : ℕ → Type 0) (f : ℕ → Term) → ((v : ℕ) → R v → Holds P (f v)) → (ts : List Term) → AllByRecursion (Holds R) ts → AllByRecursion (Holds P) (map (substituted f) ts)
-body_holds R P f k [] a = tt
-body_holds R P f k (t ∷ ts) a = (holds_substituted R P f k t a.0, body_holds R P f k ts a.1)
-
-each_below : (top : ℕ) (ts : List Term) → highest_in (terms_of ts) ≤ top → AllByRecursion (Holds (λ v. v ≤ top)) ts
-each_below top [] e = tt
-each_below top (t ∷ ts) e =
-    let a = le-max_left (highest t) (highest_in (terms_of ts)) in
-    let b = le-max_right (highest t) (highest_in (terms_of ts)) in
-    (holds_highest top t (omega (arith, a, e)), each_below top ts (omega (arith, b, e)))
-
-body_case : (b : Bool) (c : ℕ → ℕ) (last top head v : ℕ) (ps : List Replacement) → nat_le v head ≡ b → v ≤ top → ((w : ℕ) → last < w → c w ≡ 0) → Places (Free c last) ps →
-    IsFree c (last + (top - head)) (if b then term_at ps v nil else variable (last + (v - head)))
-body_case true c last top head v ps e low above places = term_raised c last (last + (top - head)) (term_at ps v nil) (omega arith) (holds_term_at (Free c last) ps v places)
-body_case false c last top head v ps e low above places =
-    let less = leb-false v head e in
-    (above (last + (v - head)) (omega (arith, less)), omega (arith, less, low))
-
-own_commit : (c : ℕ → ℕ) (g : Goal) (k : Candidate) (s : State) → Places (Free c s.last_variable) k.places → Of c s → Of c (committed g k s)
-own_commit c g k s places a =
-    let last = s.last_variable in
-    let top = highest_in (terms_of (goals_of k.clause.body)) in
-    let next = last + fresh_variables k.clause in
-    let up = own_higher c last next s.goals s.shoens (omega arith) a in
-    let body = body_holds (λ v. v ≤ top) (Free c next) (body_variable k.clause k.places last) (λ v low. body_case (nat_le v (head_variables k.clause)) c last top (head_variables k.clause) v k.places refl low a.above places) (goals_of k.clause.body) (each_below top (goals_of k.clause.body) (omega arith)) in
-    let ps = map (priority_of (shoen_at g.shoen s.shoens) g.priority) (body_priorities k.clause) in
-    record {
-      goals = all_append (λ g. TaskFree c next g.task) s.goals (goals_from s.last_goal g.shoen ps (body_instance k.clause k.places last)) up.goals (own_from c next s.last_goal g.shoen ps (body_instance k.clause k.places last) body);
-      shoens = up.shoens;
-      above = up.above;
-    }
-
-own_moved : (c : ℕ → ℕ) (g : Goal) (t : Term) (m : Move) (s : State) → IsFree c s.last_variable t → InMove (Free c s.last_variable) m → Of c s → Of c (moved g t m s)
-own_moved c g t (commits k) s f h a = own_or (has_room_for s k.clause) c g t (committed g k s) s f (own_commit c g k s h a) a
-own_moved c g t (raises kind) s f h a = own_raised c g kind t s f a
-own_moved c g t (unifies x y) s f h a = own_unified c g t x y (mgu (equation x y)) s refl f h.0 h.1 a
-own_moved c g t (names text x) s f h a =
-    let u = record s { names = with_name s.names text } in
-    let b : Of c u = record { goals = a.goals; shoens = a.shoens; above = a.above } in
-    own_or (not (are_too_many (with_name s.names text))) c g t (named_by g t text x s) s f (own_unified c g t x (atom text) (mgu (equation x (atom text))) u refl f h tt b) a
-own_moved c g t (opens o) s f h a =
-    own_or (has_room_for_child s g.shoen) c g t (open_child s g.shoen o) s f (own_open c (child_shoen s g.shoen o) o.goal s (record { tail = h.2; control = h.1 }) h.0 a) a
-own_moved c g t goes s f h a = a
-own_moved c g t gives_way s f h a = own_placed c g (reduces t) s f a
-
-own_acted : (c : ℕ → ℕ) (g : Goal) (t : Term) (m : Move) (s : State) → IsFree c s.last_variable t → InMove (Free c s.last_variable) m → Of c s → Of c (acted g (moves t m) s)
-own_acted c g t m s f h a =
-    let worked = charge g.shoen (without_goal g.number s) in
-    let b = fewer c (λ k. not (k.number == g.number)) s a in
-    let d : Of c worked = record { goals = b.goals; shoens = b.shoens; above = b.above } in
-    own_settle_charged c g.shoen (moved g t m worked) (own_moved c g t m worked f h d)
+use Rattle.kl1_model_laws.proofs.GivenPlaces.{place_is_low, place_is_bound, each_given}
+use Rattle.kl1_model_laws.proofs.Holds.{holds_weaker, holds_unchanged, holds_substituted, holds_highest, holds_both, holds_positive, InMove, in_move, in_substitute, holds_asked, holds_occurring, holds_without, listed}
+use Rattle.kl1_model_laws.proofs.Each.{all_map, all_weaker, found_shoen, the_goal, Only, only}
+use Rattle.kl1_model_laws.proofs.Owners.{Free, IsFree, TaskFree, Console, ControlOf, Owned, Of, stream_replaced, stream_longer, term_raised, own_higher, own_replace, own_settle, own_heard}
+use Rattle.kl1_model_laws.proofs.TailMoves.{own_open, own_acted}
 
 -- ---- messages from the console
 
@@ -317,10 +218,10 @@ own_start s allowance low high t may p =
 
 -- ---- answers
 
-answer_numbered : (n report : ℕ) (t : Term) → may_answer n report t ≡ true → is_numbered t ≡ true
-answer_numbered n report t may =
-    let a = and_parts (is_number n && is_number report && nat_le 1 report && is_goal t && is_writable t && is_numbered t) (nat_le (length (answer_line n report t)) MOST_LINE_BYTES) may in
-    (and_parts (is_number n && is_number report && nat_le 1 report && is_goal t && is_writable t) (is_numbered t) a.0).1
+answer_numbered : (rules : Rules) (n report : ℕ) (t : Term) → may_answer rules n report t ≡ true → is_numbered_by rules t ≡ true
+answer_numbered rules n report t may =
+    let rest = has_substitutes rules && is_number n && is_number report && nat_le 1 report && is_goal t && is_writable t in
+    (and_parts rest (is_numbered_by rules t) (and_parts (rest && is_numbered_by rules t) (nat_le (length (answer_line n report t)) MOST_LINE_BYTES) may).0).1
 
 -- an answer's variables are new
 answer_free : (c : ℕ → ℕ) (last : ℕ) (t : Term) → is_numbered t ≡ true → ((w : ℕ) → last < w → c w ≡ 0) → IsFree c (last + highest t) (with_next_variables last t)
@@ -328,17 +229,86 @@ answer_free c last t numbered above =
     holds_substituted (λ v. (0 < v) × (v ≤ highest t)) (Free c (last + highest t)) (λ v. variable (last + v)) (λ v r. let x = r.0 in let y = r.1 in (above (last + v) (omega (arith, x)), omega (arith, y))) t
     (holds_both (λ v. 0 < v) (λ v. v ≤ highest t) t (holds_positive t numbered) (holds_highest (highest t) t (omega arith)))
 
-own_answered : (s : State) (n report v : ℕ) (t : Term) (h : Shoen) (o : Origin) → shoen_at n s.shoens ≡ Some h → h.origin ≡ Some o → may_answer n report t ≡ true → unanswered_at o.reports report ≡ Some v → Tails s → Tails (answered v t s)
-own_answered s n report v t h o there e may is p =
+-- a variable that is told stands in the goal of the exception, and the others are new
+told_free : (b : Bool) (c : ℕ → ℕ) (last : ℕ) (a : Asked) (new : List ℕ) (v : ℕ) → stands_in a v ≡ b → (b || is_among v new) ≡ true → IsFree c last a.goal → ((w : ℕ) → last < w → c w ≡ 0) →
+    IsFree c (last + length new) (if b then variable v else variable (last + place_among new v))
+told_free true c last a new v e is goal above = term_raised c last (last + length new) (variable v) (omega arith) (holds_occurring (Free c last) v a.goal goal (and_parts (occurs v a.goal) (not (v == a.new)) e).0)
+told_free false c last a new v e is goal above =
+    let low = place_is_low new v in let bound = place_is_bound new v is in
+    (above (last + place_among new v) (omega (arith, low)), omega (arith, bound))
+
+-- the goal that an answer comes to
+abbrev given_by : Bool → ℕ → Asked → Term → Given
+given_by b last a t = if b then given_told (Some a) last t else record { goal = with_next_variables last t; new = highest t; tells_gone = false }
+
+given_free : (b : Bool) (c : ℕ → ℕ) (last : ℕ) (a : Asked) (t : Term) → (if b then is_told_term t else is_numbered t) ≡ true → IsFree c last a.goal → ((w : ℕ) → last < w → c w ≡ 0) →
+    IsFree c (last + (given_by b last a t).new) (given_by b last a t).goal
+given_free true c last a t e goal above =
+    let new = new_among (Some a) [] (variables_of t) in
+    holds_substituted (λ v. (stands_in a v || is_among v new) ≡ true) (Free c (last + length new)) (given_variable (Some a) new last) (λ v is. told_free (stands_in a v) c last a new v refl is goal above) t
+    (listed (λ v. (stands_in a v || is_among v new) ≡ true) t (each_given a [] (variables_of t)))
+given_free false c last a t e goal above = answer_free c last t e above
+
+own_answered : (s : State) (n report : ℕ) (k : Asked) (t : Term) (h : Shoen) (o : Origin) → shoen_at n s.shoens ≡ Some h → h.origin ≡ Some o → may_answer s.rules n report t ≡ true → asked_at o report ≡ Some k → Tails s → Tails (answered k.new (given s (Some k) t) t s)
+own_answered s n report k t h o there e may is p =
     let c = p.0 in
     let a = p.1 in
     let last = s.last_variable in
-    let top = last + highest t in
+    let g = given s (Some k) t in
+    let top = last + g.new in
     let up : last ≤ top = omega arith in
     let told = (the_console c last n s.shoens h o there e a.shoens).reports in
-    let free = holds_unanswered (Free c last) o.reports report v told is in
-    let b = own_replace c top v (with_next_variables last t) s.goals s.shoens free.0 (answer_free c last t (answer_numbered n report t may) a.above) (own_higher c last top s.goals s.shoens up a) in
+    let free = holds_asked (Free c last) o report k told is in
+    let goal : IsFree c top g.goal = given_free (has_told s.rules) c last k t (answer_numbered s.rules n report t may) free.0 a.above in
+    let b = own_replace c top k.new g.goal s.goals s.shoens free.1.0 goal (own_higher c last top s.goals s.shoens up a) in
     (c, record { goals = b.goals; shoens = b.shoens; above = b.above })
+
+-- ---- what is let go
+
+gone_owned : (b : Bool) (c : ℕ → ℕ) (last : ℕ) (k : Shoen) → Owned c last k → Owned c last (if b then empty_place k else k)
+gone_owned true c last k a = record { tail = tt; control = tt }
+gone_owned false c last k a = a
+
+reports_gone : (b : Bool) (c : ℕ → ℕ) (last n count : ℕ) (k h : Shoen) (o : Origin) → k.number == n ≡ b → (k.number ≡ n → k ≡ h) → h.origin ≡ Some o → Owned c last k →
+    Owned c last (if b then with_origin (without_reports count o) k else k)
+reports_gone true c last n count k h o e only there a =
+    let origin : k.origin ≡ Some o = ap (λ (x : Shoen). x.origin) (only (eqb-true k.number n e)) ∙ there in
+    let own : Console c last k.number k.control o = subst (ControlOf c last k.number k.control) origin a.control in
+    record {
+      tail = a.tail;
+      control = record {
+        tail = own.tail;
+        messages = own.messages;
+        is = own.is;
+        stream = own.stream;
+        owner = own.owner;
+        some = own.some;
+        low = own.low;
+        reports = holds_without (Free c last) (count - o.forgotten) o.reports own.reports;
+      };
+    }
+reports_gone false c last n count k h o e only there a = a
+
+each_gone : (c : ℕ → ℕ) (last n count : ℕ) (h : Shoen) (o : Origin) (hs : List Shoen) → Only n h hs → h.origin ≡ Some o → AllByRecursion (Owned c last) hs →
+    AllByRecursion (Owned c last) (map (λ (k : Shoen). if k.number == n then with_origin (without_reports count o) k else k) hs)
+each_gone c last n count h o [] u there a = tt
+each_gone c last n count h o (k ∷ hs) u there a = (reports_gone (k.number == n) c last n count k h o refl u.0 there a.0, each_gone c last n count h o hs u.1 there a.1)
+
+own_gone : (s : State) (n count : ℕ) (h : Shoen) (o : Origin) → IsTree s → shoen_at n s.shoens ≡ Some h → h.origin ≡ Some o → Tails s → Tails (gone n count o s)
+own_gone s n zero h o tree there e p =
+    let c = p.0 in
+    let a = p.1 in (
+      c,
+      record {
+        goals = a.goals;
+        shoens = all_map (Owned c s.last_variable) (Owned c s.last_variable) (gone_below s.shoens n) (λ (k : Shoen) own. gone_owned (not (is_living k.life) && is_on_path s.shoens n k.number) c s.last_variable k own) s.shoens a.shoens;
+        above = a.above;
+      },
+    )
+own_gone s n (suc count) h o tree there e p =
+    let c = p.0 in
+    let a = p.1 in
+    (c, record { goals = a.goals; shoens = each_gone c s.last_variable n (suc count) h o s.shoens (only 0 n h s.shoens tree.numbered there) e a.shoens; above = a.above })
 
 -- ---- events
 
@@ -380,7 +350,8 @@ keeping = record {
   sends = λ s n m h o tree there is p. entered (sent_on n m o.control s) (own_sent s n m h o tree there is p);
   moving = λ s r n clause g t m tree there task is enabled p. own_moving s r n clause g t m there task is p;
   substituting = λ s r n g t m tree there task is enabled p. own_substituting s r n g t m there task is p;
-  answers = λ s n number v t h o tree there origin may room is p. entered (answered v t s) (own_answered s n number v t h o there origin may is p);
+  answers = λ s n number k t h o tree there origin may room is p. entered (answered k.new (given s (Some k) t) t s) (own_answered s n number k t h o there origin may is p);
+  forgets = λ s n count h o tree there origin may p. entered (gone n count o s) (own_gone s n count h o tree there origin p);
   reading = λ s r n g h c tree there found is p. own_reading s r g h c tree found is p;
 }
 

@@ -52,7 +52,7 @@ command_done s c = act (with_a_journal s) c
 -- an account after lines of commands
 abbrev pub after_lines : State → List (List ℕ) → State
 after_lines s [] = s
-after_lines s (l ∷ ls) = after_lines (line_done s (parse l)).kept.state ls
+after_lines s (l ∷ ls) = after_lines (line_done s (parse s.rules l)).kept.state ls
 
 -- an account after events
 abbrev pub after_events : State → List Event → State
@@ -179,13 +179,13 @@ pub record AccountRowsHold : Type 0 where
   -- a variable becomes its result
   pub result_in_the_goal : option_map (λ o. print o.goal) (origin_at 1 (after_lines (fresh One (codes "alice")) (codes "start 10 0 10 X := 2 * 3" ∷ codes "run 10" ∷ [])).shoens) ≡ Some (codes "':='(6,'*'(2,3))")
   -- a goal waits while its expression does
-  pub expression_that_waits : (line_done (after_lines (fresh One (codes "alice")) (codes "start 10 0 10 X := 1 + Y" ∷ [])) (parse (codes "quiet"))).reply ≡ quiet_is true
+  pub expression_that_waits : (line_done (after_lines (fresh One (codes "alice")) (codes "start 10 0 10 X := 1 + Y" ∷ [])) (parse One (codes "quiet"))).reply ≡ quiet_is true
   -- and is refused
-  pub expression_by_clause_0 : (line_done (after_lines (fresh One (codes "alice")) (codes "start 10 0 10 X := 1 + Y" ∷ [])) (parse (codes "reduce 2 0"))).reply ≡ refused step_refused
+  pub expression_by_clause_0 : (line_done (after_lines (fresh One (codes "alice")) (codes "start 10 0 10 X := 1 + Y" ∷ [])) (parse One (codes "reduce 2 0"))).reply ≡ refused step_refused
   -- a built-in goal steps by clause 0 alone
-  pub built_in_goal_by_clause_1 : (line_done (after_lines (fresh One (codes "alice")) (codes "start 10 0 10 X := 1 + 1" ∷ [])) (parse (codes "reduce 2 1"))).reply ≡ refused step_refused
+  pub built_in_goal_by_clause_1 : (line_done (after_lines (fresh One (codes "alice")) (codes "start 10 0 10 X := 1 + 1" ∷ [])) (parse One (codes "reduce 2 1"))).reply ≡ refused step_refused
   -- by which it steps
-  pub built_in_goal_by_clause_0 : (line_done (after_lines (fresh One (codes "alice")) (codes "start 10 0 10 X := 1 + 1" ∷ [])) (parse (codes "reduce 2 0"))).reply ≡ reduced
+  pub built_in_goal_by_clause_0 : (line_done (after_lines (fresh One (codes "alice")) (codes "start 10 0 10 X := 1 + 1" ∷ [])) (parse One (codes "reduce 2 0"))).reply ≡ reduced
   -- a clause below `otherwise` is open while the one above rejects by the first place that was reached
   pub clause_below_opens : first (after_lines (having (lines (codes ":- module m." ∷ codes "p(f(X),X) :- X > 5 | true." ∷ codes "otherwise." ∷ codes "p(X,Y)." ∷ codes "g :- p(V,1), V = f(W)." ∷ []))) (codes "start 9 0 9 m:g" ∷ codes "run 1" ∷ [])) ≡ Some (record { goal = 3; clause = 2 })
   -- and closed when another goal binds a variable, so that an earlier place is reached, of which nothing is known
@@ -195,22 +195,22 @@ pub record AccountRowsHold : Type 0 where
   -- of which one place clashes with another
   pub one_variable_seven_and_one : stream 1 (after_lines (having (lines (codes ":- module m." ∷ codes "p(X,X,X,X,X,X,X,X)." ∷ []))) (codes "start 9 0 9 m:p(A,A,1,A,A,A,A,2)" ∷ codes "run 1" ∷ [])) ≡ codes "[started,exception(failure,m:p(_1,_1,1,_1,_1,_1,_1,2)),terminated]"
   -- a goal that each clause rejects fails
-  pub failure_is_open : (line_done (after_lines (having (lines (codes ":- module m." ∷ codes "p(f(X),X) :- X > 5 | true." ∷ codes "g :- p(V,1), V = f(W)." ∷ []))) (codes "start 9 0 9 m:g" ∷ codes "run 1" ∷ [])) (parse (codes "reduce 3 0"))).reply ≡ reduced
+  pub failure_is_open : (line_done (after_lines (having (lines (codes ":- module m." ∷ codes "p(f(X),X) :- X > 5 | true." ∷ codes "g :- p(V,1), V = f(W)." ∷ []))) (codes "start 9 0 9 m:g" ∷ codes "run 1" ∷ [])) (parse One (codes "reduce 3 0"))).reply ≡ reduced
   -- and no longer when another goal binds a variable, so that an earlier place is reached
-  pub failure_closes : (line_done (after_lines (having (lines (codes ":- module m." ∷ codes "p(f(X),X) :- X > 5 | true." ∷ codes "g :- p(V,1), V = f(W)." ∷ []))) (codes "start 9 0 9 m:g" ∷ codes "run 1" ∷ codes "reduce 4 0" ∷ [])) (parse (codes "reduce 3 0"))).reply ≡ refused step_refused
+  pub failure_closes : (line_done (after_lines (having (lines (codes ":- module m." ∷ codes "p(f(X),X) :- X > 5 | true." ∷ codes "g :- p(V,1), V = f(W)." ∷ []))) (codes "start 9 0 9 m:g" ∷ codes "run 1" ∷ codes "reduce 4 0" ∷ [])) (parse One (codes "reduce 3 0"))).reply ≡ refused step_refused
   -- the clause below `otherwise` can be named while it is open
-  pub clause_below_opens_by_number : (line_done (after_lines (having (lines (codes ":- module m." ∷ codes "p(f(X),X) :- X > 5 | true." ∷ codes "otherwise." ∷ codes "p(X,Y)." ∷ codes "g :- p(V,1), V = f(W)." ∷ []))) (codes "start 9 0 9 m:g" ∷ codes "run 1" ∷ [])) (parse (codes "reduce 3 2"))).reply ≡ reduced
+  pub clause_below_opens_by_number : (line_done (after_lines (having (lines (codes ":- module m." ∷ codes "p(f(X),X) :- X > 5 | true." ∷ codes "otherwise." ∷ codes "p(X,Y)." ∷ codes "g :- p(V,1), V = f(W)." ∷ []))) (codes "start 9 0 9 m:g" ∷ codes "run 1" ∷ [])) (parse One (codes "reduce 3 2"))).reply ≡ reduced
   -- and not when it is closed
-  pub clause_below_closes_by_number : (line_done (after_lines (having (lines (codes ":- module m." ∷ codes "p(f(X),X) :- X > 5 | true." ∷ codes "otherwise." ∷ codes "p(X,Y)." ∷ codes "g :- p(V,1), V = f(W)." ∷ []))) (codes "start 9 0 9 m:g" ∷ codes "run 1" ∷ codes "reduce 4 0" ∷ [])) (parse (codes "reduce 3 2"))).reply ≡ refused step_refused
+  pub clause_below_closes_by_number : (line_done (after_lines (having (lines (codes ":- module m." ∷ codes "p(f(X),X) :- X > 5 | true." ∷ codes "otherwise." ∷ codes "p(X,Y)." ∷ codes "g :- p(V,1), V = f(W)." ∷ []))) (codes "start 9 0 9 m:g" ∷ codes "run 1" ∷ codes "reduce 4 0" ∷ [])) (parse One (codes "reduce 3 2"))).reply ≡ refused step_refused
   -- a clause that waits closes each section below its own
-  pub second_section_waits : (line_done (after_lines (having (lines (codes ":- module m." ∷ codes "p(a,X)." ∷ codes "otherwise." ∷ codes "p(X,b)." ∷ codes "otherwise." ∷ codes "p(X,Y)." ∷ []))) (codes "start 9 0 9 m:p(c,V)" ∷ [])) (parse (codes "quiet"))).reply ≡ quiet_is true
+  pub second_section_waits : (line_done (after_lines (having (lines (codes ":- module m." ∷ codes "p(a,X)." ∷ codes "otherwise." ∷ codes "p(X,b)." ∷ codes "otherwise." ∷ codes "p(X,Y)." ∷ []))) (codes "start 9 0 9 m:p(c,V)" ∷ [])) (parse One (codes "quiet"))).reply ≡ quiet_is true
   -- so that no clause there is a candidate
-  pub third_section_is_closed : (line_done (after_lines (having (lines (codes ":- module m." ∷ codes "p(a,X)." ∷ codes "otherwise." ∷ codes "p(X,b)." ∷ codes "otherwise." ∷ codes "p(X,Y)." ∷ []))) (codes "start 9 0 9 m:p(c,V)" ∷ [])) (parse (codes "reduce 2 3"))).reply ≡ refused step_refused
+  pub third_section_is_closed : (line_done (after_lines (having (lines (codes ":- module m." ∷ codes "p(a,X)." ∷ codes "otherwise." ∷ codes "p(X,b)." ∷ codes "otherwise." ∷ codes "p(X,Y)." ∷ []))) (codes "start 9 0 9 m:p(c,V)" ∷ [])) (parse One (codes "reduce 2 3"))).reply ≡ refused step_refused
   -- which is one if all above reject
-  pub third_section_is_open : (line_done (after_lines (having (lines (codes ":- module m." ∷ codes "p(a,X)." ∷ codes "otherwise." ∷ codes "p(X,b)." ∷ codes "otherwise." ∷ codes "p(X,Y)." ∷ []))) (codes "start 9 0 9 m:p(c,d)" ∷ [])) (parse (codes "reduce 2 3"))).reply ≡ reduced
+  pub third_section_is_open : (line_done (after_lines (having (lines (codes ":- module m." ∷ codes "p(a,X)." ∷ codes "otherwise." ∷ codes "p(X,b)." ∷ codes "otherwise." ∷ codes "p(X,Y)." ∷ []))) (codes "start 9 0 9 m:p(c,d)" ∷ [])) (parse One (codes "reduce 2 3"))).reply ≡ reduced
   -- clause 0 of a call that waits is refused
-  pub clause_0_of_a_goal_that_waits : (line_done (after_lines (having one_fact) (codes "start 10 0 10 t:q(X,b)" ∷ [])) (parse (codes "reduce 2 0"))).reply ≡ refused step_refused
+  pub clause_0_of_a_goal_that_waits : (line_done (after_lines (having one_fact) (codes "start 10 0 10 t:q(X,b)" ∷ [])) (parse One (codes "reduce 2 0"))).reply ≡ refused step_refused
   -- a left side that stands in the expression is waited for
-  pub variable_in_its_own_expression : (line_done (after_lines (fresh One (codes "alice")) (codes "start 10 0 10 X := X + 1" ∷ [])) (parse (codes "quiet"))).reply ≡ quiet_is true
+  pub variable_in_its_own_expression : (line_done (after_lines (fresh One (codes "alice")) (codes "start 10 0 10 X := X + 1" ∷ [])) (parse One (codes "quiet"))).reply ≡ quiet_is true
   -- parentheses make a relation an operand
   pub equation_of_an_equation : stream 1 (after_lines (fresh One (codes "alice")) (codes "start 10 0 10 (a = b) = c" ∷ codes "run 10" ∷ [])) ≡ codes "[started,exception(failure,'='('='(a,b),c)),terminated]"

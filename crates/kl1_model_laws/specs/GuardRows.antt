@@ -10,7 +10,10 @@ use Rattle.kl1_model.specs.Token.{tokens_of_text}
 use Rattle.kl1_model.specs.Arithmetic.{operated, evaluated}
 use Rattle.kl1_model.specs.Guard.{test_of}
 use Rattle.kl1_model.specs.Module.{Module, Clause, Reading, good, bad, bare_tokens, term_of_tokens, read_module}
-use Rattle.kl1_model.specs.code.Outcome.{Outcome, agrees, clashes, waits, comparison, outcome_by, Verdict, accepts, rejects, suspends, named_verdict}
+use Rattle.kl1_model.specs.declared.comparison.Comparison.{Comparison}
+use Rattle.kl1_model.specs.Guard.{compares, test_answer}
+use Rattle.kl1_model.specs.Match.{Answer, yes, no, wait, option_answer}
+use Rattle.kl1_model.specs.code.Verdicts.{Verdict, accepts, rejects, suspends, named_verdict}
 use Rattle.kl1_model.specs.Found.{found, awaits, wrong}
 
 -- lines, each ended by a line feed
@@ -22,9 +25,13 @@ lines (l ∷ ls) = l ++ 10 ∷ lines ls
 abbrev pub term_in : List ℕ → Option Term
 term_in text = term_of_tokens (bare_tokens (tokens_of_text text).placed)
 
--- the outcome of the test that a text is
-abbrev pub outcome_in : List ℕ → Outcome
-outcome_in text = outcome_by (λ v. variable v) (option_and_then test_of (term_in text))
+-- the answer of the test that a text is
+abbrev pub answer_in : List ℕ → Answer
+answer_in text = option_answer (λ v. variable v) (option_and_then test_of (term_in text))
+
+-- the answer of a comparison of two terms
+abbrev pub comparison : Comparison → Term → Term → Answer
+comparison c t u = test_answer (compares c t u)
 
 -- ones joined by `n` operators, each sum the left operand of the next
 abbrev pub ones_to_the_left : ℕ → Term
@@ -152,91 +159,91 @@ pub record GuardRowsHold : Type 0 where
   -- wherever it stands
   pub expression_of_65_to_the_right : evaluated (ones_to_the_right 65) ≡ wrong
   -- each side of a comparison has its own 64
-  pub each_side_has_64_operators : comparison SameNumber (ones_to_the_left 64) (ones_to_the_right 64) ≡ agrees
+  pub each_side_has_64_operators : comparison SameNumber (ones_to_the_left 64) (ones_to_the_right 64) ≡ yes
   -- `true` holds
-  pub true_holds : outcome_in (codes "true") ≡ agrees
+  pub true_holds : answer_in (codes "true") ≡ yes
   -- `wait` agrees
-  pub wait_agrees : outcome_in (codes "wait(a)") ≡ agrees
+  pub wait_agrees : answer_in (codes "wait(a)") ≡ yes
   -- `wait` waits
-  pub wait_waits : outcome_in (codes "wait(X)") ≡ waits (1 ∷ [])
+  pub wait_waits : answer_in (codes "wait(X)") ≡ wait (1 ∷ [])
   -- `integer` agrees
-  pub integer_agrees : outcome_in (codes "integer(3)") ≡ agrees
+  pub integer_agrees : answer_in (codes "integer(3)") ≡ yes
   -- `integer` clashes
-  pub integer_clashes : outcome_in (codes "integer(a)") ≡ clashes
+  pub integer_clashes : answer_in (codes "integer(a)") ≡ no
   -- `integer` waits
-  pub integer_waits : outcome_in (codes "integer(X)") ≡ waits (1 ∷ [])
+  pub integer_waits : answer_in (codes "integer(X)") ≡ wait (1 ∷ [])
   -- `atom` agrees
-  pub atom_agrees : outcome_in (codes "atom([])") ≡ agrees
+  pub atom_agrees : answer_in (codes "atom([])") ≡ yes
   -- `atom` clashes
-  pub atom_clashes : outcome_in (codes "atom(f(X))") ≡ clashes
+  pub atom_clashes : answer_in (codes "atom(f(X))") ≡ no
   -- `atom` waits
-  pub atom_waits : outcome_in (codes "atom(X)") ≡ waits (1 ∷ [])
+  pub atom_waits : answer_in (codes "atom(X)") ≡ wait (1 ∷ [])
   -- `list` agrees
-  pub list_agrees : outcome_in (codes "list([X])") ≡ agrees
+  pub list_agrees : answer_in (codes "list([X])") ≡ yes
   -- `list` clashes
-  pub list_clashes : outcome_in (codes "list([])") ≡ clashes
+  pub list_clashes : answer_in (codes "list([])") ≡ no
   -- `list` waits
-  pub list_waits : outcome_in (codes "list(X)") ≡ waits (1 ∷ [])
+  pub list_waits : answer_in (codes "list(X)") ≡ wait (1 ∷ [])
   -- `=` agrees with the same term
-  pub same_agrees : outcome_in (codes "f(X,a) = f(X,a)") ≡ agrees
+  pub same_agrees : answer_in (codes "f(X,a) = f(X,a)") ≡ yes
   -- `=` clashes if the terms do
-  pub same_clashes : outcome_in (codes "f(X,a) = f(Y,b)") ≡ clashes
+  pub same_clashes : answer_in (codes "f(X,a) = f(Y,b)") ≡ no
   -- `=` waits for each variable beside another term
-  pub same_waits : outcome_in (codes "f(X,Z,g(Y)) = f(1,Z,g(W))") ≡ waits (1 ∷ 3 ∷ 4 ∷ [])
+  pub same_waits : answer_in (codes "f(X,Z,g(Y)) = f(1,Z,g(W))") ≡ wait (1 ∷ 3 ∷ 4 ∷ [])
   -- `\=` agrees if the terms clash
-  pub other_agrees : outcome_in (codes "f(X,a) \\= f(Y,b)") ≡ agrees
+  pub other_agrees : answer_in (codes "f(X,a) \\= f(Y,b)") ≡ yes
   -- `\=` clashes with the same term
-  pub other_clashes : outcome_in (codes "X \\= X") ≡ clashes
+  pub other_clashes : answer_in (codes "X \\= X") ≡ no
   -- `\=` waits else
-  pub other_waits : outcome_in (codes "X \\= a") ≡ waits (1 ∷ [])
+  pub other_waits : answer_in (codes "X \\= a") ≡ wait (1 ∷ [])
   -- `<` agrees if it holds
-  pub less_agrees : outcome_in (codes "1 < 2") ≡ agrees
+  pub less_agrees : answer_in (codes "1 < 2") ≡ yes
   -- `<` clashes if it doesn't
-  pub less_clashes : outcome_in (codes "2 < 2") ≡ clashes
+  pub less_clashes : answer_in (codes "2 < 2") ≡ no
   -- `<` waits
-  pub less_waits : outcome_in (codes "X < 1") ≡ waits (1 ∷ [])
+  pub less_waits : answer_in (codes "X < 1") ≡ wait (1 ∷ [])
   -- `>` agrees if it holds
-  pub greater_agrees : outcome_in (codes "2 > 1") ≡ agrees
+  pub greater_agrees : answer_in (codes "2 > 1") ≡ yes
   -- `>` clashes if it doesn't
-  pub greater_clashes : outcome_in (codes "2 > 2") ≡ clashes
+  pub greater_clashes : answer_in (codes "2 > 2") ≡ no
   -- `>` waits
-  pub greater_waits : outcome_in (codes "X > 1") ≡ waits (1 ∷ [])
+  pub greater_waits : answer_in (codes "X > 1") ≡ wait (1 ∷ [])
   -- `=<` agrees if it holds
-  pub at_most_agrees : outcome_in (codes "2 =< 2") ≡ agrees
+  pub at_most_agrees : answer_in (codes "2 =< 2") ≡ yes
   -- `=<` clashes if it doesn't
-  pub at_most_clashes : outcome_in (codes "3 =< 2") ≡ clashes
+  pub at_most_clashes : answer_in (codes "3 =< 2") ≡ no
   -- `=<` waits
-  pub at_most_waits : outcome_in (codes "X =< 1") ≡ waits (1 ∷ [])
+  pub at_most_waits : answer_in (codes "X =< 1") ≡ wait (1 ∷ [])
   -- `>=` agrees if it holds
-  pub at_least_agrees : outcome_in (codes "2 >= 2") ≡ agrees
+  pub at_least_agrees : answer_in (codes "2 >= 2") ≡ yes
   -- `>=` clashes if it doesn't
-  pub at_least_clashes : outcome_in (codes "1 >= 2") ≡ clashes
+  pub at_least_clashes : answer_in (codes "1 >= 2") ≡ no
   -- `>=` waits
-  pub at_least_waits : outcome_in (codes "X >= 1") ≡ waits (1 ∷ [])
+  pub at_least_waits : answer_in (codes "X >= 1") ≡ wait (1 ∷ [])
   -- `=:=` agrees if it holds
-  pub same_number_agrees : outcome_in (codes "2 =:= 1 + 1") ≡ agrees
+  pub same_number_agrees : answer_in (codes "2 =:= 1 + 1") ≡ yes
   -- `=:=` clashes if it doesn't
-  pub same_number_clashes : outcome_in (codes "2 =:= 3") ≡ clashes
+  pub same_number_clashes : answer_in (codes "2 =:= 3") ≡ no
   -- `=:=` waits
-  pub same_number_waits : outcome_in (codes "X =:= 1") ≡ waits (1 ∷ [])
+  pub same_number_waits : answer_in (codes "X =:= 1") ≡ wait (1 ∷ [])
   -- `=\=` agrees if it holds
-  pub other_number_agrees : outcome_in (codes "2 =\\= 3") ≡ agrees
+  pub other_number_agrees : answer_in (codes "2 =\\= 3") ≡ yes
   -- `=\=` clashes if it doesn't
-  pub other_number_clashes : outcome_in (codes "2 =\\= 1 + 1") ≡ clashes
+  pub other_number_clashes : answer_in (codes "2 =\\= 1 + 1") ≡ no
   -- `=\=` waits
-  pub other_number_waits : outcome_in (codes "X =\\= 1") ≡ waits (1 ∷ [])
+  pub other_number_waits : answer_in (codes "X =\\= 1") ≡ wait (1 ∷ [])
   -- the left side of a comparison is scanned first
-  pub left_side_first : outcome_in (codes "a < X") ≡ clashes
+  pub left_side_first : answer_in (codes "a < X") ≡ no
   -- and waits before the right one is looked at
-  pub left_side_waits : outcome_in (codes "X < a") ≡ waits (1 ∷ [])
+  pub left_side_waits : answer_in (codes "X < a") ≡ wait (1 ∷ [])
   -- then the right one
-  pub right_side_clashes : outcome_in (codes "1 < a") ≡ clashes
+  pub right_side_clashes : answer_in (codes "1 < a") ≡ no
   -- which may wait
-  pub right_side_waits : outcome_in (codes "1 < X") ≡ waits (1 ∷ [])
+  pub right_side_waits : answer_in (codes "1 < X") ≡ wait (1 ∷ [])
   -- a fault of computing clashes
-  pub fault_of_computing : outcome_in (codes "1 / 0 =\\= 1") ≡ clashes
+  pub fault_of_computing : answer_in (codes "1 / 0 =\\= 1") ≡ no
   -- and is looked for if neither side waits
-  pub scan_before_fault : outcome_in (codes "1 / 0 < X") ≡ waits (1 ∷ [])
+  pub scan_before_fault : answer_in (codes "1 / 0 < X") ≡ wait (1 ∷ [])
   -- a sum prints as structures, and its print reads back
   pub print_of_a_sum : option_map print (term_in (codes "X := 1 - 2 - 3")) ≡ Some (codes "':='(_1,'-'('-'(1,2),3))")
   -- as the same term
@@ -344,9 +351,9 @@ pub record GuardRowsHold : Type 0 where
   -- before the 65th it is met first itself
   pub unbound_before_65_operators : evaluated (pair (codes "+") (variable 1) (ones_to_the_right 64)) ≡ awaits 1
   -- an unbound variable is the same as itself
-  pub one_variable_is_the_same : outcome_in (codes "X = X") ≡ agrees
+  pub one_variable_is_the_same : answer_in (codes "X = X") ≡ yes
   -- parentheses make a relation an operand
-  pub relation_as_an_operand_clashes : outcome_in (codes "(a = b) = c") ≡ clashes
+  pub relation_as_an_operand_clashes : answer_in (codes "(a = b) = c") ≡ no
   -- which is a structure
   pub relation_as_an_operand : term_in (codes "(a = b) = c") ≡ Some (pair (codes "=") (pair (codes "=") (atom (codes "a")) (atom (codes "b"))) (atom (codes "c")))
   -- `mod` is an operand where one is expected

@@ -25,12 +25,12 @@ no_clauses = codes ":- module e."
 -- an account with its journal, after lines of commands
 abbrev pub kept_after_lines : Kept → List (List ℕ) → Kept
 kept_after_lines k [] = k
-kept_after_lines k (l ∷ ls) = kept_after_lines (done_by k (parse l)).kept ls
+kept_after_lines k (l ∷ ls) = kept_after_lines (done_by k (parse k.state.rules l)).kept ls
 
 -- an account's replies to lines of commands, in order
 abbrev pub replies_to : Kept → List (List ℕ) → List Reply
 replies_to k [] = []
-replies_to k (l ∷ ls) = (done_by k (parse l)).reply ∷ replies_to (done_by k (parse l)).kept ls
+replies_to k (l ∷ ls) = (done_by k (parse k.state.rules l)).reply ∷ replies_to (done_by k (parse k.state.rules l)).kept ls
 
 -- an account with each kind of entry in its journal, and an open session
 abbrev pub with_each_entry : Kept
@@ -111,33 +111,33 @@ pub record HistoryRowsHold : Type 0 where
   -- and modules
   pub modules_reset : (step (after_reset (with_modules 32 (fresh Three (codes "alice")))) (load no_clauses)).reply ≡ loaded (codes "e")
   -- the entry of a load
-  pub load_line : entry_in (codes "load 3a0a7e") ≡ Some (loads (58 ∷ 10 ∷ 126 ∷ []))
+  pub load_line : entry_in One (codes "load 3a0a7e") ≡ Some (loads (58 ∷ 10 ∷ 126 ∷ []))
   -- a letter after f is no digit
-  pub load_line_of_other_letters : entry_in (codes "load g0") ≡ None
+  pub load_line_of_other_letters : entry_in One (codes "load g0") ≡ None
   -- neither is a capital
-  pub load_line_of_capitals : entry_in (codes "load 3A") ≡ None
+  pub load_line_of_capitals : entry_in One (codes "load 3A") ≡ None
   -- a byte has two digits
-  pub load_line_of_three_digits : entry_in (codes "load 3a0") ≡ None
+  pub load_line_of_three_digits : entry_in One (codes "load 3a0") ≡ None
   -- the entry of a start
-  pub start_line : entry_in (codes "start 7 0 4095 '='(_1,1)") ≡ Some (starts 7 0 4095 (equals (variable 1) (integer (pos 1))))
+  pub start_line : entry_in One (codes "start 7 0 4095 '='(_1,1)") ≡ Some (starts 7 0 4095 (equals (variable 1) (integer (pos 1))))
   -- a goal that is printed otherwise is none
-  pub start_line_in_another_spelling : entry_in (codes "start 7 0 4095 X = 1") ≡ None
+  pub start_line_in_another_spelling : entry_in One (codes "start 7 0 4095 X = 1") ≡ None
   -- the entry of a message
-  pub allow_line : entry_in (codes "allow 3 9223372036854775807") ≡ Some (sends 3 (Allow 9223372036854775807))
+  pub allow_line : entry_in One (codes "allow 3 9223372036854775807") ≡ Some (sends 3 (Allow 9223372036854775807))
   -- a number of 2 ^ 63 is none
-  pub allow_line_of_64_bits : entry_in (codes "allow 3 9223372036854775808") ≡ None
+  pub allow_line_of_64_bits : entry_in One (codes "allow 3 9223372036854775808") ≡ None
   -- the entry of a reduction
-  pub reduce_line : entry_in (codes "reduce 2 0") ≡ Some (steps 2 0)
+  pub reduce_line : entry_in One (codes "reduce 2 0") ≡ Some (steps 2 0)
   -- a leading zero
-  pub reduce_line_with_a_zero : entry_in (codes "reduce 2 00") ≡ None
+  pub reduce_line_with_a_zero : entry_in One (codes "reduce 2 00") ≡ None
   -- two blanks
-  pub reduce_line_with_two_blanks : entry_in (codes "reduce 2  0") ≡ None
+  pub reduce_line_with_two_blanks : entry_in One (codes "reduce 2  0") ≡ None
   -- a blank at the end
-  pub reduce_line_with_a_blank : entry_in (codes "reduce 2 0 ") ≡ None
+  pub reduce_line_with_a_blank : entry_in One (codes "reduce 2 0 ") ≡ None
   -- a carriage return
-  pub reduce_line_with_a_return : entry_in (codes "reduce 2 0" ++ 13 ∷ []) ≡ None
+  pub reduce_line_with_a_return : entry_in One (codes "reduce 2 0" ++ 13 ∷ []) ≡ None
   -- an empty line
-  pub empty_line : entry_in [] ≡ None
+  pub empty_line : entry_in One [] ≡ None
   -- a name in quotes
   pub name_line : name_in (codes "name 'it''s'") ≡ Some (codes "it's")
   -- the name of no bytes

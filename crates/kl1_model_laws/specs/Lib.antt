@@ -1,4 +1,9 @@
+pub mod ShoenExamples
+pub mod LineExamples
+pub mod ProgramExamples
 pub mod Examples
+pub mod HeadingJournalExamples
+pub mod EntryJournalExamples
 pub mod JournalExamples
 pub mod AccountRows
 pub mod HistoryRows

@@ -86,18 +86,18 @@ pub record RunRowsHold : Type 0 where
   -- one more
   pub too_many_entries : (step (with_entries 16777216 (fresh Four (codes "alice"))) (start 1 0 1 true_term)).reply ≡ refused journal_full
   -- the line of a run
-  pub run_line : entry_in (codes "run 5") ≡ Some (runs 5)
+  pub run_line : entry_in Four (codes "run 5") ≡ Some (runs 5)
   -- of none
-  pub run_line_of_0 : entry_in (codes "run 0") ≡ None
+  pub run_line_of_0 : entry_in Four (codes "run 0") ≡ None
   -- a leading zero
-  pub run_line_with_a_zero : entry_in (codes "run 05") ≡ None
+  pub run_line_with_a_zero : entry_in Four (codes "run 05") ≡ None
   -- no number
-  pub run_line_without_a_number : entry_in (codes "run ") ≡ None
+  pub run_line_without_a_number : entry_in Four (codes "run ") ≡ None
   -- the longest
-  pub run_line_of_63_bits : entry_in (codes "run 9223372036854775807") ≡ Some (runs 9223372036854775807)
+  pub run_line_of_63_bits : entry_in Four (codes "run 9223372036854775807") ≡ Some (runs 9223372036854775807)
   -- one more
-  pub run_line_of_64_bits : entry_in (codes "run 9223372036854775808") ≡ None
+  pub run_line_of_64_bits : entry_in Four (codes "run 9223372036854775808") ≡ None
   -- the first line
   pub heading_of_four : heading_in (codes "journal 4 0 0") ≡ Some (record { rules = Four; sessions = 0; names = 0 })
   -- a later version
-  pub heading_of_five : heading_in (codes "journal 5 0 0") ≡ None
+  pub heading_of_five : heading_in (codes "journal 6 0 0") ≡ None

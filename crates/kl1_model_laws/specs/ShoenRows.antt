@@ -87,7 +87,7 @@ ended_and_waiting = after_lines nothing_done (codes "start 9 0 9 true" ∷ codes
 
 -- a shoen whose report stream at the console is a list of `n` codes
 abbrev pub with_long_stream : ℕ → Shoen → Shoen
-with_long_stream n h = record h { origin = Some (record { goal = true_term; reports = letters n; control = nil }) }
+with_long_stream n h = record h { origin = Some (record { goal = true_term; forgotten = 0; reports = letters n; control = nil }) }
 
 -- an account whose first shoen has made `n` reports
 abbrev pub with_many_reports : ℕ → State
@@ -118,7 +118,7 @@ repeated (suc n) text = text ++ repeated n text
 abbrev pub with_long_report : Shoen → Shoen
 with_long_report h =
     let goal = pair (codes ":") (atom (codes "m")) (structure (codes "p") (more (letters 2000) none)) in
-    record h { origin = Some (record { goal = true_term; reports = cell (pair (codes "exception") (atom (codes "failure")) goal) nil; control = nil }) }
+    record h { origin = Some (record { goal = true_term; forgotten = 0; reports = cell (pair (codes "exception") (atom (codes "failure")) goal) nil; control = nil }) }
 
 -- an account whose first shoen has made one report that is long
 abbrev pub with_one_long_report : State

@@ -1,5 +1,6 @@
 -- Rows of streams: what bytes of a session ask for, and what is left of them.
 use Rattle.std.specs.Prelude.{◌≡◌, ℕ, codes, List, [], ◌∷◌, ◌++◌, replicate}
+use Rattle.kl1_model.specs.declared.rules.Rules.TheVariants.{Three}
 use Rattle.kl1_model.specs.Record.{other_line}
 use Rattle.kl1_model.specs.Event as event
 use Rattle.kl1_model.specs.Event.{syntax}
@@ -12,9 +13,9 @@ pub record Come : Type 0 where
   pub asked : List Input
   pub left : List ℕ
 
--- what these bytes come to
+-- what these bytes come to for a server whose accounts keep to the third rules
 abbrev pub come : List ℕ → Come
-come bytes = record { asked = inputs bytes; left = rest bytes }
+come bytes = record { asked = inputs Three bytes; left = rest bytes }
 
 -- these inputs, and nothing left
 abbrev pub asks : List Input → Come

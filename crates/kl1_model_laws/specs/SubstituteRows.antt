@@ -96,12 +96,12 @@ pub record SubstituteRowsHold : Type 0 where
   -- which has no goal
   pub goals_after_an_abort : (after_lines with_substitute (codes "abort 1" ∷ codes "run 9" ∷ [])).goals ≡ []
   -- the entry of an answer
-  pub answer_line : entry_in (codes "answer 1 2 '='(_1,2)") ≡ Some (answers 1 2 (equals (variable 1) (integer (pos 2))))
+  pub answer_line : entry_in Two (codes "answer 1 2 '='(_1,2)") ≡ Some (answers 1 2 (equals (variable 1) (integer (pos 2))))
   -- a goal that is printed otherwise is none
-  pub answer_line_in_another_spelling : entry_in (codes "answer 1 2 X = 2") ≡ None
+  pub answer_line_in_another_spelling : entry_in Two (codes "answer 1 2 X = 2") ≡ None
   -- a journal of version 2
   pub heading_line : heading_in (codes "journal 2 4 1024") ≡ Some (record { rules = Two; sessions = 4; names = 1024 })
   -- a journal of version 3
   pub heading_line_of_version_3 : heading_in (codes "journal 3 4 1024") ≡ Some (record { rules = Three; sessions = 4; names = 1024 })
   -- a version that there isn't
-  pub heading_line_of_version_5 : heading_in (codes "journal 5 0 0") ≡ None
+  pub heading_line_of_version_5 : heading_in (codes "journal 6 0 0") ≡ None

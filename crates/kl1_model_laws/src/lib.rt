@@ -4,6 +4,7 @@
 pub mod arithmetic;
 pub mod examples;
 pub mod reading;
+pub mod relabelling;
 pub mod same;
 pub mod shoens;
 pub mod unification;

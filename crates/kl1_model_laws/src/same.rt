@@ -1,5 +1,6 @@
 //! Laws of passive equality.
-ghost use Rattle.kl1_model.specs.laws.Clashes.{ClashesAreOnPaths, SameIsEqual, DiffersIsOnPath};
+ghost use Rattle.kl1_model.specs.laws.Clashes.{ClashesAreOnPaths, SameIsEqual, DiffersIsOnPath, CompareIsEqual, CompareIsOnPath};
+ghost use Rattle.kl1_model.specs.laws.CompareLaws.{CompareStays, CompareWaits, CompareIsParts};
 ghost use Rattle.kl1_model.specs.laws.SameLaws.{SameStays, DiffersStays, UnknownWaits, UnknownStays, AllSameStays, SomeDifferStays, AllUnknownWaits, AllUnknownStays};
 
 /// Two terms clash if some path of argument numbers leads in both to a constant or structure and these differ. It does nothing: its
@@ -27,4 +28,19 @@ pub fn open_answers_wait_for_named_variables()
     ensures some_differ { SomeDifferStays }
     ensures all_wait { AllUnknownWaits }
     ensures all_stay { AllUnknownStays }
+{}
+
+/// A comparison answers yes if the terms are equal, and no if some path of argument numbers leads in both to a constant or
+/// structure and these differ. It does nothing: its contract is this law.
+pub fn comparisons_are_by_paths()
+    ensures yes { CompareIsEqual }
+    ensures no { CompareIsOnPath }
+{}
+
+/// What a comparison answers stays until a variable that it waits for is replaced, yes and no for good; one that waits names a
+/// variable; and it is that of its parts. It does nothing: its contract is this law.
+pub fn comparisons_wait_for_named_variables()
+    ensures stays { CompareStays }
+    ensures waits { CompareWaits }
+    ensures parts { CompareIsParts }
 {}

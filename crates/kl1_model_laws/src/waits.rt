@@ -1,6 +1,7 @@
 //! Laws of verdicts and of what goals wait for.
 ghost use Rattle.kl1_model.specs.laws.WaitsLaws.{RejectsStays, RejectsNeverAccepts, AcceptsStays, SuspendsStays, SuspendsWaits, CandidatesAreOpen, ClausesStay, HeadStays, TermStays, ControlStays, SubstitutesStay};
-ghost use Rattle.kl1_model.specs.laws.OutcomeLaws.{OutcomesAnswer, VerdictsAnswer, AcceptsPlaces, VerdictsName};
+ghost use Rattle.kl1_model.specs.laws.VerdictLaws.{VerdictsAnswer, AcceptsPlaces, VerdictsName};
+ghost use Rattle.kl1_model.specs.laws.PlainLaws.{ComparisonsStand, TestsStand, MatchesStand, VerdictsStand};
 ghost use Rattle.kl1_model_laws.specs.SectionLaws.{SectionsAreInOrder, CandidatesOfModulesAreOpen, CandidatesOfCallsAreOpen};
 
 /// What a clause says of a goal stays until a variable that it names is replaced. It accepts a goal for good, and rejects it for
@@ -15,14 +16,22 @@ pub fn verdicts_wait_for_named_variables()
     ensures waits { SuspendsWaits }
 {}
 
-/// The outcome of each test has the test's answer. The verdict that names variables, and in whose tests they have other numbers, has
-/// the answer of the plain verdict, for every clause and every goal; if it accepts, then with the terms at the same places; and it names the
-/// variables that the clause waits for. It does nothing: its contract is this law.
-pub fn outcomes_have_answers()
-    ensures tests { OutcomesAnswer }
-    ensures verdicts { VerdictsAnswer }
+/// A verdict with what goes with it has the answer of its clause; if it accepts, then with the terms at the places that the match
+/// reaches; and it names the variables that the clause waits for. It does nothing: its contract is this law.
+pub fn verdicts_name_places_and_variables()
+    ensures answers { VerdictsAnswer }
     ensures places { AcceptsPlaces }
     ensures names { VerdictsName }
+{}
+
+/// Answers without the variables that they wait for are what they were defined as before answers named these: of comparisons, of
+/// tests, of matches, with their places, and of verdicts, in whose tests variables had other numbers. It does nothing: its contract
+/// is this law.
+pub fn answers_are_what_they_were()
+    ensures comparisons { ComparisonsStand }
+    ensures tests { TestsStand }
+    ensures matches { MatchesStand }
+    ensures verdicts { VerdictsStand }
 {}
 
 /// The candidates of a goal are the clauses that accept it and above whose nearest `otherwise` each clause rejects it: of clauses

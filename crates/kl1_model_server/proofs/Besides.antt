@@ -10,7 +10,7 @@ use Rattle.kl1_model.specs.Nodes.{goal_nodes}
 use Rattle.kl1_model.specs.Unify.{mgu}
 use Rattle.kl1_model.specs.Module.{Module, Reading, good, bad, read_module}
 use Rattle.kl1_model.specs.Match.{module_of}
-use Rattle.kl1_model.specs.State.{State, Goal, substitutes, has_substitutes, has_runs, Shoen, Origin, goal_at, shoen_at, names_of, names_of_module, with_name, with_names, replace_in_state, replace_all, change_shoen, is_living, without_goal}
+use Rattle.kl1_model.specs.State.{State, Goal, substitutes, has_substitutes, has_forgetting, has_runs, Shoen, Origin, goal_at, shoen_at, names_of, names_of_module, with_name, with_names, replace_in_state, replace_all, change_shoen, is_living, without_goal}
 use Rattle.kl1_model.specs.Tree.{path, charge}
 use Rattle.kl1_model.specs.Control.{Control, awaits_message, tells, tells_other, ends, breaks_off}
 use Rattle.kl1_model.specs.Report.{has_made_last, report_tail, reported_on, reported_at, report, is_reported, report_each, closed_at, close, exception, exception_with, failure, illegal_input, exhaustion, started_report, stopped_report, resumed_report, exhausted_report, terminated_report, aborted_report}
@@ -18,13 +18,15 @@ use Rattle.kl1_model.specs.Ending.{ends_now, ended_at, ending_of, without_monito
 use Rattle.kl1_model.specs.Opening.{may_start, has_room_to_start, with_shoen, open_shoen, with_next_variables, started_shoen, start_goal, child_shoen, has_room_for_child, open_child}
 use Rattle.kl1_model.specs.Reduction.{Move, commits, raises, unifies, names, opens, goes, gives_way, Action, moves, reads, action_of, has_room_for, committed, replaced_by, substituted_by, raised, unified, equation, or_exhaustion, moved, obeyed, with_control, heard, acted, reduce_goal}
 use Rattle.kl1_model.specs.Sending.{may_send, has_room_to_send, sent_on, send_living, send_to}
-use Rattle.kl1_model.specs.Event.{Refusal, syntax, exists, shoen_ended, too_many_names, limit_passed, journal_full, start, reduce, Reply, loaded, opened, sent, reduced, ran, Transition, refuse, is_number, is_refused, unless, are_too_many, is_full, needs_entry, with_entry, with_reduction}
-use Rattle.kl1_model.specs.Answering.{may_answer, has_room_to_answer, unanswered_at, answer_by, answer_living, answer_to}
+use Rattle.kl1_model.specs.Event.{Refusal, syntax, exists, shoen_ended, too_many_names, limit_passed, journal_full, answer_refused, start, reduce, Reply, loaded, opened, sent, reduced, ran, forgot, Transition, refuse, is_number, is_refused, unless, are_too_many, is_full, needs_entry, with_entry, with_reduction}
+use Rattle.kl1_model.specs.Answering.{may_answer, has_room_to_answer, asked_at, given, answered, answer_asked, answer_by, answer_living, answer_to}
+use Rattle.kl1_model.specs.Telling.{Asked, Given}
+use Rattle.kl1_model.specs.Forgetting.{may_forget, gone, may_go, forget_by, forget_of}
 use Rattle.kl1_model.specs.Step.{load_module, start_by, step}
 use Rattle.kl1_model.specs.Choice.{Chosen, first, is_in_run}
 use Rattle.kl1_model.specs.code.Steps.{report_of, close_of, stopped_of, resumed_of, reduced_by, send_by, answer_in, with_module, named_by}
 use Rattle.kl1_model_server.specs.laws.HistoryLaws.{beside, stepped_beside, StaysBeside}
-use Rattle.kl1_model_server.specs.Journal.{loads, starts, sends, steps, answers, runs, chosen_step, first_step, first_steps}
+use Rattle.kl1_model_server.specs.Journal.{loads, starts, sends, steps, answers, forgets, runs, chosen_step, first_step, first_steps}
 
 -- either of two
 either : (c : Bool) (name : List ℕ) (n : ℕ) (a b s t : State) → a ≡ beside name n s → b ≡ beside name n t → (if c then a else b) ≡ beside name n (if c then s else t)
@@ -134,7 +136,7 @@ moved_beside g t (commits k) name n s = exhausted_or (has_room_for s k.clause) g
 moved_beside g t (raises kind) name n s = raised_beside g kind t name n s
 moved_beside g t (unifies a b) name n s = unified_beside g t (mgu (equation a b)) name n s
 moved_beside g t (names text a) name n s =
-    exhausted_or (not (are_too_many (with_name s.names text))) g t name n (named_by g t text a (beside name n s)) (named_by g t text a s) s
+    exhausted_or (not (are_too_many s.rules (with_name s.names text))) g t name n (named_by g t text a (beside name n s)) (named_by g t text a s) s
     (unified_beside g t (mgu (equation a (atom text))) name n (record s { names = with_name s.names text }))
 moved_beside g t (opens o) name n s =
     exhausted_or (has_room_for_child s g.shoen) g t name n (open_child (beside name n s) g.shoen o) (open_child s g.shoen o) s (open_beside (child_shoen s g.shoen o) o.goal name n s)
@@ -196,7 +198,7 @@ load_beside : (r : Reading Module) (name : List ℕ) (n : ℕ) (s : State) → l
 load_beside (bad line) name n s = refl
 load_beside (good m) name n s =
     unless_beside
-    ((is_some (module_of s.modules m.name), exists) ∷ (are_too_many (with_names s.names (names_of_module m)), too_many_names)
+    ((is_some (module_of s.modules m.name), exists) ∷ (are_too_many s.rules (with_names s.names (names_of_module m)), too_many_names)
     ∷ (not (nat_lt (length s.modules) MOST_MODULES), limit_passed) ∷ (is_full s, journal_full) ∷ []) name n
     (record { state = with_entry (with_module (beside name n s) m); reply = loaded m.name }) (record { state = with_entry (with_module s m); reply = loaded m.name }) s refl
 
@@ -219,7 +221,7 @@ starting_beside allowance low high t name n s =
     let xb : Transition = record { state = with_entry (start_goal b allowance low high t); reply = opened (suc s.last_shoen) } in
     refused_or (may_start allowance low high t) syntax name n (start_by b allowance low high t) (start_by s allowance low high t) s
     (unless_beside
-    ((are_too_many (with_names s.names (names_of t)), too_many_names) ∷ (not (has_room_to_start s t), limit_passed) ∷ (is_full s, journal_full) ∷ []) name n
+    ((are_too_many s.rules (with_names s.names (names_of t)), too_many_names) ∷ (not (has_room_to_start s t), limit_passed) ∷ (is_full s, journal_full) ∷ []) name n
     xb x s (done name n (with_entry (start_goal b allowance low high t)) (with_entry (start_goal s allowance low high t)) (opened (suc s.last_shoen)) (ap with_entry (start_beside allowance low high t name n s))))
 
 send_by_beside : (k : ℕ) (m : Message) (h : Shoen) (o : Option Origin) (name : List ℕ) (n : ℕ) (s : State) → send_by (beside name n s) k m h o ≡ stepped_beside name n (send_by s k m h o)
@@ -248,24 +250,42 @@ reduce_beside : (r : Bool) (clause : ℕ) (g : Option Goal) (name : List ℕ) (n
 reduce_beside r clause None name n s = refl
 reduce_beside r clause (Some g) name n s = reduced_by_beside r g (action_of s g clause) name n s
 
-answer_by_beside : (t : Term) (o : Option ℕ) (name : List ℕ) (n : ℕ) (s : State) → answer_by (beside name n s) t o ≡ stepped_beside name n (answer_by s t o)
-answer_by_beside t None name n s = refl
-answer_by_beside t (Some v) name n s = refl
+answer_by_beside : (g : Given) (t : Term) (o : Option Asked) (name : List ℕ) (n : ℕ) (s : State) → answer_by (beside name n s) g t o ≡ stepped_beside name n (answer_by s g t o)
+answer_by_beside g t None name n s = refl
+answer_by_beside g t (Some a) name n s =
+    unless_beside ((g.tells_gone, answer_refused) ∷ []) name n (record { state = with_entry (answered a.new g t (beside name n s)); reply = sent }) (record { state = with_entry (answered a.new g t s); reply = sent }) s refl
+
+asked_beside : (t : Term) (o : Option Asked) (name : List ℕ) (n : ℕ) (s : State) → answer_asked (beside name n s) t o ≡ stepped_beside name n (answer_asked s t o)
+asked_beside t o name n s =
+    let g = given s o t in
+    unless_beside
+    ((are_too_many s.rules (with_names s.names (names_of t)), too_many_names) ∷ (not (has_room_to_answer s g.new t), limit_passed) ∷ (is_full s, journal_full) ∷ []) name n
+    (answer_by (beside name n s) g t o) (answer_by s g t o) s (answer_by_beside g t o name n s)
 
 answer_in_beside : (report : ℕ) (t : Term) (h : Shoen) (o : Option Origin) (name : List ℕ) (n : ℕ) (s : State) → answer_in (beside name n s) report t h o ≡ stepped_beside name n (answer_in s report t h o)
 answer_in_beside report t h None name n s = refl
 answer_in_beside report t h (Some o) name n s =
-    let b = beside name n s in
-    let x = answer_by s t (unanswered_at o.reports report) in
-    let xb = answer_by b t (unanswered_at o.reports report) in
-    refused_or (is_living h.life) shoen_ended name n (answer_living b report t o) (answer_living s report t o) s
-    (unless_beside
-    ((are_too_many (with_names s.names (names_of t)), too_many_names) ∷ (not (has_room_to_answer s t), limit_passed) ∷ (is_full s, journal_full) ∷ []) name n
-    xb x s (answer_by_beside t (unanswered_at o.reports report) name n s))
+    refused_or (is_living h.life) shoen_ended name n (answer_living (beside name n s) report t o) (answer_living s report t o) s (asked_beside t (asked_at o report) name n s)
 
 answer_beside : (report : ℕ) (t : Term) (o : Option Shoen) (name : List ℕ) (n : ℕ) (s : State) → answer_to (beside name n s) report t o ≡ stepped_beside name n (answer_to s report t o)
 answer_beside report t None name n s = refl
 answer_beside report t (Some h) name n s = answer_in_beside report t h h.origin name n s
+
+gone_beside : (k count : ℕ) (o : Origin) (name : List ℕ) (n : ℕ) (s : State) → with_entry (gone k count o (beside name n s)) ≡ beside name n (with_entry (gone k count o s))
+gone_beside k zero o name n s = refl
+gone_beside k (suc count) o name n s = refl
+
+forget_by_beside : (k count : ℕ) (h : Shoen) (o : Option Origin) (name : List ℕ) (n : ℕ) (s : State) → forget_by (beside name n s) k count h o ≡ stepped_beside name n (forget_by s k count h o)
+forget_by_beside k count h None name n s = refl
+forget_by_beside k count h (Some o) name n s =
+    let x : Transition = record { state = with_entry (gone k count o s); reply = forgot } in
+    let xb : Transition = record { state = with_entry (gone k count o (beside name n s)); reply = forgot } in
+    unless_beside ((is_full s, journal_full) ∷ (not (may_go count h o), answer_refused) ∷ []) name n xb x s
+    (done name n (with_entry (gone k count o (beside name n s))) (with_entry (gone k count o s)) forgot (gone_beside k count o name n s))
+
+forget_beside : (k count : ℕ) (o : Option Shoen) (name : List ℕ) (n : ℕ) (s : State) → forget_of (beside name n s) k count o ≡ stepped_beside name n (forget_of s k count o)
+forget_beside k count None name n s = refl
+forget_beside k count (Some h) name n s = forget_by_beside k count h h.origin name n s
 
 step_beside : (goal clause : ℕ) (name : List ℕ) (n : ℕ) (s : State) → step (beside name n s) (reduce goal clause) ≡ stepped_beside name n (step s (reduce goal clause))
 step_beside goal clause name n s =
@@ -296,4 +316,5 @@ stays_beside name n s (starts allowance low high t) = starting_beside allowance 
 stays_beside name n s (sends k m) = refused_or (may_send k m) syntax name n (send_to (beside name n s) k m (shoen_at k s.shoens)) (send_to s k m (shoen_at k s.shoens)) s (send_beside k m (shoen_at k s.shoens) name n s)
 stays_beside name n s (steps goal clause) = step_beside goal clause name n s
 stays_beside name n s (runs m) = refused_or (has_runs s.rules) syntax name n (first_steps m (beside name n s)) (first_steps m s) s (first_steps_beside m name n s)
-stays_beside name n s (answers k report t) = refused_or (has_substitutes s.rules && may_answer k report t) syntax name n (answer_to (beside name n s) report t (shoen_at k s.shoens)) (answer_to s report t (shoen_at k s.shoens)) s (answer_beside report t (shoen_at k s.shoens) name n s)
+stays_beside name n s (answers k report t) = refused_or (may_answer s.rules k report t) syntax name n (answer_to (beside name n s) report t (shoen_at k s.shoens)) (answer_to s report t (shoen_at k s.shoens)) s (answer_beside report t (shoen_at k s.shoens) name n s)
+stays_beside name n s (forgets k count) = refused_or (has_forgetting s.rules && may_forget k count) syntax name n (forget_of (beside name n s) k count (shoen_at k s.shoens)) (forget_of s k count (shoen_at k s.shoens)) s (forget_beside k count (shoen_at k s.shoens) name n s)

@@ -8,6 +8,6 @@ use Rattle.kl1_model_server.proofs.Cuts.{cuts_anywhere}
 
 pub inputs_cut_anywhere : InputsCutAnywhere
 inputs_cut_anywhere = record {
-  inputs_after = λ p q. ap inputs_in (cuts_anywhere p q) ∙ map-append input_of (cut_of p).requests (cut_of (rest p ++ q)).requests;
+  inputs_after = λ rules p q. ap (inputs_in rules) (cuts_anywhere p q) ∙ map-append (input_of rules) (cut_of p).requests (cut_of (rest p ++ q)).requests;
   rest_after = λ p q. ap (λ c. c.rest) (cuts_anywhere p q);
 }

@@ -18,6 +18,7 @@ pub mod Cuts
 pub mod InputLaws
 pub mod Words
 pub mod Exactly
+pub mod ToldBack
 pub mod TextEntries
 pub mod TextNames
 pub mod TextLines
@@ -30,3 +31,4 @@ pub mod ReadNames
 pub mod ModuleNames
 pub mod WrittenStays
 pub mod ReplayReplies
+mod FiveRows

@@ -2,13 +2,12 @@
 use Rattle.std.specs.Prelude.{◌≡◌, ℕ, suc, ◌==◌, nat_le, not, ◌&&◌, Bool, true, false, if◌then◌else◌, List, [], ◌∷◌, length, Option, Some, None}
 use Rattle.std.proofs.Common.{refl, sym, ◌∙◌, subst}
 use Rattle.std.proofs.lemmas.Bool.{leb-true}
-use Rattle.kl1_model.specs.declared.limits.TheConstants.{MOST_NAMES}
 use Rattle.kl1_model.specs.declared.message.Message.{Message}
 use Rattle.kl1_model.specs.declared.message.Message.TheVariants.{Stop, Start, Abort, Allow}
 use Rattle.kl1_model.specs.Text.{is_text}
 use Rattle.kl1_model.specs.Term.{Term, variable, integer, atom, structure, Replacement}
 use Rattle.kl1_model.specs.Unify.{mgu}
-use Rattle.kl1_model.specs.State.{State, Goal, has_substitutes, Shoen, shoen_at, with_name, replace_in_state, replace_all, change_shoen, without_goal}
+use Rattle.kl1_model.specs.State.{State, Goal, has_substitutes, limits_of, Shoen, shoen_at, with_name, replace_in_state, replace_all, change_shoen, without_goal}
 use Rattle.kl1_model.specs.Tree.{path, charge}
 use Rattle.kl1_model.specs.Control.{Control, awaits_message, tells, tells_other, ends, breaks_off}
 use Rattle.kl1_model.specs.Report.{has_made_last, report_tail, reported_on, reported_at, report, is_reported, report_each, closed_at, close, exception, exception_with, failure, illegal_input, exhaustion, started_report, stopped_report, resumed_report, exhausted_report, terminated_report, aborted_report}
@@ -19,6 +18,7 @@ use Rattle.kl1_model.specs.code.Steps.{report_of, close_of, stopped_of, resumed_
 use Rattle.kl1_model.specs.Event.{are_too_many}
 use Rattle.kl1_model.specs.Sending.{sent_on}
 use Rattle.kl1_model_server.specs.laws.TextLaws.{AreNames}
+use Rattle.kl1_model_server.proofs.RulesKept.{Alike, ruled, raised_alike, unified_alike, moved_alike, settle_charged_alike, acted_alike}
 use Rattle.kl1_model_server.proofs.NewNames.{with_name_new}
 use Rattle.kl1_model_server.proofs.SpelledTexts.{NamesText, ActionText}
 
@@ -111,35 +111,35 @@ exhausted_or false g t after s e = raised_has g exhaustion t s
 
 -- an account whose names may have been used
 abbrev pub IsNamed : State → Type 0
-IsNamed s = AreNames s.names
+IsNamed s = AreNames s.rules s.names
 
 -- an account with the names of one that is named is named
-pub same_names : (s t : State) → t.names ≡ s.names → IsNamed s → IsNamed t
-same_names s t e h = subst AreNames (sym e) h
+pub same_names : (s t : State) → t.names ≡ s.names → Alike s t → IsNamed s → IsNamed t
+same_names s t e k h = subst (λ rules. AreNames rules t.names) (sym (ruled s t k)) (subst (AreNames s.rules) (sym e) h)
 
 named_or : (c : Bool) (g : Goal) (t : Term) (after s : State) → (c ≡ true → IsNamed after) → IsNamed s → IsNamed (or_exhaustion c g t after s)
 named_or true g t after s go h = go refl
-named_or false g t after s go h = same_names s (raised g exhaustion t s) (raised_has g exhaustion t s) h
+named_or false g t after s go h = same_names s (raised g exhaustion t s) (raised_has g exhaustion t s) (raised_alike g exhaustion t s) h
 
 pub twice_not : (x : Bool) → not (not x) ≡ true → x ≡ true
 twice_not true h = refl
 twice_not false h = cc
 
 -- a name more, if there is room for it
-text_named : (g : Goal) (t : Term) (text : List ℕ) (a : Term) (s : State) → is_text text ≡ true → IsNamed s → not (are_too_many (with_name s.names text)) ≡ true → IsNamed (named_by g t text a s)
+text_named : (g : Goal) (t : Term) (text : List ℕ) (a : Term) (s : State) → is_text text ≡ true → IsNamed s → not (are_too_many s.rules (with_name s.names text)) ≡ true → IsNamed (named_by g t text a s)
 text_named g t text a s fine h room =
     let u = record s { names = with_name s.names text } in
     let o = mgu (equation a (atom text)) in
-    let n : IsNamed u = record { few = leb-true (length (with_name s.names text)) MOST_NAMES (twice_not (nat_le (length (with_name s.names text)) MOST_NAMES) room); new = with_name_new s.names text h.new fine } in
-    same_names u (unified g t o u) (unified_has g t o u) n
+    let n : IsNamed u = record { few = leb-true (length (with_name s.names text)) (limits_of s.rules).names (twice_not (nat_le (length (with_name s.names text)) (limits_of s.rules).names) room); new = with_name_new s.names text h.new fine } in
+    same_names u (unified g t o u) (unified_has g t o u) (unified_alike g t o u) n
 
 moved_named : (g : Goal) (t : Term) (m : Move) (s : State) → NamesText m → IsNamed s → IsNamed (moved g t m s)
-moved_named g t (commits k) s fine h = same_names s (moved g t (commits k) s) (exhausted_or (has_room_for s k.clause) g t (committed g k s) s refl) h
-moved_named g t (raises kind) s fine h = same_names s (moved g t (raises kind) s) (raised_has g kind t s) h
-moved_named g t (unifies a b) s fine h = same_names s (moved g t (unifies a b) s) (unified_has g t (mgu (equation a b)) s) h
-moved_named g t (names text a) s fine h = named_or (not (are_too_many (with_name s.names text))) g t (named_by g t text a s) s (text_named g t text a s fine h) h
+moved_named g t (commits k) s fine h = same_names s (moved g t (commits k) s) (exhausted_or (has_room_for s k.clause) g t (committed g k s) s refl) (moved_alike g t (commits k) s) h
+moved_named g t (raises kind) s fine h = same_names s (moved g t (raises kind) s) (raised_has g kind t s) (moved_alike g t (raises kind) s) h
+moved_named g t (unifies a b) s fine h = same_names s (moved g t (unifies a b) s) (unified_has g t (mgu (equation a b)) s) (moved_alike g t (unifies a b) s) h
+moved_named g t (names text a) s fine h = named_or (not (are_too_many s.rules (with_name s.names text))) g t (named_by g t text a s) s (text_named g t text a s fine h) h
 moved_named g t (opens o) s fine h =
-    same_names s (moved g t (opens o) s) (exhausted_or (has_room_for_child s g.shoen) g t (open_child s g.shoen o) s (open_has (child_shoen s g.shoen o) o.goal s)) h
+    same_names s (moved g t (opens o) s) (exhausted_or (has_room_for_child s g.shoen) g t (open_child s g.shoen o) s (open_has (child_shoen s g.shoen o) o.goal s)) (moved_alike g t (opens o) s) h
 moved_named g t goes s fine h = h
 moved_named g t gives_way s fine h = h
 
@@ -173,10 +173,10 @@ pub acted_named : (g : Goal) (a : Action) (s : State) → ActionText a → IsNam
 acted_named g (moves t m) s fine h =
     let before = charge g.shoen (without_goal g.number s) in
     let after = moved g t m before in
-    same_names after (after_reduction g.shoen after) (settle_charged_has g.shoen after) (moved_named g t m before fine h)
+    same_names after (after_reduction g.shoen after) (settle_charged_has g.shoen after) (settle_charged_alike g.shoen after) (moved_named g t m before fine h)
 acted_named g (reads c) s fine h =
     let after = heard g.shoen c s in
-    same_names s (settle g.shoen after) (settle_has g.shoen after ∙ heard_has g.shoen c s) h
+    same_names s (settle g.shoen after) (settle_has g.shoen after ∙ heard_has g.shoen c s) (acted_alike g (reads c) s) h
 
 -- the names after a message is sent
 pub sent_has : (k : ℕ) (m : Message) (t : Term) (s : State) → (sent_on k m t s).names ≡ s.names

@@ -1,15 +1,16 @@
 -- Names that are used stay names that may have been used, whichever texts come to them.
-use Rattle.std.specs.Prelude.{◌≡◌, ℕ, nat_le, not, ◌&&◌, ◌||◌, Bool, true, false, if◌then◌else◌, List, [], ◌∷◌, ◌++◌, bytes_eq}
+use Rattle.std.specs.Prelude.{◌≡◌, ℕ, ◌≤◌, nat_le, not, ◌&&◌, ◌||◌, Bool, true, false, if◌then◌else◌, List, [], ◌∷◌, ◌++◌, bytes_eq}
 use Rattle.std.specs.List.{list_all, list_any}
-use Rattle.std.proofs.Common.{refl, sym, ap, ◌∙◌}
+use Rattle.std.proofs.Common.{refl, sym, ap, ◌∙◌, arith}
 use Rattle.std.proofs.lemmas.Bool.{and_parts, and_from, or_parts, leb-true, not_from_false}
 use Rattle.std.proofs.lemmas.List.{append_assoc, append-nil}
 use Rattle.std.proofs.lemmas.List.Folds.{list_all-append}
-use Rattle.kl1_model.specs.declared.limits.TheConstants.{MOST_ARGUMENTS, MOST_NAMES}
+use Rattle.kl1_model.specs.declared.limits.TheConstants.{MOST_ARGUMENTS}
+use Rattle.kl1_model.specs.declared.rules.Rules.{Rules}
 use Rattle.kl1_model.specs.Text.{is_text, is_built_in}
 use Rattle.kl1_model.specs.Term.{Term, variable, integer, atom, structure, Terms, none, more, count_of}
 use Rattle.kl1_model.specs.Meaning.{is_narrow, are_narrow}
-use Rattle.kl1_model.specs.State.{names_of, names_in, with_name, with_names}
+use Rattle.kl1_model.specs.State.{limits_of, names_of, names_in, with_name, with_names}
 use Rattle.kl1_model_server.specs.JournalText.{is_new_name}
 use Rattle.kl1_model_server.specs.laws.TextLaws.{are_new_names, AreNames}
 
@@ -40,8 +41,8 @@ with_names_new names (a ∷ others) all texts =
     with_names_new (with_name names a) others (with_name_new names a all both.0) both.1
 
 -- no names have been used
-pub no_names : AreNames []
-no_names = record { few = leb-true 0 MOST_NAMES refl; new = refl }
+pub no_names : (rules : Rules) → AreNames rules []
+no_names rules = let few : 0 ≤ (limits_of rules).names = omega arith in record { few = few; new = refl }
 
 -- the names of a term that a text can write are texts
 mutual

@@ -53,7 +53,7 @@ tokens_are t h =
     ap (tokens_at 1) (sym (append-nil (print t)))
     ∙ ((agrees t p.narrow p.few).whole [] [] (record { no_word = refl; no_quote = refl; no_open = refl }) lexes_nothing).are
 
-bare_again : (ts : List (Token (List ℕ))) → bare_tokens (map on_first_line ts) ≡ ts
+pub bare_again : (ts : List (Token (List ℕ))) → bare_tokens (map on_first_line ts) ≡ ts
 bare_again [] = refl
 bare_again (t ∷ ts) = ap (λ x. t ∷ x) (bare_again ts)
 

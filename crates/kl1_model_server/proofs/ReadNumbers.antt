@@ -21,11 +21,11 @@ abbrev pub spellings : ℕ → ℕ → List (List ℕ)
 spellings i zero = []
 spellings i (suc k) = spelling i ∷ spellings (suc i) k
 
-length_spellings : (i k : ℕ) → length (spellings i k) ≡ k
+pub length_spellings : (i k : ℕ) → length (spellings i k) ≡ k
 length_spellings i zero = refl
 length_spellings i (suc k) = ap suc (length_spellings (suc i) k)
 
-one_more : (k i v : ℕ) → v ≡ i + k → spellings i k ++ spelling v ∷ [] ≡ spellings i (suc k)
+pub one_more : (k i v : ℕ) → v ≡ i + k → spellings i k ++ spelling v ∷ [] ≡ spellings i (suc k)
 one_more zero i v is = let same : v ≡ i = omega arith in ap (λ n. spelling n ∷ []) same
 one_more (suc k) i v is = ap (λ x. spelling i ∷ x) (one_more k (suc i) v (omega arith))
 
@@ -42,13 +42,13 @@ other_spelling i v few less above =
     omega arith)
 
 -- the place of a variable's spelling
-place_is : (k i j v : ℕ) → v ≡ i + j → j ≤ k → i + k < 2 ^ 64 → place_of (spellings i k) (spelling v) ≡ suc j
+pub place_is : (k i j v : ℕ) → v ≡ i + j → j ≤ k → i + k < 2 ^ 64 → place_of (spellings i k) (spelling v) ≡ suc j
 place_is zero i j v is within few = omega arith
 place_is (suc k) i zero v is within few = rw (same_spelling i v (omega arith))
 place_is (suc k) i (suc j) v is within few =
     rw (other_spelling i v (omega arith) (omega arith) (omega arith)) (ap suc (place_is k (suc i) j v (omega arith) (omega arith) (omega arith)))
 
-not_alone : (ds : List ℕ) → 1 ≤ length ds → bytes_eq (95 ∷ ds) (codes "_") ≡ false
+pub not_alone : (ds : List ℕ) → 1 ≤ length ds → bytes_eq (95 ∷ ds) (codes "_") ≡ false
 not_alone [] some = absurd (omega arith)
 not_alone (d ∷ ds) some = refl
 

@@ -7,19 +7,20 @@ use Rattle.std.proofs.lemmas.List.{append_assoc, append-nil}
 use Rattle.kl1_model.specs.Text.{is_text}
 use Rattle.kl1_model.specs.declared.rules.Rules.{Rules}
 use Rattle.kl1_model.specs.State.{State, has_runs, fresh_with}
-use Rattle.kl1_model.specs.Event.{Event, load, start, control, reduce, read, login, logout, reset, answer, ran, Transition, is_refused}
+use Rattle.kl1_model.specs.Event.{Event, load, start, control, reduce, read, login, logout, reset, answer, forget, ran, Transition, is_refused}
 use Rattle.kl1_model.specs.Choice.{is_in_run}
 use Rattle.kl1_model.specs.Step.{step}
 use Rattle.kl1_model_server.specs.Command.{reply_lines, written_lines}
-use Rattle.kl1_model_server.specs.Journal.{Entry, loads, starts, sends, steps, answers, runs, first_step, first_steps, entry_step, Journal, without_last, entered, stepped, with_event, Kept}
+use Rattle.kl1_model_server.specs.Journal.{Entry, loads, starts, sends, steps, answers, forgets, runs, last_run_of, first_step, first_steps, entry_step, Journal, without_last, entered, stepped, with_event, Kept}
 use Rattle.kl1_model_server.specs.JournalText.{entry_line, name_line, is_new_name, Heading, Lines}
 use Rattle.kl1_model_server.specs.laws.HistoryLaws.{beside, IsReplay}
 use Rattle.kl1_model_server.specs.laws.TextLaws.{HasLine, are_new_names}
 use Rattle.kl1_model_server.specs.Replay.{written_fault, written_end, written_entries, replay_name, written_names, written_replay}
 use Rattle.kl1_model_server.specs.laws.ReplayLaws.{are_accepted, written_replies, replayed_from, RepliesOfReplays, FreshIsReplayable, ReplayableStays}
 use Rattle.kl1_model_server.proofs.Besides.{stays_beside}
-use Rattle.kl1_model_server.proofs.Replays.{after_entries, fresh_is_replay, replays_stay, rules_after, run_does, before_run, last_run}
-use Rattle.kl1_model_server.proofs.RunsKept.{run_with, reduction_run, run_goes_on, run_is_first, run_has_rules}
+use Rattle.kl1_model_server.proofs.RulesKept.{entry_rules}
+use Rattle.kl1_model_server.proofs.Replays.{longer_is, after_entries, fresh_is_replay, replays_stay, rules_after, run_does, before_run, last_run}
+use Rattle.kl1_model_server.proofs.RunsKept.{run_with, reduction_run, run_goes_on, run_has_room, run_is_first, run_has_rules}
 use Rattle.kl1_model_server.proofs.TextEntries.{entries_read_back}
 use Rattle.kl1_model_server.proofs.TextNames.{names_read_back, headings_read_back}
 use Rattle.kl1_model_server.proofs.TextJournals.{text_lines}
@@ -49,14 +50,14 @@ step_written : (next : State → List ℕ) (k : ℕ) (x : Transition) (rest : Li
 step_written next k x rest a e =
     ap (λ c. if c then written_fault k else written_lines (reply_lines x.reply) ++ next x.state) (not_true (is_refused x.reply) a) ∙ ap (λ y. written_lines (reply_lines x.reply) ++ y) e
 
-entries_written : (es : List Entry) (k n total : ℕ) (s : State) → AllByRecursion HasLine es → are_accepted s es ≡ true → n + length es ≡ total → written_entries k n s (map entry_line es) [] ≡ written_replies s es ++ written_end total
+entries_written : (es : List Entry) (k n total : ℕ) (s : State) → AllByRecursion (HasLine s.rules) es → are_accepted s es ≡ true → n + length es ≡ total → written_entries k n s (map entry_line es) [] ≡ written_replies s es ++ written_end total
 entries_written [] k n total s h a is = let same : n ≡ total = omega arith in ap written_end same
 entries_written (e ∷ es) k n total s h a is =
     let x = entry_step s e in
     let both = and_parts (not (is_refused x.reply)) (are_accepted x.state es) a in
     let next : State → List ℕ = λ after. written_entries (suc k) (suc n) after (map entry_line es) [] in
-    ap (written_entry next k s) (entries_read_back e h.0)
-    ∙ step_written next k x (written_replies x.state es ++ written_end total) both.0 (entries_written es (suc k) (suc n) total x.state h.1 both.1 (omega arith))
+    ap (written_entry next k s) (entries_read_back s.rules e h.0)
+    ∙ step_written next k x (written_replies x.state es ++ written_end total) both.0 (entries_written es (suc k) (suc n) total x.state (subst (λ rules. AllByRecursion (HasLine rules) es) (sym (entry_rules s e)) h.1) both.1 (omega arith))
     ∙ sym (append_assoc (written_lines (reply_lines x.reply)) (written_replies x.state es) (written_end total))
 
 -- the lines of names
@@ -158,7 +159,9 @@ reduced_accepted k goal clause (suc n) false r h by b a = absurd (omega (arith, 
 reduced_accepted k goal clause (suc zero) true r h by b a = begun_accepted k goal clause r h b a
 reduced_accepted k goal clause (suc (suc m)) true r h by b a =
     let before : k.state.run ≡ suc m = run_goes_on k.state.run m (sym by) in
-    longer_accepted k goal clause m r h b (subst (λ n. without_last k.journal.entries ++ runs n ∷ [] ≡ k.journal.entries) before (r.run m before)) a
+    let ends = r.run m before in
+    subst (λ (es : List Entry). IsAccepted (record k.journal { entries = es })) (sym (longer_is k.journal.entries (last_run_of k.journal.entries) k.state.run m ends.0 before (run_has_room k.state.run m (sym by))))
+    (longer_accepted k goal clause m r h b (subst (λ n. without_last k.journal.entries ++ runs n ∷ [] ≡ k.journal.entries) before ends.1) a)
 
 event_accepted : (k : Kept) (e : Event) → IsReplay k → is_refused (step k.state e).reply ≡ false → IsAccepted k.journal → IsAccepted (with_event k.journal e (step k.state e).state)
 event_accepted k (load text) r b a = entry_accepted k (loads text) r b a
@@ -170,6 +173,7 @@ event_accepted k login r b a = accepted_beside replay_name (step k.state login).
 event_accepted k logout r b a = accepted_beside replay_name (step k.state logout).state.sessions (replayed_from k.journal) k.journal.entries ∙ a
 event_accepted k reset r b a = refl
 event_accepted k (answer n report t) r b a = entry_accepted k (answers n report t) r b a
+event_accepted k (forget n count) r b a = entry_accepted k (forgets n count) r b a
 
 noted_accepted : (c : Bool) (k : Kept) (e : Event) → IsReplay k → is_refused (step k.state e).reply ≡ c → IsAccepted k.journal → IsAccepted (if c then k.journal else with_event k.journal e (step k.state e).state)
 noted_accepted true k e r b a = a

@@ -1,19 +1,19 @@
 -- An account is the replay of its journal.
 use Rattle.std.proofs.Common.{◌≡◌, ℕ, zero, suc, ◌-◌, nat_lt, nat_le, ◌&&◌, Bool, true, false, if◌then◌else◌, List, [], ◌∷◌, ◌++◌, refl, sym, ap, ◌∙◌, subst, arith}
 use Rattle.std.specs.Prelude.{fold, Option, Some, None}
-use Rattle.kl1_model.specs.declared.limits.TheConstants.{MOST_SESSIONS}
+use Rattle.kl1_model.specs.declared.limits.TheConstants.{MOST_RUN, MOST_SESSIONS}
 use Rattle.kl1_model.specs.State.{State, has_runs, Shoen, Origin, fresh_with, shoen_at}
-use Rattle.kl1_model.specs.Event.{Event, load, start, control, reduce, read, login, logout, reset, answer, welcome, bye, sessions_refused, Query, value, status, reports, modules, is_quiet, Refusal, syntax, Transition, refuse, is_number, is_refused}
-use Rattle.kl1_model.specs.Asking.{origin_at}
+use Rattle.kl1_model.specs.Event.{Event, load, start, control, reduce, read, login, logout, reset, answer, forget, welcome, bye, sessions_refused, Query, value, status, reports, modules, is_quiet, Refusal, syntax, Transition, refuse, is_number, is_refused}
+use Rattle.kl1_model.specs.Asking.{origin_at, kept_at, reports_from}
 use Rattle.kl1_model.specs.code.Steps.{value_of, status_of, reports_of}
 use Rattle.kl1_model.specs.Choice.{is_in_run}
 use Rattle.kl1_model.specs.Step.{step}
 use Rattle.kl1_model.proofs.TreeSteps.{refusals_change_nothing}
-use Rattle.kl1_model_server.specs.Journal.{Entry, loads, starts, sends, steps, answers, runs, first_step, first_steps, entry_step, Journal, without_last, entered, stepped, with_event, noted, replay, Kept, Done}
+use Rattle.kl1_model_server.specs.Journal.{Entry, loads, starts, sends, steps, answers, forgets, runs, run_length, last_run_of, run_longer, first_step, first_steps, entry_step, Journal, without_last, entered, stepped, with_event, noted, replay, Kept, Done}
 use Rattle.kl1_model_server.specs.laws.HistoryLaws.{beside, EndsInRun, FreshIsReplay, ReplaysStay, NamesStay, RulesStay}
 use Rattle.kl1_model_server.proofs.Besides.{stays_beside}
 use Rattle.kl1_model_server.proofs.RulesKept.{entry_rules}
-use Rattle.kl1_model_server.proofs.RunsKept.{loads_unrun, starts_unrun, sends_unrun, answers_unrun, run_with, reduction_run, run_goes_on, run_is_first, run_has_rules}
+use Rattle.kl1_model_server.proofs.RunsKept.{loads_unrun, starts_unrun, sends_unrun, answers_unrun, forgets_unrun, run_with, reduction_run, run_goes_on, run_has_room, run_is_first, run_has_rules}
 
 -- an account with its journal after what became of an event
 abbrev pub kept_after : Kept → Event → Transition → Done
@@ -63,7 +63,7 @@ stays_or false s x r e = refl
 -- a query leaves the account
 pub reading_stays : (s : State) (q : Query) → (step s (read q)).state ≡ s
 reading_stays s (value n) = stays_or (is_number n) s (value_of s (origin_at n s.shoens)) syntax (value_stays s (origin_at n s.shoens))
-reading_stays s (status n) = stays_or (is_number n) s (status_of s (shoen_at n s.shoens)) syntax (status_stays s (shoen_at n s.shoens))
+reading_stays s (status n) = stays_or (is_number n) s (status_of s (kept_at n s.shoens)) syntax (status_stays s (kept_at n s.shoens))
 reading_stays s (reports n from) = stays_or (is_number n && is_number from && nat_le 1 from) s (reports_of s from (origin_at n s.shoens)) syntax (reports_stay s from (origin_at n s.shoens))
 reading_stays s modules = refl
 reading_stays s is_quiet = refl
@@ -86,6 +86,7 @@ names_stay s login = named_or (nat_lt s.sessions MOST_SESSIONS) s s sessions_ref
 names_stay s logout = named_or (nat_lt 0 s.sessions) s s sessions_refused (record { state = record s { sessions = s.sessions - 1 }; reply = bye }) refl
 names_stay s reset = refl
 names_stay s (answer n report t) = entry_named s (answers n report t)
+names_stay s (forget n count) = entry_named s (forgets n count)
 
 ruled_or : (c : Bool) (s : State) (r : Refusal) (x : Transition) → x.state.rules ≡ s.rules → (if c then x else refuse s r).state.rules ≡ s.rules
 ruled_or true s r x e = e
@@ -101,6 +102,7 @@ rules_stay s login = ruled_or (nat_lt s.sessions MOST_SESSIONS) s sessions_refus
 rules_stay s logout = ruled_or (nat_lt 0 s.sessions) s sessions_refused (record { state = record s { sessions = s.sessions - 1 }; reply = bye }) refl
 rules_stay s reset = refl
 rules_stay s (answer n report t) = entry_rules s (answers n report t)
+rules_stay s (forget n count) = entry_rules s (forgets n count)
 
 -- an account by its journal, with the name told apart
 record Replays (name : List ℕ) (j : Journal) (s : State) : Type 0 where
@@ -128,8 +130,14 @@ last_gone [] e = refl
 last_gone (d ∷ []) e = refl
 last_gone (d ∷ f ∷ es) e = ap (λ (x : List Entry). d ∷ x) (last_gone (f ∷ es) e)
 
+-- the run that these end with
+last_is : (es : List Entry) (n : ℕ) → last_run_of (es ++ runs n ∷ []) ≡ n
+last_is [] n = refl
+last_is (d ∷ []) n = refl
+last_is (d ∷ f ∷ es) n = last_is (f ∷ es) n
+
 ends_here : (es : List Entry) (n : ℕ) → EndsInRun (es ++ runs n ∷ []) n
-ends_here es n m f = ap (λ (x : List Entry). x ++ runs n ∷ []) (last_gone es (runs n))
+ends_here es n m f = (last_is es n, ap (λ (x : List Entry). x ++ runs n ∷ []) (last_gone es (runs n)))
 
 -- what a run does by rules with runs
 pub run_does : (s : State) (n : ℕ) → has_runs s.rules ≡ true → entry_step s (runs n) ≡ first_steps n s
@@ -180,6 +188,11 @@ run_begins name j s goal clause in_run is r =
     subst (Replays name (entered j (runs 1))) e
     (entry_more name j s (runs 1) (subst (λ n. EndsInRun (j.entries ++ runs 1 ∷ []) n) (sym (ap (λ (z : State). z.run) e ∙ is)) (ends_here j.entries 1)) r)
 
+-- a run with room in it is one longer
+pub longer_is : (es : List Entry) (l n m : ℕ) → l ≡ n → n ≡ suc m → nat_lt n MOST_RUN ≡ true → run_longer es l ≡ without_last es ++ runs (suc (suc m)) ∷ []
+longer_is es l n m e f room =
+    ap (run_longer es) (e ∙ f) ∙ ap (λ b. if b then without_last es ++ runs (suc (suc m)) ∷ [] else es ++ runs 1 ∷ []) (ap (λ k. nat_lt k MOST_RUN) (sym f) ∙ room)
+
 -- a reduction by the length of the last run after it
 reduced_more : (name : List ℕ) (j : Journal) (s : State) (goal clause n : ℕ) (in_run : Bool) → is_in_run s goal clause ≡ in_run → (step s (reduce goal clause)).state.run ≡ n → n ≡ run_with in_run s → Replays name j s → Replays name (stepped j goal clause n) (step s (reduce goal clause)).state
 reduced_more name j s goal clause zero in_run h is by r = other_more name j s (steps goal clause) is r
@@ -187,7 +200,9 @@ reduced_more name j s goal clause (suc n) false h is by r = absurd (omega (arith
 reduced_more name j s goal clause (suc zero) true h is by r = run_begins name j s goal clause h is r
 reduced_more name j s goal clause (suc (suc m)) true h is by r =
     let before : s.run ≡ suc m = run_goes_on s.run m (sym by) in
-    run_more name j s goal clause m h is (subst (λ n. without_last j.entries ++ runs n ∷ [] ≡ j.entries) before (r.run m before)) r
+    let ends = r.run m before in
+    subst (λ (es : List Entry). Replays name (record j { entries = es }) (step s (reduce goal clause)).state) (sym (longer_is j.entries (last_run_of j.entries) s.run m ends.0 before (run_has_room s.run m (sym by))))
+    (run_more name j s goal clause m h is (subst (λ n. without_last j.entries ++ runs n ∷ [] ≡ j.entries) before ends.1) r)
 
 -- another number of sessions
 resized : (name : List ℕ) (j : Journal) (s : State) (n : ℕ) → s.own_name ≡ name → Replays name j s → Replays name (record j { sessions = n }) (record s { sessions = n })
@@ -217,6 +232,7 @@ accepted name j s logout own a r = logged (nat_lt 0 s.sessions) s
     logged false t = resized name j s s.sessions own r
 accepted name j s reset own a r = record { is = ap (λ x. fresh_with s.rules x s.names s.sessions) (sym own); rules = refl; sessions = refl; run = no_run [] 0 refl }
 accepted name j s (answer n report t) own a r = other_more name j s (answers n report t) (answers_unrun s n report t a) r
+accepted name j s (forget n count) own a r = other_more name j s (forgets n count) (forgets_unrun s n count a) r
 
 by_reply : (name : List ℕ) (j : Journal) (s : State) (e : Event) (c : Bool) → s.own_name ≡ name → is_refused (step s e).reply ≡ c → Replays name j s → Replays name (if c then j else with_event j e (step s e).state) (step s e).state
 by_reply name j s e true own a r = subst (λ (z : State). Replays name j z) (sym (refusals_change_nothing s e a)) r

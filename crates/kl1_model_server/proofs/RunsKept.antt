@@ -7,13 +7,15 @@ use Rattle.kl1_model.specs.declared.message.Message.{Message}
 use Rattle.kl1_model.specs.Term.{Term}
 use Rattle.kl1_model.specs.Module.{Module, Reading, good, bad, read_module}
 use Rattle.kl1_model.specs.Match.{module_of}
-use Rattle.kl1_model.specs.State.{State, has_substitutes, has_runs, Goal, Shoen, Origin, goal_at, shoen_at, names_of, names_of_module, with_names, is_living}
-use Rattle.kl1_model.specs.Event.{Refusal, syntax, source, exists, no_shoen, shoen_ended, too_many_names, limit_passed, journal_full, answer_refused, load, start, control, reduce, answer, loaded, opened, sent, reduced, Transition, refuse, is_number, is_refused, unless, are_too_many, is_full, with_entry, run_after, needs_entry, with_reduction}
+use Rattle.kl1_model.specs.State.{State, has_substitutes, has_forgetting, has_runs, Goal, Shoen, Origin, goal_at, shoen_at, names_of, names_of_module, with_names, is_living}
+use Rattle.kl1_model.specs.Event.{Refusal, syntax, source, exists, no_shoen, shoen_ended, too_many_names, limit_passed, journal_full, answer_refused, load, start, control, reduce, answer, forget, loaded, opened, sent, reduced, forgot, Transition, refuse, is_number, is_refused, unless, are_too_many, is_full, with_entry, run_after, needs_entry, with_reduction}
 use Rattle.kl1_model.specs.Opening.{may_start, has_room_to_start, start_goal}
 use Rattle.kl1_model.specs.Sending.{may_send, has_room_to_send, sent_on, send_living, send_to}
-use Rattle.kl1_model.specs.Answering.{may_answer, has_room_to_answer, unanswered_at, answer_by, answer_living, answer_to}
+use Rattle.kl1_model.specs.Answering.{may_answer, has_room_to_answer, asked_at, given, answered, answer_asked, answer_by, answer_living, answer_to}
 use Rattle.kl1_model.specs.Reduction.{Action, action_of, acted, reduce_goal}
 use Rattle.kl1_model.specs.Choice.{Chosen, first, is_first, is_in_run}
+use Rattle.kl1_model.specs.Telling.{Asked, Given}
+use Rattle.kl1_model.specs.Forgetting.{may_forget, gone, may_go, forget_by, forget_of}
 use Rattle.kl1_model.specs.Step.{load_module, start_by, step}
 use Rattle.kl1_model.specs.code.Steps.{send_by, answer_in, reduced_by, with_module}
 use Rattle.kl1_model_server.specs.Journal.{chosen_step, first_step}
@@ -44,7 +46,7 @@ load_unrun : (s : State) (r : Reading Module) → Unrun (load_module s r)
 load_unrun s (bad line) = unrun_refused s (source line)
 load_unrun s (good m) =
     unrun_unless s
-    ((is_some (module_of s.modules m.name), exists) ∷ (are_too_many (with_names s.names (names_of_module m)), too_many_names)
+    ((is_some (module_of s.modules m.name), exists) ∷ (are_too_many s.rules (with_names s.names (names_of_module m)), too_many_names)
     ∷ (not (nat_lt (length s.modules) MOST_MODULES), limit_passed) ∷ (is_full s, journal_full) ∷ []) (record { state = with_entry (with_module s m); reply = loaded m.name }) (λ a. refl)
 
 pub loads_unrun : (s : State) (text : List ℕ) → Unrun (step s (load text))
@@ -54,7 +56,7 @@ pub starts_unrun : (s : State) (allowance low high : ℕ) (t : Term) → Unrun (
 starts_unrun s allowance low high t =
     unrun_or (may_start allowance low high t) s (start_by s allowance low high t) syntax
     (unrun_unless s
-    ((are_too_many (with_names s.names (names_of t)), too_many_names) ∷ (not (has_room_to_start s t), limit_passed) ∷ (is_full s, journal_full) ∷ [])
+    ((are_too_many s.rules (with_names s.names (names_of t)), too_many_names) ∷ (not (has_room_to_start s t), limit_passed) ∷ (is_full s, journal_full) ∷ [])
     (record { state = with_entry (start_goal s allowance low high t); reply = opened (suc s.last_shoen) }) (λ a. refl))
 
 send_by_unrun : (s : State) (n : ℕ) (m : Message) (h : Shoen) (o : Option Origin) → Unrun (send_by s n m h o)
@@ -70,17 +72,20 @@ send_unrun s n m (Some h) = send_by_unrun s n m h h.origin
 pub sends_unrun : (s : State) (n : ℕ) (m : Message) → Unrun (step s (control n m))
 sends_unrun s n m = unrun_or (may_send n m) s (send_to s n m (shoen_at n s.shoens)) syntax (send_unrun s n m (shoen_at n s.shoens))
 
-answer_by_unrun : (s : State) (t : Term) (o : Option ℕ) → Unrun (answer_by s t o)
-answer_by_unrun s t None = unrun_refused s answer_refused
-answer_by_unrun s t (Some v) = λ a. refl
+answer_by_unrun : (s : State) (g : Given) (t : Term) (o : Option Asked) → Unrun (answer_by s g t o)
+answer_by_unrun s g t None = unrun_refused s answer_refused
+answer_by_unrun s g t (Some a) = unrun_unless s ((g.tells_gone, answer_refused) ∷ []) (record { state = with_entry (answered a.new g t s); reply = sent }) (λ e. refl)
+
+asked_unrun : (s : State) (t : Term) (o : Option Asked) → Unrun (answer_asked s t o)
+asked_unrun s t o =
+    let g = given s o t in
+    unrun_unless s
+    ((are_too_many s.rules (with_names s.names (names_of t)), too_many_names) ∷ (not (has_room_to_answer s g.new t), limit_passed) ∷ (is_full s, journal_full) ∷ [])
+    (answer_by s g t o) (answer_by_unrun s g t o)
 
 answer_in_unrun : (s : State) (report : ℕ) (t : Term) (h : Shoen) (o : Option Origin) → Unrun (answer_in s report t h o)
 answer_in_unrun s report t h None = unrun_refused s no_shoen
-answer_in_unrun s report t h (Some o) =
-    unrun_or (is_living h.life) s (answer_living s report t o) shoen_ended
-    (unrun_unless s
-    ((are_too_many (with_names s.names (names_of t)), too_many_names) ∷ (not (has_room_to_answer s t), limit_passed) ∷ (is_full s, journal_full) ∷ [])
-    (answer_by s t (unanswered_at o.reports report)) (answer_by_unrun s t (unanswered_at o.reports report)))
+answer_in_unrun s report t h (Some o) = unrun_or (is_living h.life) s (answer_living s report t o) shoen_ended (asked_unrun s t (asked_at o report))
 
 answer_unrun : (s : State) (report : ℕ) (t : Term) (o : Option Shoen) → Unrun (answer_to s report t o)
 answer_unrun s report t None = unrun_refused s no_shoen
@@ -88,7 +93,19 @@ answer_unrun s report t (Some h) = answer_in_unrun s report t h h.origin
 
 pub answers_unrun : (s : State) (n report : ℕ) (t : Term) → Unrun (step s (answer n report t))
 answers_unrun s n report t =
-    unrun_or (has_substitutes s.rules && may_answer n report t) s (answer_to s report t (shoen_at n s.shoens)) syntax (answer_unrun s report t (shoen_at n s.shoens))
+    unrun_or (may_answer s.rules n report t) s (answer_to s report t (shoen_at n s.shoens)) syntax (answer_unrun s report t (shoen_at n s.shoens))
+
+forget_by_unrun : (s : State) (n count : ℕ) (h : Shoen) (o : Option Origin) → Unrun (forget_by s n count h o)
+forget_by_unrun s n count h None = unrun_refused s no_shoen
+forget_by_unrun s n count h (Some o) =
+    unrun_unless s ((is_full s, journal_full) ∷ (not (may_go count h o), answer_refused) ∷ []) (record { state = with_entry (gone n count o s); reply = forgot }) (λ a. refl)
+
+forget_unrun : (s : State) (n count : ℕ) (o : Option Shoen) → Unrun (forget_of s n count o)
+forget_unrun s n count None = unrun_refused s no_shoen
+forget_unrun s n count (Some h) = forget_by_unrun s n count h h.origin
+
+pub forgets_unrun : (s : State) (n count : ℕ) → Unrun (step s (forget n count))
+forgets_unrun s n count = unrun_or (has_forgetting s.rules && may_forget n count) s (forget_of s n count (shoen_at n s.shoens)) syntax (forget_unrun s n count (shoen_at n s.shoens))
 
 -- ---- reductions
 
@@ -141,6 +158,14 @@ run_goes_on n m = by_case (nat_lt n MOST_RUN)
   where
     by_case : (c : Bool) → (if c then suc n else 1) ≡ suc (suc m) → n ≡ suc m
     by_case true h = omega (arith, h)
+    by_case false h = absurd (omega (arith, h))
+
+-- and there was room in it
+pub run_has_room : (n m : ℕ) → run_after n ≡ suc (suc m) → nat_lt n MOST_RUN ≡ true
+run_has_room n m = by_case (nat_lt n MOST_RUN)
+  where
+    by_case : (c : Bool) → (if c then suc n else 1) ≡ suc (suc m) → c ≡ true
+    by_case true h = refl
     by_case false h = absurd (omega (arith, h))
 
 chosen_first : (s : State) (goal clause : ℕ) (o : Option Chosen) → elim o [ None ↦ false | Some c ↦ c.goal == goal && c.clause == clause ] ≡ true →

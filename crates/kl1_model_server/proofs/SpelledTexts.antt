@@ -5,7 +5,7 @@ use Rattle.std.proofs.Common.{refl, arith}
 use Rattle.std.proofs.lemmas.Bool.{and_from, le-leb}
 use Rattle.kl1_model.specs.declared.limits.TheConstants.{MOST_NAME_BYTES, MOST_SPELLED_BEFORE}
 use Rattle.kl1_model.specs.declared.rules.Rules.{Rules}
-use Rattle.kl1_model.specs.declared.rules.Rules.TheVariants.{One, Two, Three, Four}
+use Rattle.kl1_model.specs.declared.rules.Rules.TheVariants.{One, Two, Three, Four, Five}
 use Rattle.kl1_model.specs.Text.{is_name_byte, is_text}
 use Rattle.kl1_model.specs.Term.{Term, variable, integer, atom, structure, none, more}
 use Rattle.kl1_model.specs.Arithmetic.{evaluated}
@@ -84,6 +84,7 @@ most_in_names : (rules : Rules) → most_spelled rules ≤ MOST_NAME_BYTES
 most_in_names One = let le : MOST_SPELLED_BEFORE ≤ MOST_NAME_BYTES = omega arith in le
 most_in_names Two = let le : MOST_SPELLED_BEFORE ≤ MOST_NAME_BYTES = omega arith in le
 most_in_names Four = let le : MOST_NAME_BYTES ≤ MOST_NAME_BYTES = omega arith in le
+most_in_names Five = let le : MOST_NAME_BYTES ≤ MOST_NAME_BYTES = omega arith in le
 most_in_names Three = let le : MOST_NAME_BYTES ≤ MOST_NAME_BYTES = omega arith in le
 
 spelled_names : (most : ℕ) (a : Term) (s : Found (List ℕ)) → most ≤ MOST_NAME_BYTES → IsSpelled most s → MayName (move_found (λ text. names text a) s)

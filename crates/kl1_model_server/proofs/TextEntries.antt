@@ -16,13 +16,18 @@ use Rattle.kl1_model.specs.Print.{print}
 use Rattle.kl1_model.specs.Token.{is_digit}
 use Rattle.kl1_model.specs.Line.{before_space, behind_space, number_in}
 use Rattle.kl1_model.specs.Module.{Reading, good, bad, read_goal}
+use Rattle.kl1_model.specs.declared.rules.Rules.{Rules}
+use Rattle.kl1_model.specs.State.{has_told, has_forgetting}
+use Rattle.kl1_model.specs.Telling.{read_told_goal, is_told_term, read_answer}
+use Rattle.kl1_model.specs.Answering.{is_numbered_by}
 use Rattle.kl1_model.specs.Event.{is_number}
 use Rattle.kl1_model.specs.Sending.{is_message, may_send}
 use Rattle.kl1_model.specs.laws.ReadLaws.{is_printable}
-use Rattle.kl1_model_server.specs.Journal.{Entry, loads, starts, sends, steps, answers, runs}
+use Rattle.kl1_model_server.specs.Journal.{Entry, loads, starts, sends, steps, answers, forgets, runs}
 use Rattle.kl1_model_server.specs.JournalText.{hex_digit, is_hex_digit, hex_text, hex_value, hex_bytes, entry_line, of_two, if_good, start_in, answer_in, run_of, entry_by, exactly}
 use Rattle.kl1_model_server.specs.laws.TextLaws.{AreBytes, HasLine, EntriesReadBack, StrictLinesAreEntries}
 use Rattle.kl1_model_server.proofs.ReadBack.{printed_goals_read_back}
+use Rattle.kl1_model_server.proofs.ToldBack.{told_few, told_goals_read_back}
 use Rattle.kl1_model_server.proofs.ReadPlain.{prints_are_plain}
 use Rattle.kl1_model_server.proofs.Exactly.{exactly_back, exactly_strict}
 use Rattle.kl1_model_server.proofs.Words.{few_digits, number_back, before_front, behind_front, decimal_no_space, highest_fits}
@@ -86,8 +91,8 @@ abbrev start_front : ℕ → ℕ → ℕ → List ℕ
 start_front allowance low high = codes "start " ++ decimal allowance ++ codes " " ++ decimal low ++ codes " " ++ decimal high ++ codes " "
 
 -- a start that has a line
-pub starts_here : (allowance low high : ℕ) (t : Term) → HasLine (starts allowance low high t) → Starts allowance low high t
-starts_here allowance low high t h = record {
+pub starts_here : (rules : Rules) (allowance low high : ℕ) (t : Term) → HasLine rules (starts allowance low high t) → Starts allowance low high t
+starts_here rules allowance low high t h = record {
   first = h.0;
   second = h.1;
   third = h.2;
@@ -97,11 +102,13 @@ starts_here allowance low high t h = record {
 }
 
 -- the facts of an answer
-pub record Answers (n report : ℕ) (t : Term) : Type 0 where
+pub record Answers (rules : Rules) (n report : ℕ) (t : Term) : Type 0 where
   pub first : n < NUMBER_LIMIT
   pub second : report < NUMBER_LIMIT
   pub goal : is_goal t ≡ true
-  pub printable : is_printable t ≡ true
+  pub writable : is_writable t ≡ true
+  pub numbered : is_numbered_by rules t ≡ true
+  pub few : highest t < NUMBER_LIMIT
   pub plain : list_all is_name_byte (print t) ≡ true
 
 -- what an answer's line has before its goal
@@ -109,14 +116,22 @@ abbrev answer_front : ℕ → ℕ → List ℕ
 answer_front n report = codes "answer " ++ decimal n ++ codes " " ++ decimal report ++ codes " "
 
 -- an answer that has a line
-pub answers_here : (n report : ℕ) (t : Term) → HasLine (answers n report t) → Answers n report t
-answers_here n report t h = record {
-  first = h.0;
-  second = h.1;
-  goal = h.2;
-  printable = (printable_here (answer_front n report) t h.3 h.4 h.5).back;
-  plain = (printable_here (answer_front n report) t h.3 h.4 h.5).plain;
-}
+answer_few : (c : Bool) (front : List ℕ) (t : Term) → (if c then is_told_term t else is_numbered t) ≡ true → length (front ++ print t) ≤ MOST_LINE_BYTES → highest t < NUMBER_LIMIT
+answer_few true front t numbered short = told_few t numbered
+answer_few false front t numbered short = omega (arith, highest_fits t numbered, length-append front (print t))
+
+pub answers_here : (rules : Rules) (n report : ℕ) (t : Term) → HasLine rules (answers n report t) → Answers rules n report t
+answers_here rules n report t h =
+    let few = answer_few (has_told rules) (answer_front n report) t h.4 h.5 in
+    record {
+      first = h.0;
+      second = h.1;
+      goal = h.2;
+      writable = h.3;
+      numbered = h.4;
+      few = few;
+      plain = prints_are_plain t (and_parts (is_narrow t) (nat_le (depth t) MOST_DEPTH) h.3).0 few;
+    }
 
 -- what was read as good
 pub is_read : {A : Type 0} (r : Reading A) (a : A) → if_good r ≡ Some a → r ≡ good a
@@ -146,18 +161,24 @@ start_back allowance low high t s =
 by_two : (x y : Option ℕ) (o : Option Term) (n report : ℕ) (t : Term) → x ≡ Some n → y ≡ Some report → o ≡ Some t → option_and_then (λ n. option_and_then (λ report. option_map (answers n report) o) y) x ≡ Some (answers n report t)
 by_two x y o n report t p q e = rw (p, q, e) refl
 
+-- a printed goal of an answer reads back
+answer_reads : (c : Bool) (t : Term) → is_writable t ≡ true → (if c then is_told_term t else is_numbered t) ≡ true → is_goal t ≡ true → highest t < NUMBER_LIMIT → (if c then read_told_goal (print t) else read_goal (print t)) ≡ good t
+answer_reads true t writable numbered goal few = told_goals_read_back t writable numbered goal
+answer_reads false t writable numbered goal few =
+    printed_goals_read_back t (and_from (is_writable t && is_numbered t) (nat_lt (highest t) NUMBER_LIMIT) (and_from (is_writable t) (is_numbered t) writable numbered) (lt-ltb (highest t) NUMBER_LIMIT few)) goal
+
 -- an answer by its numbers and its goal
-answer_back : (n report : ℕ) (t : Term) → Answers n report t → answer_in (decimal n ++ 32 ∷ (decimal report ++ 32 ∷ print t)) ≡ Some (answers n report t)
-answer_back n report t s =
+answer_back : (rules : Rules) (n report : ℕ) (t : Term) → Answers rules n report t → answer_in rules (decimal n ++ 32 ∷ (decimal report ++ 32 ∷ print t)) ≡ Some (answers n report t)
+answer_back rules n report t s =
     let last = print t in
     let b = decimal report ++ 32 ∷ last in
     let rest = decimal n ++ 32 ∷ b in
     let is_b : behind_space rest ≡ b = behind_front (decimal n) b (decimal_no_space n s.first) in
     let is_last : behind_space (behind_space rest) ≡ last = ap behind_space is_b ∙ behind_front (decimal report) last (decimal_no_space report s.second) in
-    by_two (number_in (before_space rest)) (number_in (before_space (behind_space rest))) (if_good (read_goal (behind_space (behind_space rest)))) n report t
+    by_two (number_in (before_space rest)) (number_in (before_space (behind_space rest))) (if_good (read_answer rules (behind_space (behind_space rest)))) n report t
     (ap number_in (before_front (decimal n) b (decimal_no_space n s.first)) ∙ number_back n s.first)
     (ap (λ x. number_in (before_space x)) is_b ∙ ap number_in (before_front (decimal report) last (decimal_no_space report s.second)) ∙ number_back report s.second)
-    (ap if_good (ap read_goal is_last ∙ printed_goals_read_back t s.printable s.goal))
+    (ap if_good (ap (read_answer rules) is_last ∙ answer_reads (has_told rules) t s.writable s.numbered s.goal s.few))
 
 three_parts : (a b p : List ℕ) → a ++ 32 ∷ [] ++ b ++ 32 ∷ [] ++ p ≡ a ++ 32 ∷ (b ++ 32 ∷ p)
 three_parts a b p = simp append_assoc refl
@@ -177,20 +198,27 @@ pub sent_more : (n k : ℕ) → may_send n (Allow k) ≡ true → k < NUMBER_LIM
 sent_more n k h = ltb-true k NUMBER_LIMIT (and_parts (is_number n) (is_number k) h).1
 
 -- the entry that a line may be, by its words
-abbrev parsed : List ℕ → Option Entry
-parsed line = entry_by (before_space line) (behind_space line)
+abbrev parsed : Rules → List ℕ → Option Entry
+parsed rules line = entry_by rules (before_space line) (behind_space line)
+
+-- a letting go, by rules that have it
+forget_if : (c : Bool) (x y : Option Entry) → c ≡ true → (if c then x else y) ≡ x
+forget_if true x y e = refl
+forget_if false x y e = absurd (cc)
 
 -- the entry by the words of its line
-by_back : (e : Entry) → HasLine e → entry_by (before_space (entry_line e)) (behind_space (entry_line e)) ≡ Some e
-by_back (loads text) h = rw (hex_digits text h.0) (ap (λ bs. Some (loads bs)) (hex_back text h.0))
-by_back (starts allowance low high t) h = ap start_in (four_parts (decimal allowance) (decimal low) (decimal high) (print t)) ∙ start_back allowance low high t (starts_here allowance low high t h)
-by_back (sends n Stop) h = ap (option_map (λ k. sends k Stop)) (number_back n (sent_number n Stop h))
-by_back (sends n Start) h = ap (option_map (λ k. sends k Start)) (number_back n (sent_number n Start h))
-by_back (sends n Abort) h = ap (option_map (λ k. sends k Abort)) (number_back n (sent_number n Abort h))
-by_back (sends n (Allow k)) h = ap (of_two (λ n k. sends n (Allow k))) (two_parts (decimal n) (decimal k)) ∙ two_back (λ n k. sends n (Allow k)) n k (sent_number n (Allow k) h) (sent_more n k h)
-by_back (answers n report t) h = ap answer_in (three_parts (decimal n) (decimal report) (print t)) ∙ answer_back n report t (answers_here n report t h)
-by_back (runs n) h = ap (option_and_then run_of) (number_back n h.1) ∙ ap (λ x. if◌then◌else◌ {A = Option Entry} x (Some (runs n)) None) (le-leb 1 n h.0)
-by_back (steps goal clause) h = ap (of_two steps) (two_parts (decimal goal) (decimal clause)) ∙ two_back steps goal clause h.0 h.1
+by_back : (rules : Rules) (e : Entry) → HasLine rules e → entry_by rules (before_space (entry_line e)) (behind_space (entry_line e)) ≡ Some e
+by_back rules (loads text) h = rw (hex_digits text h.0) (ap (λ bs. Some (loads bs)) (hex_back text h.0))
+by_back rules (starts allowance low high t) h = ap start_in (four_parts (decimal allowance) (decimal low) (decimal high) (print t)) ∙ start_back allowance low high t (starts_here rules allowance low high t h)
+by_back rules (sends n Stop) h = ap (option_map (λ k. sends k Stop)) (number_back n (sent_number n Stop h))
+by_back rules (sends n Start) h = ap (option_map (λ k. sends k Start)) (number_back n (sent_number n Start h))
+by_back rules (sends n Abort) h = ap (option_map (λ k. sends k Abort)) (number_back n (sent_number n Abort h))
+by_back rules (sends n (Allow k)) h = ap (of_two (λ n k. sends n (Allow k))) (two_parts (decimal n) (decimal k)) ∙ two_back (λ n k. sends n (Allow k)) n k (sent_number n (Allow k) h) (sent_more n k h)
+by_back rules (answers n report t) h = ap (answer_in rules) (three_parts (decimal n) (decimal report) (print t)) ∙ answer_back rules n report t (answers_here rules n report t h)
+by_back rules (forgets n count) h =
+    forget_if (has_forgetting rules) (of_two forgets (decimal n ++ 32 ∷ [] ++ decimal count)) None h.0 ∙ ap (of_two forgets) (two_parts (decimal n) (decimal count)) ∙ two_back forgets n count h.1 h.2
+by_back rules (runs n) h = ap (option_and_then run_of) (number_back n h.1) ∙ ap (λ x. if◌then◌else◌ {A = Option Entry} x (Some (runs n)) None) (le-leb 1 n h.0)
+by_back rules (steps goal clause) h = ap (of_two steps) (two_parts (decimal goal) (decimal clause)) ∙ two_back steps goal clause h.0 h.1
 
 -- two digits each
 pub length_hex : (bs : List ℕ) → length (hex_text bs) ≡ 2 * length bs
@@ -201,26 +229,27 @@ length_two : (a b : ℕ) → a < NUMBER_LIMIT → b < NUMBER_LIMIT → length (d
 length_two a b p q = omega (arith, length-append (decimal a ++ codes " ") (decimal b), length-append (decimal a) (codes " "), few_digits a p, few_digits b q)
 
 -- the line of an entry isn't too long
-fits : (e : Entry) → HasLine e → length (entry_line e) ≤ MOST_LINE_BYTES
-fits (loads text) h = h.1
-fits (starts allowance low high t) h = h.6
-fits (sends n Stop) h = omega (arith, few_digits n (sent_number n Stop h))
-fits (sends n Start) h = omega (arith, few_digits n (sent_number n Start h))
-fits (sends n Abort) h = omega (arith, few_digits n (sent_number n Abort h))
-fits (sends n (Allow k)) h = omega (arith, length_two n k (sent_number n (Allow k) h) (sent_more n k h))
-fits (answers n report t) h = h.5
-fits (runs n) h = omega (arith, few_digits n h.1)
-fits (steps goal clause) h = omega (arith, length_two goal clause h.0 h.1)
+fits : (rules : Rules) (e : Entry) → HasLine rules e → length (entry_line e) ≤ MOST_LINE_BYTES
+fits rules (loads text) h = h.1
+fits rules (starts allowance low high t) h = h.6
+fits rules (sends n Stop) h = omega (arith, few_digits n (sent_number n Stop h))
+fits rules (sends n Start) h = omega (arith, few_digits n (sent_number n Start h))
+fits rules (sends n Abort) h = omega (arith, few_digits n (sent_number n Abort h))
+fits rules (sends n (Allow k)) h = omega (arith, length_two n k (sent_number n (Allow k) h) (sent_more n k h))
+fits rules (answers n report t) h = h.5
+fits rules (forgets n count) h = omega (arith, length_two n count h.1 h.2)
+fits rules (runs n) h = omega (arith, few_digits n h.1)
+fits rules (steps goal clause) h = omega (arith, length_two goal clause h.0 h.1)
 
 pub entries_read_back : EntriesReadBack
-entries_read_back e h =
+entries_read_back rules e h =
     let line = entry_line e in
-    ap (λ x. if◌then◌else◌ {A = Option Entry} x (exactly entry_line parsed line) None) (le-leb (length line) MOST_LINE_BYTES (fits e h))
-    ∙ exactly_back entry_line parsed e (by_back e h)
+    ap (λ x. if◌then◌else◌ {A = Option Entry} x (exactly entry_line (parsed rules) line) None) (le-leb (length line) MOST_LINE_BYTES (fits rules e h))
+    ∙ exactly_back entry_line (parsed rules) e (by_back rules e h)
 
-strict_short : (b : Bool) (line : List ℕ) (e : Entry) → if◌then◌else◌ {A = Option Entry} b (exactly entry_line parsed line) None ≡ Some e → entry_line e ≡ line
-strict_short true line e h = (exactly_strict entry_line parsed line e h).1
-strict_short false line e h = absurd (none-some e h)
+strict_short : (rules : Rules) (b : Bool) (line : List ℕ) (e : Entry) → if◌then◌else◌ {A = Option Entry} b (exactly entry_line (parsed rules) line) None ≡ Some e → entry_line e ≡ line
+strict_short rules true line e h = (exactly_strict entry_line (parsed rules) line e h).1
+strict_short rules false line e h = absurd (none-some e h)
 
 pub strict_lines_are_entries : StrictLinesAreEntries
-strict_lines_are_entries line e h = strict_short (nat_le (length line) MOST_LINE_BYTES) line e h
+strict_lines_are_entries rules line e h = strict_short rules (nat_le (length line) MOST_LINE_BYTES) line e h

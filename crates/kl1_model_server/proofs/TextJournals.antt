@@ -8,6 +8,7 @@ use Rattle.std.proofs.lemmas.List.Folds.{list_all-append}
 use Rattle.std.proofs.lemmas.Option.{none-some, same_Some}
 use Rattle.kl1_model.specs.declared.rules.Rules.{Rules}
 use Rattle.kl1_model.specs.Text.{is_text}
+use Rattle.kl1_model.proofs.LimitFacts.{limits_are_low}
 use Rattle.kl1_model_server.specs.Command.{written_lines}
 use Rattle.kl1_model_server.specs.Journal.{Entry, Journal}
 use Rattle.kl1_model_server.specs.JournalText.{entry_line, name_line, heading_line, journal_lines, entry_in, name_in, is_new_name, Heading, heading_in, Lines, lines_of, entries_in, journal_after, journal_of}
@@ -19,23 +20,23 @@ use Rattle.kl1_model_server.proofs.TextUnbroken.{entry_unbroken, name_unbroken, 
 
 -- the journal of these rules, sessions, names and entries
 abbrev journal_from : Rules → ℕ → List (List ℕ) → List Entry → Journal
-journal_from rules sessions names entries = record { rules = rules; sessions = sessions; names = names; entries = entries }
+journal_from rules sessions names entries = record { rules = rules; sessions = sessions; names = names; image = []; entries = entries }
 
 -- one entry of those that are read
 entry_then : (e : Entry) (o : Option Entry) (rest : Option (List Entry)) (es : List Entry) → o ≡ Some e → rest ≡ Some es → option_and_then (λ e. option_map (λ es. e ∷ es) rest) o ≡ Some (e ∷ es)
 entry_then e o rest es p q = rw (p, q) refl
 
-entries_back : (es : List Entry) → AllByRecursion HasLine es → entries_in (map entry_line es) ≡ Some es
-entries_back [] h = refl
-entries_back (e ∷ es) h = entry_then e (entry_in (entry_line e)) (entries_in (map entry_line es)) es (entries_read_back e h.0) (entries_back es h.1)
+entries_back : (rules : Rules) (es : List Entry) → AllByRecursion (HasLine rules) es → entries_in rules (map entry_line es) ≡ Some es
+entries_back rules [] h = refl
+entries_back rules (e ∷ es) h = entry_then e (entry_in rules (entry_line e)) (entries_in rules (map entry_line es)) es (entries_read_back rules e h.0) (entries_back rules es h.1)
 
 -- one name of a journal that is read
 name_then : (o : Option (List ℕ)) (t : List ℕ) (test : List ℕ → Bool) (go : List ℕ → Option Journal) → o ≡ Some t → test t ≡ true → option_and_then (λ t. if test t then go t else None) o ≡ go t
 name_then o t test go p q = ap (option_and_then (λ t. if test t then go t else None)) p ∙ ap (λ x. if◌then◌else◌ {A = Option Journal} x (go t) None) q
 
-after_back : (rules : Rules) (sessions : ℕ) (before names : List (List ℕ)) (es : List Entry) → are_new_names before names ≡ true → AllByRecursion HasLine es →
+after_back : (rules : Rules) (sessions : ℕ) (before names : List (List ℕ)) (es : List Entry) → are_new_names before names ≡ true → AllByRecursion (HasLine rules) es →
     journal_after rules sessions before (length names) (map name_line names ++ map entry_line es) ≡ Some (journal_from rules sessions (before ++ names) es)
-after_back rules sessions before [] es new h = ap (option_map (journal_from rules sessions before)) (entries_back es h) ∙ ap (λ x. Some (journal_from rules sessions x es)) (sym (append-nil before))
+after_back rules sessions before [] es new h = ap (option_map (journal_from rules sessions before)) (entries_back rules es h) ∙ ap (λ x. Some (journal_from rules sessions x es)) (sym (append-nil before))
 after_back rules sessions before (t ∷ ts) es new h =
     let all = and_parts (is_text t && is_new_name before t) (are_new_names (before ++ t ∷ []) ts) new in
     let both = and_parts (is_text t) (is_new_name before t) all.0 in
@@ -49,6 +50,7 @@ of_back j w =
     let lines = map name_line j.names ++ map entry_line j.entries in
     ap (option_and_then (λ (h : Heading). journal_after h.rules h.sessions [] h.names lines)) (headings_read_back j.rules j.sessions (length j.names) w.sessions w.names.few)
     ∙ after_back j.rules j.sessions [] j.names j.entries w.names.new w.entries
+    ∙ ap (λ i. Some (record j { image = i })) (sym w.image)
 
 names_unbroken : (before names : List (List ℕ)) → are_new_names before names ≡ true → list_all is_unbroken (map name_line names) ≡ true
 names_unbroken before [] h = refl
@@ -56,9 +58,9 @@ names_unbroken before (t ∷ ts) h =
     let all = and_parts (is_text t && is_new_name before t) (are_new_names (before ++ t ∷ []) ts) h in
     and_from (is_unbroken (name_line t)) (list_all is_unbroken (map name_line ts)) (name_unbroken t (and_parts (is_text t) (is_new_name before t) all.0).0) (names_unbroken (before ++ t ∷ []) ts all.1)
 
-entries_unbroken : (es : List Entry) → AllByRecursion HasLine es → list_all is_unbroken (map entry_line es) ≡ true
-entries_unbroken [] h = refl
-entries_unbroken (e ∷ es) h = and_from (is_unbroken (entry_line e)) (list_all is_unbroken (map entry_line es)) (entry_unbroken e h.0) (entries_unbroken es h.1)
+entries_unbroken : (rules : Rules) (es : List Entry) → AllByRecursion (HasLine rules) es → list_all is_unbroken (map entry_line es) ≡ true
+entries_unbroken rules [] h = refl
+entries_unbroken rules (e ∷ es) h = and_from (is_unbroken (entry_line e)) (list_all is_unbroken (map entry_line es)) (entry_unbroken rules e h.0) (entries_unbroken rules es h.1)
 
 -- no line of a journal has a line feed
 pub lines_unbroken : (j : Journal) → IsWritten j → list_all is_unbroken (journal_lines j) ≡ true
@@ -67,8 +69,9 @@ lines_unbroken j w =
     let entries = map entry_line j.entries in
     let few = w.sessions in
     let less = w.names.few in
+    let low = (limits_are_low j.rules).names in
     and_from (is_unbroken (heading_line j.rules j.sessions (length j.names))) (list_all is_unbroken (names ++ entries)) (first_unbroken j.rules j.sessions (length j.names) (omega arith) (omega arith))
-    (list_all-append is_unbroken names entries ∙ and_from (list_all is_unbroken names) (list_all is_unbroken entries) (names_unbroken [] j.names w.names.new) (entries_unbroken j.entries w.entries))
+    (list_all-append is_unbroken names entries ∙ and_from (list_all is_unbroken names) (list_all is_unbroken entries) (names_unbroken [] j.names w.names.new) (entries_unbroken j.rules j.entries w.entries))
 
 -- the lines of a journal's text
 pub text_lines : (j : Journal) → IsWritten j → lines_of (journal_text j) ≡ record { whole = journal_lines j; rest = [] }
@@ -86,9 +89,9 @@ line_read line lines None o ds is r h = absurd (none-some ds h)
 line_read line lines (Some e) o ds is r h = rest_read line e lines o ds (is e refl) r h
 
 -- the lines of entries that were read
-entries_strict : (lines : List (List ℕ)) (es : List Entry) → entries_in lines ≡ Some es → map entry_line es ≡ lines
-entries_strict [] es h = ap (map entry_line) (sym (same_Some [] es h))
-entries_strict (line ∷ lines) es h = line_read line lines (entry_in line) (entries_in lines) es (strict_lines_are_entries line) (entries_strict lines) h
+entries_strict : (rules : Rules) (lines : List (List ℕ)) (es : List Entry) → entries_in rules lines ≡ Some es → map entry_line es ≡ lines
+entries_strict rules [] es h = ap (map entry_line) (sym (same_Some [] es h))
+entries_strict rules (line ∷ lines) es h = line_read line lines (entry_in rules line) (entries_in rules lines) es (strict_lines_are_entries rules line) (entries_strict rules lines) h
 
 -- what is known of a journal that was read with these rules, sessions and names and this number of names more
 record ReadAfter (rules : Rules) (sessions : ℕ) (before : List (List ℕ)) (n : ℕ) (lines : List (List ℕ)) (j : Journal) : Type 0 where
@@ -130,7 +133,7 @@ none_after rules sessions before lines (Some es) j r h = subst (ReadAfter rules 
 })
 
 after_strict : (rules : Rules) (sessions : ℕ) (before : List (List ℕ)) (n : ℕ) (lines : List (List ℕ)) (j : Journal) → journal_after rules sessions before n lines ≡ Some j → ReadAfter rules sessions before n lines j
-after_strict rules sessions before zero lines j h = none_after rules sessions before lines (entries_in lines) j (entries_strict lines) h
+after_strict rules sessions before zero lines j h = none_after rules sessions before lines (entries_in rules lines) j (entries_strict rules lines) h
 after_strict rules sessions before (suc n) [] j h = absurd (none-some j h)
 after_strict rules sessions before (suc n) (line ∷ lines) j h =
     name_read line rules sessions before n lines (name_in line) j (λ t is. (strict_lines_are_names line t is).1) (λ t. after_strict rules sessions (before ++ t ∷ []) n lines j) h

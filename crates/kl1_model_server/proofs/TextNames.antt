@@ -7,11 +7,13 @@ use Rattle.std.specs.List.{list_all}
 use Rattle.std.proofs.lemmas.Option.{none-some, same_Some}
 use Rattle.std.proofs.lemmas.Slice.Eq.{bytes_eq-Decides}
 use Rattle.kl1_model.specs.declared.rules.Rules.{Rules}
-use Rattle.kl1_model.specs.declared.rules.Rules.TheVariants.{One, Two, Three, Four}
+use Rattle.kl1_model.specs.declared.rules.Rules.TheVariants.{One, Two, Three, Four, Five}
 use Rattle.kl1_model.specs.declared.limits.TheConstants.{NUMBER_LIMIT, MOST_NAMES, MOST_SESSIONS}
 use Rattle.kl1_model.specs.Text.{is_text}
 use Rattle.kl1_model.specs.Name.{is_small_letter, is_word_byte, is_bare, doubled, quoted, name_text}
 use Rattle.kl1_model.specs.Line.{before_space, behind_space, number_in}
+use Rattle.kl1_model.specs.State.{limits_of}
+use Rattle.kl1_model.proofs.LimitFacts.{limits_are_low}
 use Rattle.kl1_model_server.specs.JournalText.{name_line, unquoted, name_by, if_text, version, heading_line, Heading, rules_of, heading_by, if_allowed}
 use Rattle.kl1_model_server.specs.laws.TextLaws.{NamesReadBack, StrictLinesAreNames, HeadingsReadBack, StrictLinesAreHeadings}
 use Rattle.kl1_model_server.proofs.Exactly.{exactly_back, exactly_strict}
@@ -83,16 +85,17 @@ by_parts : (o : Option Rules) (x y : Option ℕ) (rules : Rules) (m n : ℕ) →
 by_parts o x y rules m n p q u = rw (p, q, u) refl
 
 -- a heading whose numbers are small
-heading_allowed : (rules : Rules) (m n : ℕ) → m ≤ MOST_SESSIONS → n ≤ MOST_NAMES → if_allowed (heading rules m n) ≡ Some (heading rules m n)
+heading_allowed : (rules : Rules) (m n : ℕ) → m ≤ MOST_SESSIONS → n ≤ (limits_of rules).names → if_allowed (heading rules m n) ≡ Some (heading rules m n)
 heading_allowed rules m n p q =
     ap (λ x. if◌then◌else◌ {A = Option Heading} x (Some (heading rules m n)) None)
-    (and_from (nat_le m MOST_SESSIONS) (nat_le n MOST_NAMES) (le-leb m MOST_SESSIONS p) (le-leb n MOST_NAMES q))
+    (and_from (nat_le m MOST_SESSIONS) (nat_le n (limits_of rules).names) (le-leb m MOST_SESSIONS p) (le-leb n (limits_of rules).names q))
 
 -- the version of a journal, and what stands after it in the first line
 version_back : (rules : Rules) (rest : List ℕ) → (line : List ℕ) → line ≡ codes "journal " ++ version rules ++ 32 ∷ rest → (rules_of (before_space (behind_space line)) ≡ Some rules) × (behind_space (behind_space line) ≡ rest)
 version_back One rest line is = (ap (λ x. rules_of (before_space (behind_space x))) is, ap (λ x. behind_space (behind_space x)) is)
 version_back Two rest line is = (ap (λ x. rules_of (before_space (behind_space x))) is, ap (λ x. behind_space (behind_space x)) is)
 version_back Four rest line is = (ap (λ x. rules_of (before_space (behind_space x))) is, ap (λ x. behind_space (behind_space x)) is)
+version_back Five rest line is = (ap (λ x. rules_of (before_space (behind_space x))) is, ap (λ x. behind_space (behind_space x)) is)
 version_back Three rest line is = (ap (λ x. rules_of (before_space (behind_space x))) is, ap (λ x. behind_space (behind_space x)) is)
 
 first_parts : (v m n : List ℕ) → codes "journal " ++ v ++ 32 ∷ [] ++ m ++ 32 ∷ [] ++ n ≡ codes "journal " ++ v ++ 32 ∷ (m ++ 32 ∷ n)
@@ -101,6 +104,7 @@ first_parts v m n = simp append_assoc refl
 pub headings_read_back : HeadingsReadBack
 headings_read_back rules m n p q =
     let few : m < NUMBER_LIMIT = omega arith in
+    let low = (limits_are_low rules).names in
     let less : n < NUMBER_LIMIT = omega arith in
     let rest = decimal m ++ 32 ∷ decimal n in
     let line = heading_line rules m n in
@@ -114,15 +118,15 @@ headings_read_back rules m n p q =
     (ap (λ x. number_in (behind_space x)) is_rest ∙ ap number_in (behind_front (decimal m) (decimal n) (decimal_no_space m few)) ∙ number_back n less))
     ∙ heading_allowed rules m n p q)
 
-allowed_read : (b : Bool) (g h : Heading) → nat_le g.sessions MOST_SESSIONS && nat_le g.names MOST_NAMES ≡ b → if◌then◌else◌ {A = Option Heading} b (Some g) None ≡ Some h → (h.sessions ≤ MOST_SESSIONS) × (h.names ≤ MOST_NAMES)
+allowed_read : (b : Bool) (g h : Heading) → nat_le g.sessions MOST_SESSIONS && nat_le g.names (limits_of g.rules).names ≡ b → if◌then◌else◌ {A = Option Heading} b (Some g) None ≡ Some h → (h.sessions ≤ MOST_SESSIONS) × (h.names ≤ (limits_of h.rules).names)
 allowed_read true g h is e =
-    let both = and_parts (nat_le g.sessions MOST_SESSIONS) (nat_le g.names MOST_NAMES) is in
-    subst (λ (h : Heading). (h.sessions ≤ MOST_SESSIONS) × (h.names ≤ MOST_NAMES)) (same_Some g h e) (leb-true g.sessions MOST_SESSIONS both.0, leb-true g.names MOST_NAMES both.1)
+    let both = and_parts (nat_le g.sessions MOST_SESSIONS) (nat_le g.names (limits_of g.rules).names) is in
+    subst (λ (h : Heading). (h.sessions ≤ MOST_SESSIONS) × (h.names ≤ (limits_of h.rules).names)) (same_Some g h e) (leb-true g.sessions MOST_SESSIONS both.0, leb-true g.names (limits_of g.rules).names both.1)
 allowed_read false g h is e = absurd (none-some h e)
 
-few_in : (o : Option Heading) (h : Heading) → option_and_then if_allowed o ≡ Some h → (h.sessions ≤ MOST_SESSIONS) × (h.names ≤ MOST_NAMES)
+few_in : (o : Option Heading) (h : Heading) → option_and_then if_allowed o ≡ Some h → (h.sessions ≤ MOST_SESSIONS) × (h.names ≤ (limits_of h.rules).names)
 few_in None h e = absurd (none-some h e)
-few_in (Some g) h e = allowed_read (nat_le g.sessions MOST_SESSIONS && nat_le g.names MOST_NAMES) g h refl e
+few_in (Some g) h e = allowed_read (nat_le g.sessions MOST_SESSIONS && nat_le g.names (limits_of g.rules).names) g h refl e
 
 pub strict_lines_are_headings : StrictLinesAreHeadings
 strict_lines_are_headings line h e =

@@ -6,7 +6,7 @@ use Rattle.std.proofs.lemmas.Bool.{and_parts, and_from, leb-true, ne_eqb, not_fr
 use Rattle.std.proofs.lemmas.List.Folds.{list_all-append}
 use Rattle.std.proofs.lemmas.Slice.Eq.{bytes_eq-Decides}
 use Rattle.kl1_model.specs.declared.rules.Rules.{Rules}
-use Rattle.kl1_model.specs.declared.rules.Rules.TheVariants.{One, Two, Three, Four}
+use Rattle.kl1_model.specs.declared.rules.Rules.TheVariants.{One, Two, Three, Four, Five}
 use Rattle.kl1_model.specs.declared.limits.TheConstants.{NUMBER_LIMIT}
 use Rattle.kl1_model.specs.declared.message.Message.TheVariants.{Stop, Start, Abort, Allow}
 use Rattle.kl1_model.specs.Text.{is_name_byte, is_text}
@@ -14,7 +14,7 @@ use Rattle.kl1_model.specs.Name.{atom_text}
 use Rattle.kl1_model.specs.Token.{is_digit}
 use Rattle.kl1_model.specs.Term.{Term, atom}
 use Rattle.kl1_model.specs.Print.{Printed, plain, print}
-use Rattle.kl1_model_server.specs.Journal.{Entry, loads, starts, sends, steps, answers, runs}
+use Rattle.kl1_model_server.specs.Journal.{Entry, loads, starts, sends, steps, answers, forgets, runs}
 use Rattle.kl1_model_server.specs.JournalText.{hex_digit, hex_text, entry_line, name_line, heading_line}
 use Rattle.kl1_model_server.specs.laws.TextLaws.{HasLine, is_unbroken}
 use Rattle.kl1_model_server.proofs.LexWords.{decimal_writes}
@@ -73,22 +73,23 @@ start_unbroken allowance low high t s =
     (both_unbroken front (codes " ") (both_unbroken (numbers ++ codes " ") (decimal high) (both_unbroken numbers (codes " ") (two_unbroken allowance low s.first s.second) refl) (decimal_unbroken high s.third)) refl)
     (plain_unbroken (print t) s.plain)
 
-answer_unbroken : (n report : ℕ) (t : Term) → Answers n report t → IsUnbroken (entry_line (answers n report t))
-answer_unbroken n report t s =
+answer_unbroken : (rules : Rules) (n report : ℕ) (t : Term) → Answers rules n report t → IsUnbroken (entry_line (answers n report t))
+answer_unbroken rules n report t s =
     let numbers = decimal n ++ codes " " ++ decimal report in
     both_unbroken (numbers ++ codes " ") (print t) (both_unbroken numbers (codes " ") (two_unbroken n report s.first s.second) refl) (plain_unbroken (print t) s.plain)
 
 -- the line of an entry has no line feed
-pub entry_unbroken : (e : Entry) → HasLine e → IsUnbroken (entry_line e)
-entry_unbroken (loads text) h = hex_unbroken text
-entry_unbroken (starts allowance low high t) h = start_unbroken allowance low high t (starts_here allowance low high t h)
-entry_unbroken (sends n Stop) h = decimal_unbroken n (sent_number n Stop h)
-entry_unbroken (sends n Start) h = decimal_unbroken n (sent_number n Start h)
-entry_unbroken (sends n Abort) h = decimal_unbroken n (sent_number n Abort h)
-entry_unbroken (sends n (Allow k)) h = two_unbroken n k (sent_number n (Allow k) h) (sent_more n k h)
-entry_unbroken (runs n) h = decimal_unbroken n h.1
-entry_unbroken (steps goal clause) h = two_unbroken goal clause h.0 h.1
-entry_unbroken (answers n report t) h = answer_unbroken n report t (answers_here n report t h)
+pub entry_unbroken : (rules : Rules) (e : Entry) → HasLine rules e → IsUnbroken (entry_line e)
+entry_unbroken rules (loads text) h = hex_unbroken text
+entry_unbroken rules (starts allowance low high t) h = start_unbroken allowance low high t (starts_here rules allowance low high t h)
+entry_unbroken rules (sends n Stop) h = decimal_unbroken n (sent_number n Stop h)
+entry_unbroken rules (sends n Start) h = decimal_unbroken n (sent_number n Start h)
+entry_unbroken rules (sends n Abort) h = decimal_unbroken n (sent_number n Abort h)
+entry_unbroken rules (sends n (Allow k)) h = two_unbroken n k (sent_number n (Allow k) h) (sent_more n k h)
+entry_unbroken rules (runs n) h = decimal_unbroken n h.1
+entry_unbroken rules (steps goal clause) h = two_unbroken goal clause h.0 h.1
+entry_unbroken rules (forgets n count) h = two_unbroken n count h.1 h.2
+entry_unbroken rules (answers n report t) h = answer_unbroken rules n report t (answers_here rules n report t h)
 
 atom_printed : (x : Bool) (t : List ℕ) → bytes_eq t (codes "[]") ≡ x → print (atom t) ≡ atom_text t
 atom_printed true t is = rw ((bytes_eq-Decides t (codes "[]")).0 is) refl
@@ -105,3 +106,4 @@ first_unbroken One sessions names p q = two_unbroken sessions names p q
 first_unbroken Two sessions names p q = two_unbroken sessions names p q
 first_unbroken Three sessions names p q = two_unbroken sessions names p q
 first_unbroken Four sessions names p q = two_unbroken sessions names p q
+first_unbroken Five sessions names p q = two_unbroken sessions names p q

@@ -1,20 +1,22 @@
 -- Numbers and words of a line, and how long they are.
-use Rattle.std.specs.Prelude.{◌≡◌, ℕ, ◌+◌, ◌≤◌, ◌<◌, ◌==◌, nat_le, Bool, true, false, List, [], ◌∷◌, ◌++◌, length, codes, bytes_eq, decimal, Some}
+use Rattle.std.specs.Prelude.{◌≡◌, ℕ, suc, ◌+◌, ◌-◌, ◌≤◌, ◌<◌, ◌==◌, max, nat_le, nat_lt, ◌&&◌, Bool, true, false, if◌then◌else◌, List, [], ◌∷◌, ◌++◌, length, codes, bytes_eq, decimal, Some}
 use Rattle.std.specs.List.{list_all, AllByRecursion}
 use Rattle.std.specs.Fmt.{signed_decimal}
-use Rattle.std.proofs.Common.{refl, ap, arith}
-use Rattle.std.proofs.lemmas.Bool.{and_parts, leb-true, le-leb, lt-ltb, ne_eqb}
+use Rattle.std.proofs.Common.{refl, ap, ◌∙◌, arith}
+use Rattle.std.proofs.lemmas.Bool.{and_parts, and_from, leb-true, le-leb, lt-ltb, ne_eqb}
 use Rattle.std.proofs.lemmas.List.{length-append}
 use Rattle.std.proofs.lemmas.Fmt.{length-decimal-le}
 use Rattle.kl1_model.specs.Text.{before_byte, behind_byte}
-use Rattle.kl1_model.specs.declared.limits.TheConstants.{MOST_DIGITS, NUMBER_LIMIT}
+use Rattle.kl1_model.specs.declared.limits.TheConstants.{FIRST_UNTOLD, MOST_DIGITS, NUMBER_LIMIT}
 use Rattle.kl1_model.specs.declared.pair_form.PairForm.{PairForm}
 use Rattle.kl1_model.specs.declared.pair_form.PairForm.TheVariants.{Cell, Qualified, Call}
 use Rattle.kl1_model.specs.Name.{name_text, atom_text}
 use Rattle.kl1_model.specs.Term.{Term, variable, integer, atom, structure, Terms, none, more}
 use Rattle.kl1_model.specs.Token.{is_digit}
 use Rattle.kl1_model.specs.Line.{before_space, behind_space, number_in}
-use Rattle.kl1_model.specs.Meaning.{variables_of, variables_in, is_numbered, highest}
+use Rattle.kl1_model.specs.Meaning.{variables_of, variables_in, is_numbered, numbered_after, highest}
+use Rattle.kl1_model.specs.Event.{is_number}
+use Rattle.kl1_model.specs.Telling.{told_after, is_told_term}
 use Rattle.kl1_model.specs.Print.{form_of, Printed, plain, printed_atom, commas, call_text, printed_cell, printed_pair, printed, printed_each, print}
 use Rattle.kl1_model_server.proofs.LexWords.{decimal_writes}
 use Rattle.kl1_model_server.proofs.ReadCounts.{numbered_upto, highest_upto}
@@ -132,3 +134,21 @@ pub highest_fits : (t : Term) → is_numbered t ≡ true → highest t ≤ lengt
 highest_fits t h =
     let few = (covers t).whole in
     highest_upto t (length (print t)) (numbered_upto (variables_of t) 0 (length (print t)) h (omega arith))
+
+told_small : (v k : ℕ) (vs : List ℕ) → 1 ≤ v → v < FIRST_UNTOLD → told_after k vs ≡ true → told_after k (v ∷ vs) ≡ true
+told_small v k vs some few rest =
+    ap (λ b. if b then nat_le 1 v && told_after k vs else nat_le v (FIRST_UNTOLD + k) && is_number v && told_after (max k (suc v - FIRST_UNTOLD)) vs) (lt-ltb v FIRST_UNTOLD few)
+    ∙ and_from (nat_le 1 v) (told_after k vs) (le-leb 1 v some) rest
+
+-- numbers from 1 by first occurrence are as a text tells them, if there are not too many
+numbered_told : (vs : List ℕ) (k most : ℕ) → numbered_after k vs ≡ true → k + length vs ≤ most → most < FIRST_UNTOLD → told_after 0 vs ≡ true
+numbered_told [] k most h within few = refl
+numbered_told (v ∷ vs) k most h within few =
+    let here = and_parts (nat_le 1 v && nat_le v (suc k)) (numbered_after (max k v) vs) h in
+    let between = and_parts (nat_le 1 v) (nat_le v (suc k)) here.0 in
+    let last = leb-true v (suc k) between.1 in
+    told_small v 0 vs (leb-true 1 v between.0) (omega arith) (numbered_told vs (max k v) most here.1 (omega arith) few)
+
+-- so are those of a term whose print isn't too long
+pub numbered_terms_are_told : (t : Term) → is_numbered t ≡ true → length (print t) < FIRST_UNTOLD → is_told_term t ≡ true
+numbered_terms_are_told t h short = let few = (covers t).whole in numbered_told (variables_of t) 0 (length (print t)) h (omega arith) short

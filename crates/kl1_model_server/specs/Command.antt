@@ -7,12 +7,16 @@ use Rattle.kl1_model.specs.Term.{Term}
 use Rattle.kl1_model.specs.Name.{atom_text}
 use Rattle.kl1_model.specs.declared.limits.TheConstants.{MOST_COMMAND_BYTES, MOST_LISTED, MOST_STEPS}
 use Rattle.kl1_model.specs.Line.{word_in, behind_word_in, number_in, up_to, only_number, is_blank_line}
-use Rattle.kl1_model.specs.Event.{Refusal, syntax, source, exists, no_shoen, shoen_ended, step_refused, too_many_names, limit_passed, journal_full, sessions_refused, answer_refused, value, status, reports, modules, is_quiet, Event, load, start, control, reduce, read, login, logout, reset, answer, Reply, loaded, opened, sent, reduced, ran, shown, status_is, listed, quiet_is, welcome, bye, was_reset, refused, is_refused, is_range}
+use Rattle.kl1_model.specs.Event.{Refusal, syntax, source, exists, no_shoen, shoen_ended, step_refused, too_many_names, limit_passed, journal_full, sessions_refused, answer_refused, value, status, reports, modules, is_quiet, Event, load, start, control, reduce, read, login, logout, reset, answer, forget, Reply, loaded, opened, sent, reduced, ran, shown, status_is, listed, quiet_is, welcome, bye, was_reset, forgot, refused, is_refused, is_range}
 use Rattle.kl1_model.specs.Module.{Reading, good, bad, read_goal}
+use Rattle.kl1_model.specs.declared.rules.Rules.{Rules}
+use Rattle.kl1_model.specs.State.{has_forgetting}
+use Rattle.kl1_model.specs.Telling.{read_answer}
 use Rattle.kl1_model.specs.Choice.{first}
 use Rattle.kl1_model.specs.Record.{Request, load_of, spoiled_load, other_line}
 use Rattle.kl1_model_server.specs.Journal.{Kept, Done, done}
 use Rattle.kl1_model_server.specs.JournalText.{page_of}
+pub use Rattle.kl1_model_server.specs.TextParts.{written_line, written_lines}
 
 -- a command: an event; a run of at most n steps; or the journal's lines from number n on, the first being 1, at most m of them
 pub data Command : Type 0 where
@@ -42,9 +46,9 @@ abbrev pub answer_with : ℕ → ℕ → Reading Term → Option Command
 answer_with n report (bad line) = None
 answer_with n report (good t) = if nat_le 1 report then Some (does (answer n report t)) else None
 
--- an answer, by the number of a shoen, the number of its report, from 1, and the goal
-abbrev pub answer_command : List ℕ → Option Command
-answer_command = by_number (λ n. by_number (λ report rest. answer_with n report (read_goal rest)))
+-- an answer, by the number of a shoen, the number of its report, from 1, and the goal as these rules read it
+abbrev pub answer_command : Rules → List ℕ → Option Command
+answer_command rules = by_number (λ n. by_number (λ report rest. answer_with n report (read_answer rules rest)))
 
 -- the reports of a shoen, by its number and that of the first report, from 1
 abbrev pub reports_command : List ℕ → Option Command
@@ -58,9 +62,9 @@ journal_command = by_two (λ from count. if nat_le 1 from && nat_le 1 count && n
 abbrev pub alone_command : Event → List ℕ → Option Command
 alone_command e line = if is_blank_line line then Some (does e) else None
 
--- the command of a line by its first word `w` and what is after it
-abbrev pub command_by : List ℕ → List ℕ → Option Command
-command_by w rest =
+-- the command of a line by its first word `w` and what is after it, as accounts of these rules have it
+abbrev pub command_by : Rules → List ℕ → List ℕ → Option Command
+command_by rules w rest =
     if bytes_eq w (codes "start") then start_command rest
     else if bytes_eq w (codes "run") then option_map run (up_to MOST_STEPS (only_number rest))
     else if bytes_eq w (codes "stop") then option_map (λ n. does (control n Stop)) (only_number rest)
@@ -77,18 +81,19 @@ command_by w rest =
     else if bytes_eq w (codes "login") then alone_command login rest
     else if bytes_eq w (codes "logout") then alone_command logout rest
     else if bytes_eq w (codes "reset") then alone_command reset rest
-    else if bytes_eq w (codes "answer") then answer_command rest
+    else if bytes_eq w (codes "answer") then answer_command rules rest
+    else if bytes_eq w (codes "forget") && has_forgetting rules then by_two (λ n count. Some (does (forget n count))) rest
     else None
 
--- the command that a line without its end is, if it is one and isn't too long; a `load` line without its source is none
-abbrev pub parse : List ℕ → Option Command
-parse line = if nat_le (length line) MOST_COMMAND_BYTES then command_by (word_in line) (behind_word_in line) else None
+-- the command that a line without its end is by these rules, if it is one and isn't too long; a `load` line without its source is none
+abbrev pub parse : Rules → List ℕ → Option Command
+parse rules line = if nat_le (length line) MOST_COMMAND_BYTES then command_by rules (word_in line) (behind_word_in line) else None
 
 -- the command that is asked for, if there is one
-abbrev pub command_of : Request → Option Command
-command_of (load_of text) = Some (does (load text))
-command_of spoiled_load = None
-command_of (other_line line) = parse line
+abbrev pub command_of : Rules → Request → Option Command
+command_of rules (load_of text) = Some (does (load text))
+command_of rules spoiled_load = None
+command_of rules (other_line line) = parse rules line
 
 -- a reply that leaves an account as it is
 abbrev pub said : Kept → Reply → Done
@@ -149,13 +154,5 @@ reply_lines (quiet_is false) = codes "+ no" ∷ []
 reply_lines (welcome name) = (codes "+ welcome " ++ name) ∷ []
 reply_lines bye = codes "+ bye" ∷ []
 reply_lines was_reset = codes "+ reset" ∷ []
+reply_lines forgot = codes "+ forgotten" ∷ []
 reply_lines (refused r) = (codes "- " ++ refusal_text r) ∷ []
-
--- a line as it is written
-abbrev pub written_line : List ℕ → List ℕ
-written_line line = line ++ 10 ∷ []
-
--- lines as they are written
-abbrev pub written_lines : List (List ℕ) → List ℕ
-written_lines [] = []
-written_lines (line ∷ lines) = written_line line ++ written_lines lines

@@ -1,6 +1,7 @@
 -- The inputs of a stream, and its rest.
 use Rattle.std.specs.Prelude.{ℕ, nat_le, nat_lt, ◌&&◌, if◌then◌else◌, List, length, map, codes, bytes_eq, Option, Some, None}
 use Rattle.kl1_model.specs.declared.limits.TheConstants.{MOST_COMMAND_BYTES}
+use Rattle.kl1_model.specs.declared.rules.Rules.{Rules}
 use Rattle.kl1_model.specs.Line.{word_in, behind_word_in, is_blank_line}
 use Rattle.kl1_model.specs.Record.{Request, other_line}
 use Rattle.kl1_model.specs.Event.{Refusal, syntax}
@@ -24,19 +25,19 @@ abbrev pub input_by : Option Command → Input
 input_by None = refused syntax
 input_by (Some c) = command c
 
--- the input that a request is: a line whose first word is `login` is a login with a name and a key, or is refused
-abbrev pub input_of : Request → Input
-input_of (other_line line) =
-    if nat_le (length line) MOST_COMMAND_BYTES && bytes_eq (word_in line) (codes "login") then login_in (behind_word_in line) else input_by (parse line)
-input_of request = input_by (command_of request)
+-- the input that a request is, by the rules of the server's accounts: a line whose first word is `login` is a login with a name and a key, or is refused
+abbrev pub input_of : Rules → Request → Input
+input_of rules (other_line line) =
+    if nat_le (length line) MOST_COMMAND_BYTES && bytes_eq (word_in line) (codes "login") then login_in (behind_word_in line) else input_by (parse rules line)
+input_of rules request = input_by (command_of rules request)
 
 -- the inputs of a cut
-abbrev pub inputs_in : Cut → List Input
-inputs_in c = map input_of c.requests
+abbrev pub inputs_in : Rules → Cut → List Input
+inputs_in rules c = map (input_of rules) c.requests
 
 -- the inputs of a stream: its complete lines and loads
-abbrev pub inputs : List ℕ → List Input
-inputs bytes = inputs_in (cut_of bytes)
+abbrev pub inputs : Rules → List ℕ → List Input
+inputs rules bytes = inputs_in rules (cut_of bytes)
 
 -- what is left of a stream after its inputs
 abbrev pub rest : List ℕ → List ℕ

@@ -1,3 +1,6 @@
+pub mod TextParts
+pub mod Image
+pub mod ImageText
 pub mod Journal
 pub mod JournalText
 pub mod Alone

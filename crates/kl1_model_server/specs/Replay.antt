@@ -24,7 +24,7 @@ written_rest k n (b ∷ bs) = written_fault k
 abbrev pub written_entries : ℕ → ℕ → State → List (List ℕ) → List ℕ → List ℕ
 written_entries k n s [] rest = written_rest k n rest
 written_entries k n s (line ∷ lines) rest =
-    elim (entry_in line) [
+    elim (entry_in s.rules line) [
       | None ↦ written_fault k
       | Some e ↦
           let x = entry_step s e in

@@ -27,10 +27,10 @@ accounts_in (w ∷ names) =
 abbrev pub is_account : List (List ℕ) → List ℕ → Bool
 is_account accounts name = list_any (bytes_eq name) accounts
 
--- the commands of an account among records, in order
+-- the commands of an account among records, in order, by the third rules
 abbrev pub commands_of : List ℕ → List Record → List (Option Command)
 commands_of name [] = []
-commands_of name (r ∷ rs) = if bytes_eq r.name name then command_of r.request ∷ commands_of name rs else commands_of name rs
+commands_of name (r ∷ rs) = if bytes_eq r.name name then command_of Three r.request ∷ commands_of name rs else commands_of name rs
 
 -- what a record's command does; one without a command is refused
 abbrev pub done_by : Kept → Option Command → Done
@@ -50,7 +50,7 @@ written_reply name (line ∷ lines) = written_line (name ++ codes " " ++ line) +
 abbrev pub written_for : List (List ℕ) → List Record → Record → List ℕ
 written_for accounts before r =
     if is_account accounts r.name
-    then written_reply r.name (reply_lines (done_by (alone_after r.name before) (command_of r.request)).reply)
+    then written_reply r.name (reply_lines (done_by (alone_after r.name before) (command_of Three r.request)).reply)
     else written_line (codes "! account")
 
 -- what is written for records after others

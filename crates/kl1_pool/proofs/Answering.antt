@@ -18,7 +18,7 @@ use Rattle.kl1_tally.specs.Seats.{Book}
 use Rattle.kl1_pool.specs.declared.totals_before_reset.TotalsBeforeReset.{TotalsBeforeReset}
 use Rattle.kl1_pool.specs.Counted.{IsCounted}
 use Rattle.kl1_pool.specs.declared.restoring.Restored.{Restored}
-use Rattle.kl1_pool.specs.Restoring.{IsRestored, IsRestoredBySome}
+use Rattle.kl1_pool.specs.Restoring.{entries_for, IsRestored, IsRestoredBySome}
 use Rattle.kl1_pool.specs.declared.turn.TheConstants.{MOST_GRANTED_STEPS}
 use Rattle.kl1_pool.specs.Memory.{bytes_taken, takes_memory, bound_of, turn_bound, IsGivenBySomeWithin, IsGivenWithin, IsTakenBySome}
 use Rattle.kl1_pool.specs.Stepping.{AreFirstSteps, IsBegunWithin, turn_goes_on, IsTurnWithin, IsTurnOfSome}
@@ -94,11 +94,11 @@ taken_by_some {h} rules name bytes found takes =
 
 -- how an account is restored
 pub restored_by : (rules : Rules) (name : List ℕ → Type 0) (old new : Held) (j : Journal) (r : Restored) → old.1.entries ≡ [] → old.1.names ≡ j.names → IsKept old → old.0.rules ≡ rules → name old.0.own_name → AreNames new.0.names → ((f : Reading) → Fits new.0.names f → Fits old.0.names f) →
-    ((f : Reading) → Fits new.0.names f → IsRestored (kept_of f old).state j.entries r (kept_of f new).state) → IsRestoredBySome rules name j r
+    ((f : Reading) → Fits new.0.names f → IsRestored (kept_of f old).state (entries_for (kept_of f old).state.rules j) r (kept_of f new).state) → IsRestoredBySome rules name j r
 restored_by rules name old new j r fresh used kept keeps called names before restored =
     let f = reading_of new.0.names in
     let fits = reading_fits new.0.names names in
-    (kept_of f old, (kept_of f new).state, record { replay = (kept.replay f (before f fits)).is; keeps_to = keeps; called = called }, fresh, used, restored f fits)
+    (kept_of f old, (kept_of f new).state, record { replay = (kept.replay f (before f fits)).is; keeps_to = keeps; called = called }, fresh, used, subst (λ (of : Rules). IsRestored (kept_of f old).state (entries_for of j) r (kept_of f new).state) keeps (restored f fits))
 
 -- a turn within its bytes
 turn_within : (most : ℕ) (short more : Bool) (k after : Kept) (t : TimeSlice) → bytes_taken k ≤ turn_bound most short → (short ≡ true → t.steps ≤ MOST_GRANTED_STEPS) → (short ≡ false → IsBegunWithin most k t.steps after) → t.again ≡ turn_goes_on most short more t.steps after → IsTurnWithin most more k after t

@@ -4,8 +4,8 @@ use Rattle.std.specs.Prelude.{fold}
 use Rattle.std.specs.List.{AllByRecursion}
 use Rattle.kl1_model.specs.declared.rules.Rules.{Rules}
 use Rattle.kl1_model.specs.State.{State, fresh_with}
-use Rattle.kl1_model.specs.Event.{Event, load, start, control, reduce, read, login, logout, reset, answer}
-use Rattle.kl1_model_server.specs.Journal.{Entry, loads, starts, sends, steps, answers, runs, entry_step, Journal, new_journal, Kept, done}
+use Rattle.kl1_model.specs.Event.{Event, load, start, control, reduce, read, login, logout, reset, answer, forget}
+use Rattle.kl1_model_server.specs.Journal.{Entry, loads, starts, sends, steps, answers, forgets, runs, entry_step, Journal, new_journal, Kept, done}
 use Rattle.kl1_model_server.specs.laws.HistoryLaws.{IsReplay}
 use Rattle.kl1_model_server.specs.laws.TextLaws.{HasLine, IsWritten}
 use Rattle.kl1_model_server.proofs.Replays.{replays_stay}
@@ -16,21 +16,22 @@ use Rattle.kl1_pool.specs.Counted.{events_in, past_after, past_by}
 use Rattle.kl1_pool.specs.laws.EndedLaws.{kept_after, past_of, HaveNoReset, SameEndedGrows}
 
 -- entries that have lines and are no events are none
-no_entries : (es : List Entry) → AllByRecursion HasLine es → events_in es ≡ 0 → es ≡ []
-no_entries [] lines none = refl
-no_entries (loads text ∷ es) lines none = let z : suc (events_in es) ≡ 0 = none in absurd (omega (arith, z))
-no_entries (starts allowance low high t ∷ es) lines none = let z : suc (events_in es) ≡ 0 = none in absurd (omega (arith, z))
-no_entries (sends n m ∷ es) lines none = let z : suc (events_in es) ≡ 0 = none in absurd (omega (arith, z))
-no_entries (steps goal clause ∷ es) lines none = let z : suc (events_in es) ≡ 0 = none in absurd (omega (arith, z))
-no_entries (answers n report t ∷ es) lines none = let z : suc (events_in es) ≡ 0 = none in absurd (omega (arith, z))
-no_entries (runs n ∷ es) lines none =
+no_entries : (rules : Rules) (es : List Entry) → AllByRecursion (HasLine rules) es → events_in es ≡ 0 → es ≡ []
+no_entries rules [] lines none = refl
+no_entries rules (loads text ∷ es) lines none = let z : suc (events_in es) ≡ 0 = none in absurd (omega (arith, z))
+no_entries rules (starts allowance low high t ∷ es) lines none = let z : suc (events_in es) ≡ 0 = none in absurd (omega (arith, z))
+no_entries rules (sends n m ∷ es) lines none = let z : suc (events_in es) ≡ 0 = none in absurd (omega (arith, z))
+no_entries rules (steps goal clause ∷ es) lines none = let z : suc (events_in es) ≡ 0 = none in absurd (omega (arith, z))
+no_entries rules (answers n report t ∷ es) lines none = let z : suc (events_in es) ≡ 0 = none in absurd (omega (arith, z))
+no_entries rules (forgets n count ∷ es) lines none = let z : suc (events_in es) ≡ 0 = none in absurd (omega (arith, z))
+no_entries rules (runs n ∷ es) lines none =
     let z : n + events_in es ≡ 0 = none in
     let some : 1 ≤ n = lines.0.0 in
     absurd (omega (arith, z, some))
 
 -- a reset of an account whose journal has no entries changes nothing
-reset_stays : (k : Kept) → IsReplay k → k.journal.entries ≡ [] → (done k reset).kept ≡ k
-reset_stays k replay none =
+reset_stays : (k : Kept) → IsReplay k → k.journal.image ≡ [] → k.journal.entries ≡ [] → (done k reset).kept ≡ k
+reset_stays k replay image none =
     let s = k.state in
     let j = k.journal in
     let name = s.own_name in
@@ -41,7 +42,8 @@ reset_stays k replay none =
     ap (λ (r : Rules). fresh_with r name s.names s.sessions) (sym replay.rules) ∙ ap (λ (ns : List (List ℕ)). fresh_with j.rules name ns s.sessions) (sym names) ∙ ap (λ (n : ℕ). fresh_with j.rules name j.names n) (sym replay.sessions) ∙ fresh in
     let journal : new_journal s.rules s.names s.sessions ≡ j =
     ap (λ (r : Rules). new_journal r s.names s.sessions) (sym replay.rules) ∙ ap (λ (ns : List (List ℕ)). new_journal j.rules ns s.sessions) (sym names) ∙ ap (λ (n : ℕ). new_journal j.rules j.names n) (sym replay.sessions)
-    ∙ ap (λ (es : List Entry). let i : Journal = record { rules = j.rules; sessions = j.sessions; names = j.names; entries = es } in i) (sym none) in
+    ∙ ap (λ (bs : List ℕ). let i : Journal = record { rules = j.rules; sessions = j.sessions; names = j.names; image = bs; entries = [] } in i) (sym image)
+    ∙ ap (λ (es : List Entry). let i : Journal = record { rules = j.rules; sessions = j.sessions; names = j.names; image = j.image; entries = es } in i) (sym none) in
     ap (λ (t : State). let x : Kept = record { state = t; journal = new_journal s.rules s.names s.sessions } in x) state ∙ ap (λ (i : Journal). let x : Kept = record { state = s; journal = i } in x) journal
 
 -- an event after which as many events are counted is no reset, or changes nothing
@@ -49,7 +51,7 @@ pub unless_ended : (p : TotalsBeforeReset) (k : Kept) (e : Event) → IsReplay k
 unless_ended p k reset replay written same =
     let z : p.events + events_in k.journal.entries ≡ p.events = same in
     let none : events_in k.journal.entries ≡ 0 = omega (arith, z) in
-    inl (reset_stays k replay (no_entries k.journal.entries written.entries none))
+    inl (reset_stays k replay written.image (no_entries k.journal.rules k.journal.entries written.entries none))
 unless_ended p k (load text) replay written same = inr (λ z. cc)
 unless_ended p k (start allowance low high t) replay written same = inr (λ z. cc)
 unless_ended p k (control n m) replay written same = inr (λ z. cc)
@@ -58,6 +60,7 @@ unless_ended p k (read q) replay written same = inr (λ z. cc)
 unless_ended p k login replay written same = inr (λ z. cc)
 unless_ended p k logout replay written same = inr (λ z. cc)
 unless_ended p k (answer n report t) replay written same = inr (λ z. cc)
+unless_ended p k (forget n count) replay written same = inr (λ z. cc)
 
 pub more_by : (b : Bool) (p : TotalsBeforeReset) (j : Journal) → p.events ≤ (past_after b p j).events
 more_by true p j = let z : p.events ≤ p.events + events_in j.entries = omega arith in z

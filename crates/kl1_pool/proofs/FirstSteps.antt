@@ -3,7 +3,7 @@ use Rattle.std.proofs.Common.{◌≡◌, ℕ, zero, suc, ◌+◌, ◌-◌, ◌<�
 use Rattle.std.specs.Prelude.{Option, Some, None}
 use Rattle.kl1_model.specs.State.{State, has_runs}
 use Rattle.kl1_model.specs.Event as model
-use Rattle.kl1_model.specs.Event.{Event, syntax, reduce, ran, Reply, Transition, refuse, is_refused}
+use Rattle.kl1_model.specs.Event.{syntax, reduce, ran, Reply, Transition, refuse, is_refused}
 use Rattle.kl1_model.specs.Choice.{Chosen, first}
 use Rattle.kl1_model.specs.Step.{step}
 use Rattle.kl1_model.proofs.TreeSteps.{refusals_change_nothing}

@@ -12,7 +12,7 @@ use Rattle.boxcar.specs.Table.{Shelves}
 use Rattle.kl1_tally.specs.Seats.{Book}
 use Rattle.kl1_user_events.specs.Views.{reduced_or}
 use Rattle.kl1_user_events.specs.declared.refusal.Refusal.{Refusal}
-use Rattle.kl1_journal.specs.Keeping.{Reading, Fits, Held, kept_of, IsKept}
+use Rattle.kl1_journal.specs.Keeping.{Reading, Fits, Held, kept_of}
 use Rattle.kl1_user.specs.Readings.{reading_of, reading_fits}
 use Rattle.kl1_pool.specs.declared.totals_before_reset.TotalsBeforeReset.{TotalsBeforeReset}
 use Rattle.kl1_command.specs.Told.{events_by, steps_by}
@@ -21,14 +21,13 @@ use Rattle.kl1_pool.specs.Names.{IsNamed}
 use Rattle.kl1_pool.specs.PoolAccounts.{StandsIn}
 use Rattle.kl1_pool.proofs.Tells.{done_counts, ended_is}
 
--- what a book is to tell after an event, if the account was the replay of its journal, which ends in the run that the account counts
-pub held_counts : (p : TotalsBeforeReset) (b : Book) (old new : Held) (e : model.Event) (reply : model.Reply) → AreNames old.0.names → IsKept old → AreNames new.0.names → ((f : Reading) → Fits new.0.names f → done (kept_of f old) e ≡ record { kept = kept_of f new; reply = reply }) → IsCounted p old.1 b → HasRoom b e →
+-- what a book is to tell after an event
+pub held_counts : (p : TotalsBeforeReset) (b : Book) (old new : Held) (e : model.Event) (reply : model.Reply) → AreNames new.0.names → ((f : Reading) → Fits new.0.names f → done (kept_of f old) e ≡ record { kept = kept_of f new; reply = reply }) → IsCounted p old.1 b → HasRoom b e →
     IsCounted (past_by p old.1 reply) new.1 (with_more b (events_by reply) (steps_by reply)) × (is_run reply ≡ false)
-held_counts p b old new e reply before kept names is counted room =
-    let ends = (kept.replay (reading_of old.0.names) (reading_fits old.0.names before)).is.run in
+held_counts p b old new e reply names is counted room =
     let f = reading_of new.0.names in
     let d : Done = record { kept = kept_of f new; reply = reply } in
-    done_counts p b (kept_of f old) e d (is f (reading_fits new.0.names names)) ends counted room
+    done_counts p b (kept_of f old) e d (is f (reading_fits new.0.names names)) counted room
 
 -- so by what was counted
 pub kept_counts : (p q : TotalsBeforeReset) (b c : Book) (j k : Journal) (reply : model.Reply) → IsCounted p j b → IsCounted (past_by p j reply) k (with_more b (events_by reply) (steps_by reply)) → q ≡ ended p b reply → c ≡ with_more b (events_by reply) (steps_by reply) → IsCounted q k c

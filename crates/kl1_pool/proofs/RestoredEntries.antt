@@ -1,17 +1,19 @@
 -- Entries that are done one after another, and what is counted of them.
-use Rattle.std.proofs.Common.{◌≡◌, ℕ, ◌+◌, not, true, false, List, [], ◌∷◌, ◌++◌, take, drop, length, length-append, refl, sym, ap, ◌∙◌, subst, arith}
+use Rattle.std.proofs.Common.{◌≡◌, ℕ, ◌+◌, not, Bool, true, false, List, [], ◌∷◌, ◌++◌, take, drop, length, length-append, refl, sym, ap, ◌∙◌, subst, arith}
 use Rattle.std.proofs.lemmas.Bool.{and_parts, and_from}
-use Rattle.std.proofs.lemmas.List.{append_assoc}
+use Rattle.std.proofs.lemmas.List.{append_assoc, map-append, length-map, take-map}
 use Rattle.kl1_model.specs.State.{State}
 use Rattle.kl1_model.specs.Event.{ran, is_refused}
-use Rattle.kl1_model_server.specs.Journal.{Entry, entry_step, first_steps}
+use Rattle.kl1_model_server.specs.Journal.{Entry, loads, starts, sends, steps, answers, forgets, runs, entry_step, first_steps}
 use Rattle.kl1_model_server.specs.laws.ReplayLaws.{are_accepted}
 use Rattle.kl1_command.specs.Told.{Told}
 use Rattle.kl1_pool.specs.Counted.{events_in, reduces_in}
 use Rattle.kl1_pool.specs.declared.restoring.RestoreEnd.{RestoreEnd}
 use Rattle.kl1_pool.specs.declared.restoring.RestoreEnd.TheVariants as ending
 use Rattle.kl1_pool.specs.declared.restoring.Restored.{Restored}
-use Rattle.kl1_pool.specs.Restoring.{after_entries, told_of, told_sum, IsEndAt, IsRestored}
+use Rattle.kl1_pool.specs.declared.restoring.EntryResult.{EntryResult}
+use Rattle.kl1_pool.specs.declared.restoring.EntryResult.TheVariants as result
+use Rattle.kl1_pool.specs.Restoring.{after_entries, entry_by, entries_by, told_of, told_sum, told_entry, IsEndAt, IsRestored}
 use Rattle.kl1_pool.proofs.Tells.{events_more, reduces_more}
 
 front_of : (xs ys : List Entry) → take (length xs) (xs ++ ys) ≡ xs
@@ -74,13 +76,13 @@ done_more s es rest e n now after left done accepted is =
 
 -- no more are done
 pub restored_at : (s : State) (es rest : List Entry) (r : Restored) (now after : State) → AreLeft es rest r.entries → AreDone s es r.entries now → first_steps r.steps now ≡ record { state = after; reply = ran r.steps } → IsEndAt r.end now rest r.steps → IsRestored s es r after
-restored_at s es rest r now after left done steps ended =
+restored_at s es rest r now after left done led ended =
     let sum : length es ≡ r.entries + length rest = ap length left.split ∙ length-append (take r.entries es) rest ∙ ap (λ k. k + length rest) left.count in
     let rest_is : rest ≡ drop r.entries es = sym (rest_of (take r.entries es) rest) ∙ ap (drop (length (take r.entries es))) (sym left.split) ∙ ap (λ k. drop k es) left.count in
     record {
       few = omega (arith, sum);
       accepted = done.accepted;
-      steps = subst (λ t. first_steps r.steps t ≡ record { state = after; reply = ran r.steps }) done.state steps;
+      steps = subst (λ t. first_steps r.steps t ≡ record { state = after; reply = ran r.steps }) done.state led;
       ended = subst (λ t. IsEndAt r.end t (drop r.entries es) r.steps) done.state (subst (λ xs. IsEndAt r.end now xs r.steps) rest_is ended);
     }
 
@@ -106,3 +108,39 @@ told_more es rest e n left =
 -- and of first steps after entries
 pub told_steps_more : (xs : List Entry) (k : ℕ) → told_sum (told_of xs 0) (told_of [] k) ≡ told_of xs k
 told_steps_more xs k = told_is (events_in xs + 0 + (0 + k)) (events_in xs + k) (reduces_in xs + 0 + (0 + k)) (reduces_in xs + k) (omega arith) (omega arith)
+
+-- ---- entries as they are done, whose answers tell no variable or are as they are
+
+-- those that are left of them are those that are left, as they are done
+pub left_by : (b : Bool) (es rest : List Entry) (n : ℕ) → AreLeft es rest n → AreLeft (entries_by b es) (entries_by b rest) n
+left_by b es rest n left =
+    let taken = take-map (entry_by b) n es in
+    record {
+      split = ap (entries_by b) left.split ∙ map-append (entry_by b) (take n es) rest ∙ ap (λ xs. xs ++ entries_by b rest) (sym taken);
+      count = ap length taken ∙ length-map (take n es) (entry_by b) ∙ left.count;
+    }
+
+-- as much is counted of an entry
+events_by : (b : Bool) (e : Entry) → events_in (entry_by b e ∷ []) ≡ events_in (e ∷ [])
+events_by b (loads text) = refl
+events_by b (starts allowance low high t) = refl
+events_by b (sends n m) = refl
+events_by b (steps goal clause) = refl
+events_by b (answers n report t) = refl
+events_by b (forgets n count) = refl
+events_by b (runs n) = refl
+
+reduces_by : (b : Bool) (e : Entry) → reduces_in (entry_by b e ∷ []) ≡ reduces_in (e ∷ [])
+reduces_by b (loads text) = refl
+reduces_by b (starts allowance low high t) = refl
+reduces_by b (sends n m) = refl
+reduces_by b (steps goal clause) = refl
+reduces_by b (answers n report t) = refl
+reduces_by b (forgets n count) = refl
+reduces_by b (runs n) = refl
+
+pub told_by_entry : (b : Bool) (e : Entry) (r : EntryResult) → told_entry (entry_by b e) r ≡ told_entry e r
+told_by_entry b e result.Whole =
+    told_is (events_in (entry_by b e ∷ []) + 0) (events_in (e ∷ []) + 0) (reduces_in (entry_by b e ∷ []) + 0) (reduces_in (e ∷ []) + 0)
+    (ap (λ n. n + 0) (events_by b e)) (ap (λ n. n + 0) (reduces_by b e))
+told_by_entry b e (result.Stopped k end) = refl

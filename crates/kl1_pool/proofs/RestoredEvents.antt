@@ -7,7 +7,7 @@ use Rattle.kl1_model.specs.Event as model
 use Rattle.kl1_model.specs.Event.{ran, Transition, is_refused}
 use Rattle.kl1_model.specs.Step.{step}
 use Rattle.kl1_model.proofs.TreeSteps.{refusals_change_nothing}
-use Rattle.kl1_model_server.specs.Journal.{Entry, loads, starts, sends, steps, answers, runs, entry_step, first_step, first_steps, Kept, Done, done}
+use Rattle.kl1_model_server.specs.Journal.{Entry, loads, starts, sends, steps, answers, forgets, runs, run_length, entry_step, first_step, first_steps, Kept, Done, done}
 use Rattle.kl1_user_events.specs.Views.{refusal_of}
 use Rattle.kl1_journal_entries.specs.Lined.{entry_of}
 use Rattle.kl1_command.specs.declared.first_step.FirstStep.{FirstStep}
@@ -19,7 +19,7 @@ use Rattle.kl1_command.proofs.Runs.{all_done}
 use Rattle.kl1_pool.specs.declared.restoring.RestoreEnd.TheVariants as ending
 use Rattle.kl1_pool.specs.declared.restoring.EntryResult.{EntryResult}
 use Rattle.kl1_pool.specs.declared.restoring.EntryResult.TheVariants as result
-use Rattle.kl1_pool.specs.Restoring.{Leads, IsNext, IsEntryDone, run_length, result_by, result_of_run, told_of, told_entry}
+use Rattle.kl1_pool.specs.Restoring.{Leads, IsNext, IsEntryDone, result_by, result_of_run, told_of, told_entry}
 use Rattle.kl1_pool.proofs.FirstSteps.{steps_on, runs_first, run_refused, quiet_refused, step_refused, run_does, run_is_refused}
 use Rattle.kl1_pool.proofs.ToldEntries.{told_event}
 use Rattle.kl1_pool.proofs.RestoredEntries.{told_is}
@@ -40,6 +40,7 @@ entry_does s (model.load text) y is = sym (ap (entry_step s) (same_Some (loads t
 entry_does s (model.start allowance low high t) y is = sym (ap (entry_step s) (same_Some (starts allowance low high t) y is))
 entry_does s (model.control n m) y is = sym (ap (entry_step s) (same_Some (sends n m) y is))
 entry_does s (model.answer n report t) y is = sym (ap (entry_step s) (same_Some (answers n report t) y is))
+entry_does s (model.forget n count) y is = sym (ap (entry_step s) (same_Some (forgets n count) y is))
 entry_does s (model.reduce goal clause) y is = sym (ap (entry_step s) (same_Some (steps goal clause) y is))
 entry_does s (model.read q) y is = absurd (none-some y is)
 entry_does s model.login y is = absurd (none-some y is)
@@ -78,6 +79,7 @@ none_told (model.quiet_is a) h = absurd (let z : false ≡ true = h in cc)
 none_told (model.welcome name) h = absurd (let z : false ≡ true = h in cc)
 none_told model.bye h = absurd (let z : false ≡ true = h in cc)
 none_told model.was_reset h = absurd (let z : false ≡ true = h in cc)
+none_told model.forgot h = absurd (let z : false ≡ true = h in cc)
 none_told (model.refused r) h = refl
 
 by_told : (s : State) (e : model.Event) (y : Entry) (r : model.Reply) (b : Bool) → is_refused r ≡ b → entry_of e ≡ Some y → (step s e).reply ≡ r → told_by r ≡ told_entry y (if b then result.Stopped 0 ending.Refused else result.Whole)

@@ -6,14 +6,16 @@ use Rattle.kl1_model.specs.Term.{Term}
 use Rattle.kl1_model.specs.declared.message.Message.{Message}
 use Rattle.kl1_model.specs.Module.{Module, Reading, good, bad, read_module}
 use Rattle.kl1_model.specs.Match.{module_of}
-use Rattle.kl1_model.specs.State.{Goal, Origin, Shoen, State, goal_at, shoen_at, has_substitutes, names_of, names_of_module, with_names, is_living}
+use Rattle.kl1_model.specs.State.{Goal, Origin, Shoen, State, goal_at, shoen_at, has_forgetting, names_of, names_of_module, with_names, is_living}
 use Rattle.kl1_model.specs.Event as model
 use Rattle.kl1_model.specs.Event.{Transition, refuse, are_too_many, is_full, needs_entry, is_number, with_entry, with_reduction, is_refused}
 use Rattle.kl1_model.specs.Choice.{is_in_run}
 use Rattle.kl1_model.specs.Reduction.{Action, reduce_goal, acted, action_of}
 use Rattle.kl1_model.specs.Opening.{may_start, has_room_to_start, start_goal}
 use Rattle.kl1_model.specs.Sending.{may_send, has_room_to_send, send_to, send_living, sent_on}
-use Rattle.kl1_model.specs.Answering.{may_answer, has_room_to_answer, unanswered_at, answer_by, answer_living, answer_to}
+use Rattle.kl1_model.specs.Answering.{may_answer, has_room_to_answer, asked_at, given, answered, answer_by, answer_asked, answer_living, answer_to}
+use Rattle.kl1_model.specs.Forgetting.{may_forget, may_go, gone, forget_by, forget_of}
+use Rattle.kl1_model.specs.Telling.{Asked, Given}
 use Rattle.kl1_model.specs.Step.{load_module, start_by, step}
 use Rattle.kl1_model.specs.code.Steps.{reduced_by, send_by, answer_in, with_module}
 use Rattle.kl1_model_server.specs.Journal.{Entry}
@@ -41,14 +43,14 @@ loaded : (s : State) (r : Reading Module) → Tells one (load_module s r)
 loaded s (bad line) = refused one s (model.source line)
 loaded s (good m) =
     by_unless (Tells one) s
-    ((is_some (module_of s.modules m.name), model.exists) ∷ (are_too_many (with_names s.names (names_of_module m)), model.too_many_names) ∷ (not (nat_lt (length s.modules) MOST_MODULES), model.limit_passed) ∷ (is_full s, model.journal_full) ∷ [])
+    ((is_some (module_of s.modules m.name), model.exists) ∷ (are_too_many s.rules (with_names s.names (names_of_module m)), model.too_many_names) ∷ (not (nat_lt (length s.modules) MOST_MODULES), model.limit_passed) ∷ (is_full s, model.journal_full) ∷ [])
     (record { state = with_entry (with_module s m); reply = model.loaded m.name }) (refused one s) (λ h. refl)
 
 started : (s : State) (allowance low high : ℕ) (t : Term) → Tells one (step s (model.start allowance low high t))
 started s allowance low high t =
     by_choice (Tells one) (may_start allowance low high t) (start_by s allowance low high t) (refuse s model.syntax)
     (by_unless (Tells one) s
-    ((are_too_many (with_names s.names (names_of t)), model.too_many_names) ∷ (not (has_room_to_start s t), model.limit_passed) ∷ (is_full s, model.journal_full) ∷ [])
+    ((are_too_many s.rules (with_names s.names (names_of t)), model.too_many_names) ∷ (not (has_room_to_start s t), model.limit_passed) ∷ (is_full s, model.journal_full) ∷ [])
     (record { state = with_entry (start_goal s allowance low high t); reply = model.opened (suc s.last_shoen) }) (refused one s) (λ h. refl))
     (refused one s model.syntax)
 
@@ -63,20 +65,35 @@ sent_to : (s : State) (n : ℕ) (m : Message) (to : Option Shoen) → Tells one 
 sent_to s n m None = refused one s model.no_shoen
 sent_to s n m (Some to) = sent s n m to to.origin
 
-given : (s : State) (t : Term) (v : Option ℕ) → Tells one (answer_by s t v)
-given s t None h = cc
-given s t (Some v) h = refl
+told_given : (s : State) (t : Term) (g : Given) (a : Option Asked) → Tells one (answer_by s g t a)
+told_given s t g None h = cc
+told_given s t g (Some a) h =
+    by_unless (Tells one) s ((g.tells_gone, model.answer_refused) ∷ []) (record { state = with_entry (answered a.new g t s); reply = model.sent }) (refused one s) (λ k. refl) h
 
-answered : (s : State) (report : ℕ) (t : Term) (to : Shoen) (origin : Option Origin) → Tells one (answer_in s report t to origin)
-answered s report t to None = refused one s model.no_shoen
-answered s report t to (Some o) =
-    by_choice (Tells one) (is_living to.life) (answer_living s report t o) (refuse s model.shoen_ended)
-    (by_unless (Tells one) s ((are_too_many (with_names s.names (names_of t)), model.too_many_names) ∷ (not (has_room_to_answer s t), model.limit_passed) ∷ (is_full s, model.journal_full) ∷ []) (answer_by s t (unanswered_at o.reports report)) (refused one s) (given s t (unanswered_at o.reports report)))
-    (refused one s model.shoen_ended)
+told_asked : (s : State) (t : Term) (a : Option Asked) → Tells one (answer_asked s t a)
+told_asked s t a =
+    let g = given s a t in
+    by_unless (Tells one) s
+    ((are_too_many s.rules (with_names s.names (names_of t)), model.too_many_names) ∷ (not (has_room_to_answer s g.new t), model.limit_passed) ∷ (is_full s, model.journal_full) ∷ [])
+    (answer_by s g t a) (refused one s) (told_given s t g a)
+
+told_answered : (s : State) (report : ℕ) (t : Term) (to : Shoen) (origin : Option Origin) → Tells one (answer_in s report t to origin)
+told_answered s report t to None = refused one s model.no_shoen
+told_answered s report t to (Some o) =
+    by_choice (Tells one) (is_living to.life) (answer_living s report t o) (refuse s model.shoen_ended) (told_asked s t (asked_at o report)) (refused one s model.shoen_ended)
 
 answered_to : (s : State) (report : ℕ) (t : Term) (to : Option Shoen) → Tells one (answer_to s report t to)
 answered_to s report t None = refused one s model.no_shoen
-answered_to s report t (Some to) = answered s report t to to.origin
+answered_to s report t (Some to) = told_answered s report t to to.origin
+
+told_gone : (s : State) (n count : ℕ) (of : Shoen) (origin : Option Origin) → Tells one (forget_by s n count of origin)
+told_gone s n count of None = refused one s model.no_shoen
+told_gone s n count of (Some o) =
+    by_unless (Tells one) s ((is_full s, model.journal_full) ∷ (not (may_go count of o), model.answer_refused) ∷ []) (record { state = with_entry (gone n count o s); reply = model.forgot }) (refused one s) (λ h. refl)
+
+forgot_of : (s : State) (n count : ℕ) (of : Option Shoen) → Tells one (forget_of s n count of)
+forgot_of s n count None = refused one s model.no_shoen
+forgot_of s n count (Some of) = told_gone s n count of of.origin
 
 acted_on : (s : State) (in_run : Bool) (g : Goal) (a : Option Action) → Tells one_step (reduced_by s in_run g a)
 acted_on s in_run g None h = cc
@@ -98,7 +115,9 @@ told_event s (model.start allowance low high t) y is h = started s allowance low
 told_event s (model.control n m) y is h =
     by_choice (Tells one) (may_send n m) (send_to s n m (shoen_at n s.shoens)) (refuse s model.syntax) (sent_to s n m (shoen_at n s.shoens)) (refused one s model.syntax) h ∙ entry_is y is refl
 told_event s (model.answer n report t) y is h =
-    by_choice (Tells one) (has_substitutes s.rules && may_answer n report t) (answer_to s report t (shoen_at n s.shoens)) (refuse s model.syntax) (answered_to s report t (shoen_at n s.shoens)) (refused one s model.syntax) h ∙ entry_is y is refl
+    by_choice (Tells one) (may_answer s.rules n report t) (answer_to s report t (shoen_at n s.shoens)) (refuse s model.syntax) (answered_to s report t (shoen_at n s.shoens)) (refused one s model.syntax) h ∙ entry_is y is refl
+told_event s (model.forget n count) y is h =
+    by_choice (Tells one) (has_forgetting s.rules && may_forget n count) (forget_of s n count (shoen_at n s.shoens)) (refuse s model.syntax) (forgot_of s n count (shoen_at n s.shoens)) (refused one s model.syntax) h ∙ entry_is y is refl
 told_event s (model.reduce goal clause) y is h =
     by_choice (Tells one_step) (is_number goal && is_number clause) (reduce_goal s (is_in_run s goal clause) clause (goal_at goal s.goals)) (refuse s model.syntax) (reduced s (is_in_run s goal clause) clause (goal_at goal s.goals)) (refused one_step s model.syntax) h ∙ entry_is y is refl
 told_event s (model.read q) y is h = cc

@@ -1,7 +1,7 @@
 -- What a book tells of a journal and of those before it, and how much more it can tell.
 use Rattle.std.specs.Prelude.{◌≡◌, ℕ, suc, ◌+◌, ◌-◌, ◌<◌, ◌≤◌, ◌^◌, Bool, true, false, List, [], ◌∷◌}
 use Rattle.kl1_model.specs.Event as model
-use Rattle.kl1_model_server.specs.Journal.{is_entry, Entry, loads, starts, sends, steps, answers, runs, Journal}
+use Rattle.kl1_model_server.specs.Journal.{is_entry, Entry, loads, starts, sends, steps, answers, forgets, runs, Journal}
 use Rattle.kl1_tally.specs.Seats.{Book}
 use Rattle.kl1_command.specs.Told.{ends_journal}
 use Rattle.kl1_pool.specs.declared.totals_before_reset.TotalsBeforeReset.{TotalsBeforeReset}
@@ -13,6 +13,7 @@ events_in (loads text ∷ es) = suc (events_in es)
 events_in (starts allowance low high t ∷ es) = suc (events_in es)
 events_in (sends n m ∷ es) = suc (events_in es)
 events_in (answers n report t ∷ es) = suc (events_in es)
+events_in (forgets n count ∷ es) = suc (events_in es)
 events_in (steps goal clause ∷ es) = suc (events_in es)
 events_in (runs n ∷ es) = n + events_in es
 
@@ -23,6 +24,7 @@ reduces_in (loads text ∷ es) = reduces_in es
 reduces_in (starts allowance low high t ∷ es) = reduces_in es
 reduces_in (sends n m ∷ es) = reduces_in es
 reduces_in (answers n report t ∷ es) = reduces_in es
+reduces_in (forgets n count ∷ es) = reduces_in es
 reduces_in (steps goal clause ∷ es) = suc (reduces_in es)
 reduces_in (runs n ∷ es) = n + reduces_in es
 

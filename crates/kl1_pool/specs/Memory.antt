@@ -35,7 +35,8 @@ takes_memory (shows from count) = false
 abbrev pub IsOver : ℕ → PoolAccountValue → Type 0
 IsOver most a = (f : Reading) → most < bytes_taken (kept_of f a.held)
 
--- how many bytes beyond what its account may take an event may find: those that are kept for messages to shoens and answers to exceptions
+-- how many bytes beyond what its account may take an event may find: those that are kept for messages to shoens, answers to exceptions, and what
+-- lets go
 abbrev pub reserve_for : model.Event → ℕ
 reserve_for (model.load text) = 0
 reserve_for (model.start allowance low high t) = 0
@@ -46,6 +47,7 @@ reserve_for model.login = 0
 reserve_for model.logout = 0
 reserve_for model.reset = 0
 reserve_for (model.answer n report t) = RESERVED_BYTES
+reserve_for (model.forget n count) = RESERVED_BYTES
 
 -- and a command
 abbrev pub reserve_of : Command → ℕ

@@ -1,9 +1,11 @@
 -- What the entries of a journal do to an account, one after another, and how a restore ends.
-use Rattle.std.specs.Prelude.{◌≡◌, ℕ, ◌+◌, ◌≤◌, ◌⊎◌, true, false, if◌then◌else◌, List, [], ◌∷◌, length, take, drop, fold, IsTrue}
+use Rattle.std.specs.Prelude.{◌≡◌, ℕ, ◌+◌, ◌≤◌, ◌⊎◌, not, ◌&&◌, Bool, true, false, if◌then◌else◌, List, [], ◌∷◌, length, take, drop, fold, map, IsTrue}
 use Rattle.kl1_model.specs.declared.rules.Rules.{Rules}
-use Rattle.kl1_model.specs.State.{State}
+use Rattle.kl1_model.specs.Term.{Term}
+use Rattle.kl1_model.specs.State.{State, has_told}
 use Rattle.kl1_model.specs.Event.{Reply, ran, is_refused}
-use Rattle.kl1_model_server.specs.Journal.{Entry, loads, starts, sends, steps, answers, runs, entry_step, first_steps, Journal, Kept}
+use Rattle.kl1_model_server.specs.Journal.{Entry, loads, starts, sends, steps, answers, forgets, runs, run_length, entry_step, first_steps, Journal, Kept}
+use Rattle.kl1_term.specs.Telling.{untold}
 use Rattle.kl1_model_server.specs.laws.ReplayLaws.{are_accepted}
 use Rattle.kl1_command.specs.Told.{Told}
 use Rattle.kl1_command.specs.declared.first_step.FirstStep.{FirstStep}
@@ -16,6 +18,32 @@ use Rattle.kl1_pool.specs.declared.restoring.Restored.{Restored}
 use Rattle.kl1_pool.specs.declared.restoring.EntryResult.{EntryResult}
 use Rattle.kl1_pool.specs.declared.restoring.EntryResult.TheVariants as result
 
+-- whether entries by these rules are done otherwise by others: their answers tell no variable, and those of the others do
+abbrev pub untells : Rules → Rules → Bool
+untells rules of = not (has_told of) && has_told rules
+
+-- the goal of an answer, with its variables as those that it doesn't tell, or as they are
+abbrev pub goal_by : Bool → Term → Term
+goal_by true t = untold t
+goal_by false t = t
+
+-- an entry whose answers' goals are so
+abbrev pub entry_by : Bool → Entry → Entry
+entry_by none_told (loads text) = loads text
+entry_by none_told (starts allowance low high t) = starts allowance low high t
+entry_by none_told (sends n m) = sends n m
+entry_by none_told (steps goal clause) = steps goal clause
+entry_by none_told (answers n report t) = answers n report (goal_by none_told t)
+entry_by none_told (forgets n count) = forgets n count
+entry_by none_told (runs n) = runs n
+
+abbrev pub entries_by : Bool → List Entry → List Entry
+entries_by none_told es = map (entry_by none_told) es
+
+-- the entries of a journal as an account does them that keeps to these rules: an answer by rules whose answers tell no variable tells none
+abbrev pub entries_for : Rules → Journal → List Entry
+entries_for rules j = entries_by (untells rules j.rules) j.entries
+
 -- an account after entries, in order
 abbrev pub after_entries : State → List Entry → State
 after_entries s es = fold (λ s e. (entry_step s e).state) s es
@@ -27,15 +55,6 @@ told_of es k = record { events = events_in es + k; steps = reduces_in es + k; is
 -- what is told twice, if no journal was ended
 abbrev pub told_sum : Told → Told → Told
 told_sum t u = record { events = t.events + u.events; steps = t.steps + u.steps; is_reset = false }
-
--- how many reductions an entry has if it is a run, or else 0
-abbrev pub run_length : Entry → ℕ
-run_length (loads text) = 0
-run_length (starts allowance low high t) = 0
-run_length (sends n m) = 0
-run_length (steps goal clause) = 0
-run_length (answers n report t) = 0
-run_length (runs n) = n
 
 -- so many first steps, all of them done, lead from one account to another
 abbrev pub Leads : State → ℕ → State → Type 0
@@ -87,9 +106,9 @@ told_entry e result.Whole = told_of (e ∷ []) 0
 told_entry e (result.Stopped k end) = told_of [] k
 
 -- some account of these rules and of this name, which had used the names of this journal and whose own journal had no entries, was restored so
--- from it
+-- from its entries, as they are done by these rules
 abbrev pub IsRestoredBySome : Rules → (List ℕ → Type 0) → Journal → Restored → Type 0
-IsRestoredBySome rules name j r = (before : Kept) × (after : State) × IsAccount rules name before × (before.journal.entries ≡ []) × (before.journal.names ≡ j.names) × IsRestored before.state j.entries r after
+IsRestoredBySome rules name j r = (before : Kept) × (after : State) × IsAccount rules name before × (before.journal.entries ≡ []) × (before.journal.names ≡ j.names) × IsRestored before.state (entries_for rules j) r after
 
 -- so, or memory was refused before anything was done
 abbrev pub IsRestoredOf : Rules → (List ℕ → Type 0) → Journal → Restored → Type 0

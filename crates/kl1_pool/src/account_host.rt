@@ -95,5 +95,9 @@ impl<'a, 's, 'p, 'm, 't, R: Wait, K: PoolIds> RestoringHost
         self.account.has_runs()
     }
 
+    fn has_told(&self) -> bool {
+        self.account.has_told()
+    }
+
     ghost adds_up = { λ a b c t u first_no then_no first then. counted_sum a.account.now b.account.now c.account.now a.share.now b.share.now c.share.now t u first_no then_no first then };
 }

@@ -5,7 +5,7 @@ ghost use Rattle.kl1_journal.specs.Keeping.{Reading, Fits, kept_of};
 ghost use Rattle.kl1_pool_tickets.specs.Counts.{Moved};
 ghost use Rattle.kl1_pool.specs.Names.{is_called};
 ghost use Rattle.kl1_pool.specs.PoolAccounts.{HasCounted};
-ghost use Rattle.kl1_pool.specs.Restoring.{IsRestored, IsRestoredBySome, told_of, events_of, steps_of};
+ghost use Rattle.kl1_pool.specs.Restoring.{IsRestored, IsRestoredBySome, entries_for, told_of, events_of, steps_of};
 
 use crate::account_host::AccountHost;
 use crate::pool_account::PoolAccount;
@@ -19,7 +19,8 @@ use std::sync::Wait;
 
 impl<'t, R: Wait, K: PoolIds> PoolAccount<'t, R, K> {
     /// Does the entries of a journal to the account, one after another, until one isn't accepted whole. Book and `share` get an event for
-    /// each that is done, and for each step of a run, and a step for each reduction.
+    /// each that is done, and for each step of a run, and a step for each reduction. An answer of a journal whose rules have none that tells
+    /// variables tells none.
     fn restore<M: Meter>(
         &mut self,
         rt: &'t R,
@@ -30,7 +31,7 @@ impl<'t, R: Wait, K: PoolIds> PoolAccount<'t, R, K> {
         meter: &M,
         journal: &Journal,
     ) -> Restored
-        ensures restored { (f : Reading) → Fits self.new.held.0.names f → IsRestored (kept_of f self.old.held).state journal.now.journal.entries result (kept_of f self.new.held).state }
+        ensures restored { (f : Reading) → Fits self.new.held.0.names f → IsRestored (kept_of f self.old.held).state (entries_for (kept_of f self.old.held).state.rules journal.now.journal) result (kept_of f self.new.held).state }
         ensures counted { HasCounted self.old share.old (told_of (take result.entries journal.now.journal.entries) result.steps) self.new share.new }
         ensures out { self.new.is_out ≡ self.old.is_out }
         ensures before { (f : Reading) → Fits self.new.held.0.names f → Fits self.old.held.0.names f }
@@ -52,7 +53,7 @@ impl<'t, R: Wait, K: PoolIds> PoolAccount<'t, R, K> {
         meter: &M,
         journal: &Journal,
     ) -> Restored
-        ensures restored { (f : Reading) → Fits self.new.held.0.names f → IsRestored (kept_of f self.old.held).state journal.now.journal.entries result (kept_of f self.new.held).state }
+        ensures restored { (f : Reading) → Fits self.new.held.0.names f → IsRestored (kept_of f self.old.held).state (entries_for (kept_of f self.old.held).state.rules journal.now.journal) result (kept_of f self.new.held).state }
         ensures counted { (f : Reading) → Fits self.new.held.0.names f → HasCounted self.old share.old (told_of (take result.entries journal.now.journal.entries) result.steps) self.new share.new }
         ensures out { self.new.is_out ≡ self.old.is_out }
         ensures before { (f : Reading) → Fits self.new.held.0.names f → Fits self.old.held.0.names f }

@@ -32,7 +32,9 @@ pub(crate) fn count<K: TicketIds>(
     ensures share { Moved book.old.account (events_by (reply_of reply.now)) (steps_by (reply_of reply.now)) 0 0 share.old share.new }
 {
     match reply {
-        Reply::Loaded(_) | Reply::Opened(_) | Reply::Sent => share.raise(tally, book, false),
+        Reply::Loaded(_) | Reply::Opened(_) | Reply::Sent | Reply::Forgotten => {
+            share.raise(tally, book, false)
+        }
         Reply::Reduced => share.raise(tally, book, true),
         _ => {}
     }

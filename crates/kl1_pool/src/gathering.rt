@@ -24,6 +24,7 @@ pub fn gather<'t, R: Wait, K: PoolIds, W: Wait>(
         places,
         named: _,
         most_bytes: _,
+        rules: _,
     } = pool;
     kl1_pool_tickets::gather(rt, common, places, shares)
 }

@@ -19,6 +19,7 @@ mod parts;
 mod pool;
 mod pool_account;
 mod pool_ids;
+mod restored_deed;
 mod restoring;
 mod shared_tables;
 mod showing;

@@ -51,7 +51,7 @@ impl<K: PoolIds> Model for EmptyPlace<K> {
 
     ghost view = { λ p. p.book.account };
 
-    ghost invariant = { λ p. (p.book.tally ≡ K.tally) × IfSome p.vacancy (λ v. (v.rules ≡ K.rules) × IsFreshSeat K.table K.seats v.seat × IsNewBook K.tally p.book × (slice_get K.histories p.book.account ≡ Some v.shown.history) × (v.shown.last ≡ None)) };
+    ghost invariant = { λ p. (p.book.tally ≡ K.tally) × IfSome p.vacancy (λ v. (v.rules ≡ K.rules) × IsFreshSeat K.table K.seats K.rules v.seat × IsNewBook K.tally p.book × (slice_get K.histories p.book.account ≡ Some v.shown.history) × (v.shown.last ≡ None)) };
 }
 
 impl<K: PoolIds> EmptyPlace<K> {
@@ -84,7 +84,7 @@ impl<K: PoolIds> EmptyPlace<K> {
         texts: &[AtomText],
     ) -> Result<PoolAccount<'t, R, K>, EmptyPlace<K>>
         requires name { called_at K.names self name }
-        requires texts { AreNames texts.now }
+        requires texts { AreNames K.rules texts.now }
         ensures account { IfOk result (λ a. a.book.account ≡ self) }
         ensures name { IfOk result (λ a. a.held.0.own_name ≡ name) }
         ensures fresh { IfOk result (λ a. (a.held.1.entries ≡ []) × (a.is_out ≡ false)) }
@@ -130,7 +130,7 @@ pub(crate) trait Vacant: Drop {
     /// A place to which an account may come that is made of this.
     fn vacant(book: BookSeat, vacancy: Vacancy) -> Self
         requires rules { vacancy.rules ≡ keeps_to }
-        requires seat { IsFreshSeat table seats vacancy.seat }
+        requires seat { IsFreshSeat table seats keeps_to vacancy.seat }
         requires book { IsNewBook tally book }
         requires shown { (slice_get histories book.account ≡ Some vacancy.shown.history) × (vacancy.shown.last ≡ None) };
 }

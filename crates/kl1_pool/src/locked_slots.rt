@@ -33,7 +33,7 @@ pub(crate) fn places_of<C: Vacant>(
     mut books: Vec<BookSeat>,
     mut shown: Vec<ShownHistory>,
 ) -> Result<Vec<Mutex<C>>, AllocError>
-    requires seats { AreFreshSeats C.table C.seats seats.items }
+    requires seats { AreFreshSeats C.table C.seats C.keeps_to seats.items }
     requires books { All (IsNewBook C.tally) books.items }
     requires rules { rules ≡ C.keeps_to }
     requires shown { AreUnshown C.histories books.items shown.items }

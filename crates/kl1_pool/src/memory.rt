@@ -57,8 +57,8 @@ pub fn bytes_of(usage: &Usage, steps: u64) -> u64
     add_counted(entries, steps, STEP_BYTES)
 }
 
-/// The bytes beyond what an account may take that are kept for commands by which it comes to take less, or to stand, or an exception is
-/// answered: some hundreds of them.
+/// The bytes beyond what an account may take that are kept for commands by which it comes to take less, or to stand, an exception is
+/// answered, or reports and shoens are let go: some hundreds of them.
 pub const RESERVED_BYTES: u64 = 32_768;
 
 /// The bytes beyond what an account may take that the turn after such a command may find: what the last one took that found room is among them.
@@ -71,6 +71,7 @@ pub(crate) fn reserve_of(command: &Command) -> u64
     match command {
         Command::Does(Event::Control { .. }) => RESERVED_BYTES,
         Command::Does(Event::Answer { .. }) => RESERVED_BYTES,
+        Command::Does(Event::Forget { .. }) => RESERVED_BYTES,
         _ => 0,
     }
 }

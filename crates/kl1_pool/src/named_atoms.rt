@@ -1,7 +1,8 @@
 // A table of names that a type names.
 
 ghost use Rattle.std.specs.Prelude.{◌≡◌};
-ghost use Rattle.kl1_atoms.specs.Seats.{face_in, IsSharedSeat};
+ghost use Rattle.kl1_atoms.specs.Seats.{face_in};
+ghost use Rattle.kl1_pool.specs.Parts.{IsSeatOf};
 
 use crate::pool_ids::PoolIds;
 use kl1_atoms::{AtomSeat, AtomSource, AtomTable, Turns};
@@ -21,9 +22,9 @@ pub struct NamedAtoms<'t, K: PoolIds> {
 impl<'t, K: PoolIds> AtomSource for NamedAtoms<'t, K> {
     type Seat = AtomSeat;
 
-    ghost is_of = { λ atoms seat. IsSharedSeat K.table seat.badge.table_id K.seats (face_in seat.badge.views) seat.account };
+    ghost is_of = { λ atoms seat. IsSeatOf K.table K.seats K.rules seat };
 
-    ghost place = { λ seat. (seat.badge.table_id.views_name, seat.account) };
+    ghost place = { λ seat. ((seat.badge.table_id.views_name, (face_in seat.badge.views).room), seat.account) };
 
     ghost knows = { λ seat. (face_in seat.badge.views).knows };
 

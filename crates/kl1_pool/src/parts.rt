@@ -5,6 +5,7 @@ ghost use Rattle.kl1_atoms.specs.Seats.{face_in, IsNewSharedSeat};
 ghost use Rattle.kl1_atoms.specs.declared.atom_seat.AtomSeat.{AtomSeat};
 ghost use Rattle.kl1_journal_stamps.specs.Stamps.{AreNew};
 ghost use Rattle.kl1_tally.specs.declared.amounts.TheConstants.{MOST_ACCOUNTS};
+ghost use Rattle.kl1_pool.specs.Parts.{HasRoomFor};
 
 use kl1_atoms::{AtomSeat, AtomTable};
 use kl1_codes::CodeTable;
@@ -45,7 +46,7 @@ impl<'t> Model for PoolParts<'t> {
 
     ghost view = { λ p. record { table = p.table.now.table.shared.table_id; seats = p.table.now.accounts; codes = p.code_table.now; rules = p.rules; names = p.accounts.items; most_bytes = p.most_bytes; tally = p.tickets.tally; queue = p.tickets.queue; accounts = p.tickets.accounts; shares = p.tickets.shares; histories = histories_of p.shown.items } };
 
-    ghost invariant = { λ p. AreFreshSeats p.table.now.table.shared.table_id p.table.now.accounts p.seats.items × (vec_len p.accounts ≤ p.tickets.accounts) × (vec_len p.seats ≡ p.tickets.accounts) × (vec_len p.shown ≡ p.tickets.accounts) × AreNew p.shown.items };
+    ghost invariant = { λ p. AreFreshSeats p.table.now.table.shared.table_id p.table.now.accounts p.rules p.seats.items × (vec_len p.accounts ≤ p.tickets.accounts) × (vec_len p.seats ≡ p.tickets.accounts) × (vec_len p.shown ≡ p.tickets.accounts) × AreNew p.shown.items };
 }
 
 /// For each of `count` accounts a history of the journals that are shown of it, in which there is none yet.
@@ -62,7 +63,7 @@ fn new_histories(alloc: Global, count: usize) -> Result<Vec<ShownHistory>, Alloc
 
 impl<'t> PoolParts<'t> {
     /// Accounts of these names, which keep to these rules, in which nothing has happened, each with a seat of its own that knows the built-in
-    /// names alone; for each seat more, 1 to 32 in all, a place to which an account may come; and a tally and a queue for all of them and for `shares`
+    /// names alone, and has room for as many as the rules allow; for each seat more, 1 to 32 in all, a place to which an account may come; and a tally and a queue for all of them and for `shares`
     /// shares. They may take any number of bytes.
     pub fn new(
         alloc: Global,
@@ -77,6 +78,7 @@ impl<'t> PoolParts<'t> {
         requires few { vec_len seats ≤ MOST_ACCOUNTS }
         requires count { length accounts.now ≤ vec_len seats }
         requires seats { (k : ℕ) (seat : AtomSeat) → slice_get seats.items k ≡ Some seat → IsNewSharedSeat table.now.table.shared.table_id seat.badge.table_id table.now.accounts (face_in seat.badge.views) seat.account k }
+        requires room { (k : ℕ) (seat : AtomSeat) → slice_get seats.items k ≡ Some seat → HasRoomFor rules seat }
         ensures table { IfOk result (λ parts. (parts.table ≡ table.now.table.shared.table_id) × (parts.seats ≡ table.now.accounts)) }
         ensures codes { IfOk result (λ parts. parts.codes ≡ codes.now) }
         ensures rules { IfOk result (λ parts. parts.rules ≡ rules) }

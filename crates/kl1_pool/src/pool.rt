@@ -15,6 +15,7 @@ use crate::pool_account::{DueTicket, PoolAccount};
 use crate::pool_ids::PoolIds;
 use crate::shared_tables::SharedTables;
 use crate::turn::MOST_GRANTED_STEPS;
+use kl1_journal::Rules;
 use kl1_pool_tickets::{Opened, PoolShared, Share, TimeSlice};
 use std::alloc::{AllocError, Global};
 use std::marker::PhantomData;
@@ -32,8 +33,11 @@ pub struct Pool<'t, R: Wait, K: PoolIds> {
     pub(crate) named: usize,
     /// The most bytes that an account may take if it is to go on.
     pub(crate) most_bytes: u64,
+    /// What all accounts keep to.
+    pub(crate) rules: Rules,
     pub ghost counted: { vec_len places ≡ K.accounts },
     pub ghost bounded: { most_bytes ≡ K.most_bytes },
+    pub ghost ruled: { rules ≡ K.rules },
     pub ghost listed: { named ≡ length K.names },
 }
 
@@ -89,6 +93,7 @@ impl<'t, R: Wait, K: PoolIds> Pool<'t, R, K> {
             places,
             named: accounts.len(),
             most_bytes,
+            rules,
         };
         match pool.settle(alloc, accounts.as_slice()) {
             Ok(()) => Ok((pool, shares)),
@@ -104,6 +109,13 @@ impl<'t, R: Wait, K: PoolIds> Pool<'t, R, K> {
         ensures { result ≡ K.accounts }
     {
         self.places.len()
+    }
+
+    /// The rules that all accounts keep to.
+    pub fn rules(&self) -> Rules
+        ensures { result ≡ K.rules }
+    {
+        self.rules
     }
 
     /// Puts an account's ticket; if it can't be put, none is out.
@@ -254,6 +266,7 @@ impl<'t, R: Wait, K: PoolIds> Pool<'t, R, K> {
             places,
             named: _,
             most_bytes: _,
+            rules: _,
         } = self;
         drop_all(places);
     }

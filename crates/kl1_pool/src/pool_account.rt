@@ -5,18 +5,18 @@ mod viewing;
 
 ghost use Rattle.std.specs.Prelude.{◌≡◌, ◌↔◌, ◌<◌, ◌≤◌, ◌^◌, [], Some, None, slice_get, IfOk, IsOk, IsTrue, OnErr, false, option_map};
 ghost use Rattle.kl1_model.specs.Event.{reduce as reduce_event, refused, journal_full};
-ghost use Rattle.kl1_model.specs.State.{has_runs};
+ghost use Rattle.kl1_model.specs.State.{has_runs, has_told};
 ghost use Rattle.kl1_model.specs.Choice.{first, quiet};
 ghost use Rattle.kl1_model_server.specs.Journal.{done, is_entry};
 ghost use Rattle.kl1_model_server.specs.JournalText.{page_of};
 ghost use Rattle.kl1_atoms.specs.Names.{AreNames};
-ghost use Rattle.kl1_atoms.specs.Seats.{face_in, IsSharedSeat};
 ghost use Rattle.kl1_codes.specs.Numbered.{ArePlaced};
 ghost use Rattle.kl1_user_events.specs.Views.{event_of, is_logout, reply_of, reduced_or, chosen_of};
 ghost use Rattle.kl1_pool_tickets.specs.Counts.{Moved};
 ghost use Rattle.kl1_pool_tickets.specs.Parts.{IsNewBook};
 ghost use Rattle.kl1_journal.specs.Keeping.{Reading, Fits, kept_of, IsKept};
 ghost use Rattle.kl1_command.specs.Told.{events_by, steps_by};
+ghost use Rattle.kl1_pool.specs.Parts.{IsSeatOf};
 ghost use Rattle.kl1_pool.specs.PoolAccounts.{StandsIn};
 ghost use Rattle.kl1_pool.specs.Names.{IsNamed, called_at, is_called};
 ghost use Rattle.kl1_pool.specs.Counted.{no_past, with_more, IsCounted, past_by, room_in, HasRoom};
@@ -56,10 +56,10 @@ impl<'t, R: Wait, K: PoolIds> Model for PoolAccount<'t, R, K> {
     ghost use Rattle.std.specs.Prelude.{◌≡◌, ◌<◌, Some, slice_get};
     ghost use Rattle.std.specs.Coded.{codes};
     ghost use Rattle.kl1_tally.specs.declared.amounts.TheConstants.{MOST_ACCOUNTS};
-    ghost use Rattle.kl1_atoms.specs.Seats.{face_in, IsSharedSeat};
     ghost use Rattle.kl1_codes.specs.Numbered.{numbered_code, ArePlaced};
     ghost use Rattle.kl1_journal_entries.specs.Codes.{journal_code};
     ghost use Rattle.kl1_journal_stamps.specs.Stamps.{MayFollow};
+    ghost use Rattle.kl1_pool.specs.Parts.{IsSeatOf};
     ghost use Rattle.kl1_pool.specs.PoolAccounts.{PoolAccountValue, StandsIn};
     ghost use Rattle.kl1_pool.specs.Counted.{IsCounted};
     ghost use Rattle.kl1_pool.specs.Names.{IsNamed};
@@ -70,7 +70,7 @@ impl<'t, R: Wait, K: PoolIds> Model for PoolAccount<'t, R, K> {
 
     ghost view = { λ c. record { held = c.kept.1; book = c.book; past = c.past; is_out = c.is_out } };
 
-    ghost invariant = { λ c. IsSharedSeat K.table c.kept.0.badge.table_id K.seats (face_in c.kept.0.badge.views) c.kept.0.account × ArePlaced (StandsIn K.codes) c.kept.1.0.modules × (c.book.tally ≡ K.tally) × (c.book.account < MOST_ACCOUNTS) × IsCounted c.past c.kept.1.1 c.book × (c.kept.1.0.rules ≡ K.rules) × IsNamed K.names c.book.account c.name c.kept.1.0.own_name × (slice_get K.histories c.book.account ≡ Some c.shown.history) × MayFollow c.shown.last c.past.events c.kept.1.1 };
+    ghost invariant = { λ c. IsSeatOf K.table K.seats K.rules c.kept.0 × ArePlaced (StandsIn K.codes) c.kept.1.0.modules × (c.book.tally ≡ K.tally) × (c.book.account < MOST_ACCOUNTS) × IsCounted c.past c.kept.1.1 c.book × (c.kept.1.0.rules ≡ K.rules) × IsNamed K.names c.book.account c.name c.kept.1.0.own_name × (slice_get K.histories c.book.account ≡ Some c.shown.history) × MayFollow c.shown.last c.past.events c.kept.1.1 };
 }
 
 impl<'t, R: Wait, K: PoolIds> PoolAccount<'t, R, K> {
@@ -81,7 +81,7 @@ impl<'t, R: Wait, K: PoolIds> PoolAccount<'t, R, K> {
         book: BookSeat,
         shown: ShownHistory,
     ) -> Self
-        requires seat { IsSharedSeat K.table kept.0.badge.table_id K.seats (face_in kept.0.badge.views) kept.0.account }
+        requires seat { IsSeatOf K.table K.seats K.rules kept.0 }
         requires modules { ArePlaced (StandsIn K.codes) kept.1.0.modules }
         requires entries { kept.1.1.entries ≡ [] }
         requires book { IsNewBook K.tally book }
@@ -134,8 +134,8 @@ impl<'t, R: Wait, K: PoolIds> PoolAccount<'t, R, K> {
         if is_full(&self.book, event) {
             return Ok(Reply::Refused(Refusal::Journal));
         }
-        // This and the next one are called for the facts that they prove: the journal ends in the run that the account counts, and some
-        // reading fits the names.
+        // This and the next one are called for the facts that they prove: the account is the replay of its journal, and some reading fits
+        // the names.
         self.kept.shows_replay();
         let reply = self.kept.apply(names, codes, event)?;
         self.kept.shows_replay();
@@ -207,6 +207,15 @@ impl<'t, R: Wait, K: PoolIds> PoolAccount<'t, R, K> {
         // This is called for the fact that it proves: the journal has the account's rules.
         self.shows_counts();
         self.lent_journal().rules().has_runs()
+    }
+
+    /// Whether the account keeps to rules by which answers tell variables.
+    pub(crate) fn has_told(&self) -> bool
+        ensures { (f : Reading) → Fits self.now.held.0.names f → result ≡ has_told (kept_of f self.now.held).state.rules }
+    {
+        // This is called for the fact that it proves: the journal has the account's rules.
+        self.shows_counts();
+        self.lent_journal().rules().has_told()
     }
 
     /// What was counted before the last reset.

@@ -1,22 +1,20 @@
 // Doing the entries of a journal to an account.
 
-ghost use Rattle.std.specs.Prelude.{◌≡◌, ◌≤◌, take, Some, IfOk, IsTrue, false};
-ghost use Rattle.kl1_model.specs.State.{has_runs};
+ghost use Rattle.std.specs.Prelude.{◌≡◌, ◌≤◌, take, Some, IsTrue, false};
+ghost use Rattle.kl1_model.specs.State.{has_runs, has_told};
 ghost use Rattle.kl1_model_server.specs.Journal.{Entry as Entered, runs};
 ghost use Rattle.kl1_user_events.specs.Views.{event_of, reply_of};
 ghost use Rattle.kl1_journal_entries.specs.Found.{deed_in};
 ghost use Rattle.kl1_journal_entries.specs.Lined.{entry_of};
 ghost use Rattle.kl1_journal_entries.specs.Shown.{entry_shown};
-ghost use Rattle.kl1_journal_entries.specs.Slots.{goal_in};
 ghost use Rattle.kl1_command.specs.Told.{Told, told_steps};
 ghost use Rattle.kl1_command.specs.Stepping.{IsEnd};
 ghost use Rattle.kl1_command.specs.Room.{HasRoomFor};
-ghost use Rattle.kl1_pool.specs.Restoring.{Leads, IsEntryDone, IsRestored, result_by, result_of_run, told_entry, told_of, told_sum};
+ghost use Rattle.kl1_pool.specs.Restoring.{Leads, IsEntryDone, IsRestored, untells, entry_by, entries_by, entries_for, result_by, result_of_run, told_entry, told_of, told_sum};
 
+use crate::restored_deed::deed_for;
 use kl1_command::{FirstStep, Host, Steps, run_steps};
 use kl1_journal_entries::{Deed, Entry, Journal};
-use kl1_read::read_goal;
-use kl1_term::Term;
 use kl1_user_events::{Event, Reply};
 use std::alloc::{AllocError, Global};
 
@@ -60,66 +58,28 @@ pub trait Meter {
     fn goes_on(&self, events: u64) -> bool;
 }
 
-/// A host that tells whether its account keeps to rules by which there are runs, and that adds up what it counts.
+/// A host that tells of the rules to which its account keeps, and that adds up what it counts.
 pub(crate) trait RestoringHost: Host {
     /// Whether the account keeps to rules by which there are runs.
     fn has_runs(&self) -> bool
         ensures { (f : Self.Reading) → Self.fits self.now f → result ≡ has_runs (Self.kept f self.now).state.rules };
 
+    /// Whether the account keeps to rules by which answers tell variables.
+    fn has_told(&self) -> bool
+        ensures { (f : Self.Reading) → Self.fits self.now f → result ≡ has_told (Self.kept f self.now).state.rules };
+
     /// What is counted and then more is counted as all of it, if no journal was ended.
     ghost adds_up: { (a b c : Self) (t u : Told) → t.is_reset ≡ false → u.is_reset ≡ false → Self.counted a t b → Self.counted b u c → Self.counted a (told_sum t u) c };
 }
 
-/// The goal whose print this is.
-fn goal_of(alloc: Global, print: &[u8]) -> Result<Term, AllocError>
-    ensures { IfOk result (λ goal. goal ≡ goal_in print.now) }
+/// Whether answers of a journal tell no variable, though those of the account do.
+fn untells<H: RestoringHost>(host: &H, journal: &Journal) -> bool
+    ensures { (f : H.Reading) → H.fits host.now f → result ≡ untells (H.kept f host.now).state.rules journal.now.journal.rules }
 {
-    match read_goal(alloc, print) {
-        Ok(goal) => Ok(goal),
-        // The print of a goal reads back: it is want of memory.
-        Err(_) => Err(AllocError),
+    if journal.rules().has_told() {
+        return false;
     }
-}
-
-/// What an entry asks for.
-fn deed_for(alloc: Global, entry: Entry<'_>) -> Result<Deed, AllocError>
-    ensures { IfOk result (λ deed. deed_in deed ≡ Some (entry_shown entry.entry)) }
-{
-    match entry {
-        Entry::Load(source) => {
-            let source = Vec::from_slice(alloc, source)?;
-            Ok(Deed::Event(Event::Load { source }))
-        }
-        Entry::Start {
-            allowance,
-            low,
-            high,
-            goal,
-        } => {
-            let goal = goal_of(alloc, goal)?;
-            Ok(Deed::Event(Event::Start {
-                allowance,
-                low,
-                high,
-                goal,
-            }))
-        }
-        Entry::Control { shoen, message } => Ok(Deed::Event(Event::Control { shoen, message })),
-        Entry::Reduce { goal, clause } => Ok(Deed::Event(Event::Reduce { goal, clause })),
-        Entry::Run(steps) => Ok(Deed::Run(steps)),
-        Entry::Answer {
-            shoen,
-            report,
-            goal,
-        } => {
-            let goal = goal_of(alloc, goal)?;
-            Ok(Deed::Event(Event::Answer {
-                shoen,
-                report,
-                goal,
-            }))
-        }
-    }
+    host.has_told()
 }
 
 /// Whether the book can tell `n` events more.
@@ -265,13 +225,14 @@ fn restore_entry<H: RestoringHost, M: Meter>(
     host: &mut H,
     meter: &M,
     entry: Entry<'_>,
+    untold: bool,
 ) -> EntryResult
-    ensures does { (f : H.Reading) → H.fits host.new f → IsEntryDone (H.kept f host.old).state (entry_shown entry.entry) result (H.kept f host.new).state }
-    ensures counted { (f : H.Reading) → H.fits host.new f → H.counted host.old (told_entry (entry_shown entry.entry) result) host.new }
+    ensures does { (f : H.Reading) → H.fits host.new f → IsEntryDone (H.kept f host.old).state (entry_by untold (entry_shown entry.entry)) result (H.kept f host.new).state }
+    ensures counted { (f : H.Reading) → H.fits host.new f → H.counted host.old (told_entry (entry_by untold (entry_shown entry.entry)) result) host.new }
     ensures before { (f : H.Reading) → H.fits host.new f → H.fits host.old f }
     ensures beside { H.beside host.new ≡ H.beside host.old }
 {
-    match deed_for(alloc, entry) {
+    match deed_for(alloc, entry, untold) {
         Err(_) => EntryResult::Stopped {
             steps: 0,
             end: RestoreEnd::Memory,
@@ -292,14 +253,15 @@ fn last_events(entry: &Entry<'_>) -> u64 {
 }
 
 /// Does the entries of a journal, one after another, until one isn't accepted whole, or `meter` says so before one, which is told as want of
-/// memory.
-pub(crate) fn restore_all<H: RestoringHost, M: Meter>(
+/// memory. Answers tell no variable, if that is said.
+fn restore_each<H: RestoringHost, M: Meter>(
     alloc: Global,
     host: &mut H,
     meter: &M,
     journal: &Journal,
+    untold: bool,
 ) -> Restored
-    ensures restored { (f : H.Reading) → H.fits host.new f → IsRestored (H.kept f host.old).state journal.now.journal.entries result (H.kept f host.new).state }
+    ensures restored { (f : H.Reading) → H.fits host.new f → IsRestored (H.kept f host.old).state (entries_by untold journal.now.journal.entries) result (H.kept f host.new).state }
     ensures counted { (f : H.Reading) → H.fits host.new f → H.counted host.old (told_of (take result.entries journal.now.journal.entries) result.steps) host.new }
     ensures before { (f : H.Reading) → H.fits host.new f → H.fits host.old f }
     ensures beside { H.beside host.new ≡ H.beside host.old }
@@ -324,7 +286,7 @@ pub(crate) fn restore_all<H: RestoringHost, M: Meter>(
             };
         }
         events = last_events(&entry);
-        match restore_entry(alloc, host, meter, entry) {
+        match restore_entry(alloc, host, meter, entry, untold) {
             EntryResult::Whole => done += 1,
             EntryResult::Stopped { steps, end } => {
                 return Restored {
@@ -341,4 +303,21 @@ pub(crate) fn restore_all<H: RestoringHost, M: Meter>(
         steps: 0,
         end: RestoreEnd::All,
     }
+}
+
+/// Does the entries of a journal, one after another, until one isn't accepted whole, or `meter` says so before one, which is told as want of
+/// memory. An answer of a journal by rules whose answers tell no variable tells none.
+pub(crate) fn restore_all<H: RestoringHost, M: Meter>(
+    alloc: Global,
+    host: &mut H,
+    meter: &M,
+    journal: &Journal,
+) -> Restored
+    ensures restored { (f : H.Reading) → H.fits host.new f → IsRestored (H.kept f host.old).state (entries_for (H.kept f host.old).state.rules journal.now.journal) result (H.kept f host.new).state }
+    ensures counted { (f : H.Reading) → H.fits host.new f → H.counted host.old (told_of (take result.entries journal.now.journal.entries) result.steps) host.new }
+    ensures before { (f : H.Reading) → H.fits host.new f → H.fits host.old f }
+    ensures beside { H.beside host.new ≡ H.beside host.old }
+{
+    let untold = untells(host, journal);
+    restore_each(alloc, host, meter, journal, untold)
 }

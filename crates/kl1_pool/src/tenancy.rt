@@ -148,7 +148,13 @@ impl<'t, R: Wait, K: PoolIds> Pool<'t, R, K> {
         let journal = comer.journal();
         // That its names are names that an account may have used.
         journal.shows_written();
-        let mut found = match place.settle(alloc, &self.tables, name, journal.names()) {
+        let names = journal.names();
+        let limits = self.rules.limits();
+        // None has so many but by later rules than the account's.
+        if names.len() > limits.names {
+            return (Err(place), NOT_RESTORED, None);
+        }
+        let mut found = match place.settle(alloc, &self.tables, name, names) {
             Ok(found) => found,
             Err(left) => return (Err(left), NOT_RESTORED, None),
         };

@@ -5,7 +5,7 @@ use std::alloc::{AllocError, Global};
 use strsim::osa_distance;
 
 /// The commands: of each its form, and what it does.
-const COMMANDS: [&str; 24] = [
+const COMMANDS: [&str; 25] = [
     "GOAL               start GOAL, as app:app([1],[2],R), and run it",
     ":step [N]          do at most N steps more",
     ":trace [N]         do at most N steps, one without N, and tell each",
@@ -18,6 +18,7 @@ const COMMANDS: [&str; 24] = [
     ":status S          tell the state of shoen S",
     ":reports S [N]     tell the reports of shoen S, from the Nth on",
     ":answer S N GOAL   put GOAL in the place of the goal of report N of shoen S",
+    ":forget S N        let the first N reports of shoen S go, or by 0 the shoen itself, if it has ended",
     ":stop S            let shoen S stand still",
     ":resume S          let shoen S go on",
     ":abort S           end shoen S",

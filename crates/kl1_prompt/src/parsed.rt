@@ -3,6 +3,7 @@
 use crate::line::{Line, Table};
 use kl1_command::{Command, Parsed, parse};
 use kl1_lines::{is_blank_line, is_same, only_number, split_word, up_to};
+use kl1_model::Rules;
 use kl1_read::{ReadFault, read_goal};
 use kl1_user_events::{Event, Query, ShoenNo};
 use std::alloc::{AllocError, Global};
@@ -10,15 +11,15 @@ use std::alloc::{AllocError, Global};
 /// The most steps that a line has told.
 pub const MOST_TRACED: u64 = 10_000;
 
-/// What a line without its end asks for. `most` steps are asked for if it doesn't say how many.
-pub fn parse_line(alloc: Global, text: &[u8], most: u64) -> Result<Line, AllocError> {
+/// What a line without its end asks for, of an account of these rules. `most` steps are asked for if it doesn't say how many.
+pub fn parse_line(alloc: Global, rules: Rules, text: &[u8], most: u64) -> Result<Line, AllocError> {
     let (word, rest) = split_word(text);
     if is_blank_line(text) {
         Ok(Line::Blank)
     } else if begins_with(b'%', word) {
         Ok(Line::Blank)
     } else if begins_with(b':', word) {
-        parse_order(alloc, word, rest, most)
+        parse_order(alloc, rules, word, rest, most)
     } else {
         parse_goal(alloc, text)
     }
@@ -42,7 +43,13 @@ fn parse_goal(alloc: Global, text: &[u8]) -> Result<Line, AllocError> {
 }
 
 /// What a word with a colon before it and what is after it ask for.
-fn parse_order(alloc: Global, word: &[u8], rest: &[u8], most: u64) -> Result<Line, AllocError> {
+fn parse_order(
+    alloc: Global,
+    rules: Rules,
+    word: &[u8],
+    rest: &[u8],
+    most: u64,
+) -> Result<Line, AllocError> {
     if is_same(word, b":step") {
         Ok(parse_step(rest, most))
     } else if is_same(word, b":trace") {
@@ -65,9 +72,9 @@ fn parse_order(alloc: Global, word: &[u8], rest: &[u8], most: u64) -> Result<Lin
     } else if is_same(word, b":quit") {
         Ok(alone(Line::Quit, rest))
     } else if is_same(word, b":reports") {
-        parse_reports(alloc, word, rest)
+        parse_reports(alloc, rules, word, rest)
     } else {
-        parse_command(alloc, word, rest)
+        parse_command(alloc, rules, word, rest)
     }
 }
 
@@ -112,21 +119,31 @@ fn parse_load(alloc: Global, rest: &[u8]) -> Result<Line, AllocError> {
 }
 
 /// What stands after `:reports`: a shoen's number, or that of a report too.
-fn parse_reports(alloc: Global, word: &[u8], rest: &[u8]) -> Result<Line, AllocError> {
+fn parse_reports(
+    alloc: Global,
+    rules: Rules,
+    word: &[u8],
+    rest: &[u8],
+) -> Result<Line, AllocError> {
     match only_number(rest) {
         Some(shoen) => Ok(Line::Command(Command::Does(Event::Read(Query::Reports {
             shoen: ShoenNo(shoen),
             from: 1,
         })))),
-        None => parse_command(alloc, word, rest),
+        None => parse_command(alloc, rules, word, rest),
     }
 }
 
 /// The command of the account that a word without its colon and what is after it are.
-fn parse_command(alloc: Global, word: &[u8], rest: &[u8]) -> Result<Line, AllocError> {
+fn parse_command(
+    alloc: Global,
+    rules: Rules,
+    word: &[u8],
+    rest: &[u8],
+) -> Result<Line, AllocError> {
     let mut text = Vec::from_slice(alloc, without_first(word))?;
     text.extend_from_slice(rest)?;
-    let parsed = parse(alloc, text.as_slice())?;
+    let parsed = parse(alloc, rules, text.as_slice())?;
     Ok(command_line(parsed))
 }
 

@@ -40,6 +40,7 @@ pub fn put_answer(
         Reply::Welcome(_name) => put_line(b"welcome", answers),
         Reply::Bye => put_line(b"bye", answers),
         Reply::Reset => put_line(b"reset", answers),
+        Reply::Forgotten => put_line(b"forgotten", answers),
     }
 }
 

@@ -26,3 +26,4 @@ pub mod WordLemmas
 pub mod SeenSpellings
 pub mod TestFronts
 pub mod Fronts
+pub mod Tellings

@@ -22,3 +22,4 @@ pub mod Held
 pub mod Infixes
 pub mod Waits
 pub mod SmallNodes
+pub mod Tellings

@@ -32,7 +32,7 @@ fn is_another(text: &AtomText) -> bool
 }
 
 /// The number of a variable, which joins those seen if it is new: `_` is another one each time.
-fn number_of(
+pub(crate) fn number_of(
     numbers: &mut HashMap<AtomText, u64>,
     seen: &mut Vec<AtomText>,
     text: AtomText,

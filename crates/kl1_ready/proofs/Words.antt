@@ -21,9 +21,8 @@ pub use Rattle.kl1_model.specs.Look.{goal_look}
 pub use Rattle.kl1_model.specs.Match.{clauses_of}
 pub use Rattle.kl1_model.specs.Reduction.{moves, read_action, reads, task_action}
 pub use Rattle.kl1_model.specs.Term.{substituted}
-pub use Rattle.kl1_model.specs.code.Awaited.{awaited_by_control, awaited_by_found}
+pub use Rattle.kl1_model.specs.code.Waits.{awaited_by_control, awaited_by_found, LeavesEach, awaited_by_substitute, awaited_by_term, look_clause, move_by, substitute_clause, term_clause}
 pub use Rattle.kl1_model.specs.code.Steps.{monitor_action, substitute_move}
-pub use Rattle.kl1_model.specs.code.Waits.{LeavesEach, awaited_by_substitute, awaited_by_term, look_clause, move_by, substitute_clause, term_clause}
 pub use Rattle.kl1_model.specs.laws.WaitsLaws.{control_substituted}
 pub use Rattle.kl1_atoms.specs.Knowing.{no_names, option_cases}
 pub use Rattle.kl1_store.proofs.Later.{is_later}

@@ -40,7 +40,7 @@ entry_accepted next k s (Some e) x h = step_accepted next k (entry_step s e) x h
 
 -- an entry that is accepted
 pub one_accepted : (k n : ℕ) (s : State) (line : List ℕ) (lines : List (List ℕ)) (rest : List ℕ) (x : Transition) → accepted_in s line ≡ Some x → written_entries k n s (line ∷ lines) rest ≡ written_lines (reply_lines x.reply) ++ written_entries (suc k) (suc n) x.state lines rest
-one_accepted k n s line lines rest x h = entry_accepted (λ after. written_entries (suc k) (suc n) after lines rest) k s (entry_in line) x h
+one_accepted k n s line lines rest x h = entry_accepted (λ after. written_entries (suc k) (suc n) after lines rest) k s (entry_in s.rules line) x h
 
 entry_fault : (next : State → List ℕ) (k : ℕ) (s : State) (o : Option Entry) → option_and_then (λ e. if_accepted (entry_step s e)) o ≡ None → written_entry next k s o ≡ written_fault k
 entry_fault next k s None h = refl
@@ -48,10 +48,10 @@ entry_fault next k s (Some e) h = rw (refused (is_refused (entry_step s e).reply
 
 -- a line that is no entry's, or whose entry is refused
 pub one_fault : (k n : ℕ) (s : State) (line : List ℕ) (lines : List (List ℕ)) (rest : List ℕ) → accepted_in s line ≡ None → written_entries k n s (line ∷ lines) rest ≡ written_fault k
-one_fault k n s line lines rest h = entry_fault (λ after. written_entries (suc k) (suc n) after lines rest) k s (entry_in line) h
+one_fault k n s line lines rest h = entry_fault (λ after. written_entries (suc k) (suc n) after lines rest) k s (entry_in s.rules line) h
 
 -- a line that is no entry's
-pub no_entry : (s : State) (line : List ℕ) (found : Option Entry) → found ≡ entry_in line → found ≡ None → accepted_in s line ≡ None
+pub no_entry : (s : State) (line : List ℕ) (found : Option Entry) → found ≡ entry_in s.rules line → found ≡ None → accepted_in s line ≡ None
 no_entry s line found is none = rw (sym is ∙ none) refl
 
 -- the event of a line that is an entry's
@@ -60,13 +60,13 @@ event_by s None e is some = cc
 event_by s (Some x) e is some = ap if_accepted (event_does e x s is)
 
 -- a line whose entry asks for this event
-pub event_entry : (s : State) (line : List ℕ) (found : Option Deed) (d : Deed) (e : events.Event) → found ≡ Some d → d ≡ deed.Event e → option_and_then deed_in found ≡ entry_in line → is_some found ≡ is_some (entry_in line) → accepted_in s line ≡ if_accepted (step s (event_of e))
+pub event_entry : (s : State) (line : List ℕ) (found : Option Deed) (d : Deed) (e : events.Event) → found ≡ Some d → d ≡ deed.Event e → option_and_then deed_in found ≡ entry_in s.rules line → is_some found ≡ is_some (entry_in s.rules line) → accepted_in s line ≡ if_accepted (step s (event_of e))
 event_entry s line found d e some what is same =
     let asked : found ≡ Some (deed.Event e) = some ∙ ap (λ (x : Deed). let o : Option Deed = Some x in o) what in
-    event_by s (entry_in line) (event_of e) (sym (ap (option_and_then deed_in) asked) ∙ is) (sym same ∙ ap is_some asked)
+    event_by s (entry_in s.rules line) (event_of e) (sym (ap (option_and_then deed_in) asked) ∙ is) (sym same ∙ ap is_some asked)
 
 -- a line whose entry is this run
-pub run_entry : (s : State) (line : List ℕ) (found : Option Deed) (d : Deed) (n : ℕ) → found ≡ Some d → d ≡ deed.Run n → option_and_then deed_in found ≡ entry_in line → accepted_in s line ≡ if_accepted (entry_step s (runs n))
+pub run_entry : (s : State) (line : List ℕ) (found : Option Deed) (d : Deed) (n : ℕ) → found ≡ Some d → d ≡ deed.Run n → option_and_then deed_in found ≡ entry_in s.rules line → accepted_in s line ≡ if_accepted (entry_step s (runs n))
 run_entry s line found d n some what is =
     let asked : found ≡ Some (deed.Run n) = some ∙ ap (λ (x : Deed). let o : Option Deed = Some x in o) what in
     ap (option_and_then (λ e. if_accepted (entry_step s e))) (sym is ∙ ap (option_and_then deed_in) asked)

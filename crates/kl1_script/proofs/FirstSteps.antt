@@ -1,7 +1,7 @@
 -- First steps of a replay, and runs of them.
 use Rattle.std.proofs.Common.{◌≡◌, ℕ, zero, suc, ◌+◌, ◌-◌, ◌<◌, Bool, true, false, if◌then◌else◌, Option, Some, None, is_some, is_none, not, ap, sym, ◌∙◌, refl, subst, [], arith}
 use Rattle.kl1_model.specs.State.{State, has_runs}
-use Rattle.kl1_model.specs.Event.{Event, syntax, load, start, control, reduce, read, login, logout, reset, answer, Reply, ran, Transition, refuse, is_refused}
+use Rattle.kl1_model.specs.Event.{Event, syntax, load, start, control, reduce, read, login, logout, reset, answer, forget, Reply, ran, Transition, refuse, is_refused}
 use Rattle.kl1_model.specs.Choice.{Chosen, first}
 use Rattle.kl1_model.specs.Step.{step}
 use Rattle.kl1_model.proofs.TreeSteps.{refusals_change_nothing}
@@ -163,6 +163,7 @@ event_does (start allowance low high t) x s h = entry_is x s h refl
 event_does (control n m) x s h = entry_is x s h refl
 event_does (reduce goal clause) x s h = entry_is x s h refl
 event_does (answer n report t) x s h = entry_is x s h refl
+event_does (forget n count) x s h = entry_is x s h refl
 event_does (read q) x s h = cc
 event_does login x s h = cc
 event_does logout x s h = cc

@@ -1,4 +1,5 @@
 pub mod AccountNames
+pub mod RulesKept
 pub mod Others
 pub mod Worlds
 pub mod Endings

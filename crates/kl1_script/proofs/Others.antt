@@ -20,8 +20,8 @@ after_more : (k : Kept) (cs : List (Option Command)) (c : Option Command) → af
 after_more k [] c = refl
 after_more k (b ∷ cs) c = after_more (done_by k b).kept cs c
 
-commands_by : (v : Bool) (name : List ℕ) (b r : Record) (bs : List Record) → commands_of name (bs ++ r ∷ []) ≡ commands_of name bs ++ commands_of name (r ∷ []) → (if v then command_of b.request ∷ commands_of name (bs ++ r ∷ []) else commands_of name (bs ++ r ∷ [])) ≡ (if v then command_of b.request ∷ commands_of name bs else commands_of name bs) ++ commands_of name (r ∷ [])
-commands_by true name b r bs e = ap (λ x. command_of b.request ∷ x) e
+commands_by : (v : Bool) (name : List ℕ) (b r : Record) (bs : List Record) → commands_of name (bs ++ r ∷ []) ≡ commands_of name bs ++ commands_of name (r ∷ []) → (if v then command_of Three b.request ∷ commands_of name (bs ++ r ∷ []) else commands_of name (bs ++ r ∷ [])) ≡ (if v then command_of Three b.request ∷ commands_of name bs else commands_of name bs) ++ commands_of name (r ∷ [])
+commands_by true name b r bs e = ap (λ x. command_of Three b.request ∷ x) e
 commands_by false name b r bs e = e
 
 commands_more : (name : List ℕ) (bs : List Record) (r : Record) → commands_of name (bs ++ r ∷ []) ≡ commands_of name bs ++ commands_of name (r ∷ [])
@@ -32,18 +32,18 @@ alone_by : (v : Bool) (k : Kept) (cs : List (Option Command)) (c : Option Comman
 alone_by true k cs c = after_more k cs c
 alone_by false k cs c = ap (after_all k) (append-nil cs)
 
-alone_more : (name : List ℕ) (bs : List Record) (r : Record) → alone_after name (bs ++ r ∷ []) ≡ (if bytes_eq r.name name then (done_by (alone_after name bs) (command_of r.request)).kept else alone_after name bs)
-alone_more name bs r = ap (after_all (fresh_kept Three name)) (commands_more name bs r) ∙ alone_by (bytes_eq r.name name) (fresh_kept Three name) (commands_of name bs) (command_of r.request)
+alone_more : (name : List ℕ) (bs : List Record) (r : Record) → alone_after name (bs ++ r ∷ []) ≡ (if bytes_eq r.name name then (done_by (alone_after name bs) (command_of Three r.request)).kept else alone_after name bs)
+alone_more name bs r = ap (after_all (fresh_kept Three name)) (commands_more name bs r) ∙ alone_by (bytes_eq r.name name) (fresh_kept Three name) (commands_of name bs) (command_of Three r.request)
 
 -- an account alone after one record more, of its name
-pub own_more : (name : List ℕ) (bs : List Record) (r : Record) → r.name ≡ name → alone_after name (bs ++ r ∷ []) ≡ (done_by (alone_after name bs) (command_of r.request)).kept
+pub own_more : (name : List ℕ) (bs : List Record) (r : Record) → r.name ≡ name → alone_after name (bs ++ r ∷ []) ≡ (done_by (alone_after name bs) (command_of Three r.request)).kept
 own_more name bs r e =
-    alone_more name bs r ∙ ap (λ v. if v then (done_by (alone_after name bs) (command_of r.request)).kept else alone_after name bs) ((bytes_eq-Decides r.name name).1 e)
+    alone_more name bs r ∙ ap (λ v. if v then (done_by (alone_after name bs) (command_of Three r.request)).kept else alone_after name bs) ((bytes_eq-Decides r.name name).1 e)
 
 -- so after one of another name
 pub other_more : (name : List ℕ) (bs : List Record) (r : Record) → bytes_eq r.name name ≡ false → alone_after name (bs ++ r ∷ []) ≡ alone_after name bs
 other_more name bs r e =
-    alone_more name bs r ∙ ap (λ v. if v then (done_by (alone_after name bs) (command_of r.request)).kept else alone_after name bs) e
+    alone_more name bs r ∙ ap (λ v. if v then (done_by (alone_after name bs) (command_of Three r.request)).kept else alone_after name bs) e
 
 differs : (b : Bool) (x y : List ℕ) → bytes_eq x y ≡ b → (x ≡ y → ⊥) → bytes_eq x y ≡ false
 differs true x y e apart = absurd (apart ((bytes_eq-Decides x y).0 e))

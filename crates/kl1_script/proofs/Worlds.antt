@@ -54,7 +54,7 @@ alone_still names world bs r none w = record {
   kept = λ u f within fits. w.kept u f within fits ∙ sym (other_more (get_or names u []) bs r (none_named names r.name u none within));
 }
 
-kept_at : (names : List (List ℕ)) (old new : List Held) (bs : List Record) (r : Record) (place : ℕ) (reply : Reply) (u : ℕ) (f : Reading) → are_distinct names ≡ true → slice_get names place ≡ Some r.name → Does old new place (command_of r.request) reply → AreAlone names old bs → u < length names → Fits (account_in new u).0.names f →
+kept_at : (names : List (List ℕ)) (old new : List Held) (bs : List Record) (r : Record) (place : ℕ) (reply : Reply) (u : ℕ) (f : Reading) → are_distinct names ≡ true → slice_get names place ≡ Some r.name → Does old new place (command_of Three r.request) reply → AreAlone names old bs → u < length names → Fits (account_in new u).0.names f →
     (u ≡ place) ⊎ (u ≡ place → ⊥) → kept_of f (account_in new u) ≡ alone_after (get_or names u []) (bs ++ r ∷ [])
 kept_at names old new bs r place reply u f distinct at does w within fits (inl same) =
     let P : ℕ → Type 0 = λ n. Fits (account_in new n).0.names f in
@@ -62,7 +62,7 @@ kept_at names old new bs r place reply u f distinct at does w within fits (inl s
     let there = subst P same fits in
     let was = w.kept place f (slice_get_within names place r.name at) (does.before f there) in
     subst Q (sym same)
-    (sym (ap (λ (x : Done). x.kept) (does.done f there)) ∙ ap (λ (k : Kept). (done_by k (command_of r.request)).kept) was ∙ sym (own_more (get_or names place []) bs r (sym (get_or_from_slice_get names place r.name [] at))))
+    (sym (ap (λ (x : Done). x.kept) (does.done f there)) ∙ ap (λ (k : Kept). (done_by k (command_of Three r.request)).kept) was ∙ sym (own_more (get_or names place []) bs r (sym (get_or_from_slice_get names place r.name [] at))))
 kept_at names old new bs r place reply u f distinct at does w within fits (inr apart) =
     let stays = does.others u apart in
     let P : Held → Type 0 = λ a. Fits a.0.names f in
@@ -71,35 +71,35 @@ kept_at names old new bs r place reply u f distinct at does w within fits (inr a
     ∙ sym (other_more (get_or names u []) bs r (are_apart r.name (get_or names u []) (λ e. apart (one_place names u place distinct within (slice_get_within names place r.name at) (sym e ∙ sym name)))))
 
 -- the accounts after a record of the account at a place
-pub alone_done : (names : List (List ℕ)) (old new : List Held) (bs : List Record) (r : Record) (place : ℕ) (reply : Reply) → are_distinct names ≡ true → slice_get names place ≡ Some r.name → Does old new place (command_of r.request) reply → AreAlone names old bs → AreAlone names new (bs ++ r ∷ [])
+pub alone_done : (names : List (List ℕ)) (old new : List Held) (bs : List Record) (r : Record) (place : ℕ) (reply : Reply) → are_distinct names ≡ true → slice_get names place ≡ Some r.name → Does old new place (command_of Three r.request) reply → AreAlone names old bs → AreAlone names new (bs ++ r ∷ [])
 alone_done names old new bs r place reply distinct at does w = record {
   many = does.many ∙ w.many;
   kept = λ u f within fits. kept_at names old new bs r place reply u f distinct at does w within fits (cases_eq u place);
 }
 
-for_account : (names : List (List ℕ)) (bs : List Record) (r : Record) (place : ℕ) → slice_get names place ≡ Some r.name → written_for names bs r ≡ written_reply r.name (reply_lines (done_by (alone_after r.name bs) (command_of r.request)).reply)
+for_account : (names : List (List ℕ)) (bs : List Record) (r : Record) (place : ℕ) → slice_get names place ≡ Some r.name → written_for names bs r ≡ written_reply r.name (reply_lines (done_by (alone_after r.name bs) (command_of Three r.request)).reply)
 for_account names bs r place at =
-    ap (λ v. if v then written_reply r.name (reply_lines (done_by (alone_after r.name bs) (command_of r.request)).reply) else written_line (codes "! account"))
+    ap (λ v. if v then written_reply r.name (reply_lines (done_by (alone_after r.name bs) (command_of Three r.request)).reply) else written_line (codes "! account"))
     (is_named names r.name place (slice_get_within names place r.name at) (get_or_from_slice_get names place r.name [] at))
 
 -- what is written for a record of another name
 pub written_other : (names : List (List ℕ)) (bs : List Record) (r : Record) → is_account names r.name ≡ false → written_for names bs r ≡ written_line (codes "! account")
 written_other names bs r none =
-    ap (λ v. if v then written_reply r.name (reply_lines (done_by (alone_after r.name bs) (command_of r.request)).reply) else written_line (codes "! account")) none
+    ap (λ v. if v then written_reply r.name (reply_lines (done_by (alone_after r.name bs) (command_of Three r.request)).reply) else written_line (codes "! account")) none
 
 -- what is written for a record of an account that has no command
-pub written_refused : (names : List (List ℕ)) (bs : List Record) (r : Record) (place : ℕ) → slice_get names place ≡ Some r.name → command_of r.request ≡ None → written_for names bs r ≡ written_reply r.name (reply_lines (refused syntax))
+pub written_refused : (names : List (List ℕ)) (bs : List Record) (r : Record) (place : ℕ) → slice_get names place ≡ Some r.name → command_of Three r.request ≡ None → written_for names bs r ≡ written_reply r.name (reply_lines (refused syntax))
 written_refused names bs r place at none =
     for_account names bs r place at ∙ ap (λ (c : Option Command). written_reply r.name (reply_lines (done_by (alone_after r.name bs) c).reply)) none
 
 -- what is written for a record of an account to which its command was done; some reading fits the account's names
-pub written_done : (names : List (List ℕ)) (old new : List Held) (bs : List Record) (r : Record) (place : ℕ) (reply : Reply) → slice_get names place ≡ Some r.name → AreNames (account_in new place).0.names → Does old new place (command_of r.request) reply → AreAlone names old bs → written_for names bs r ≡ written_reply r.name (reply_lines reply)
+pub written_done : (names : List (List ℕ)) (old new : List Held) (bs : List Record) (r : Record) (place : ℕ) (reply : Reply) → slice_get names place ≡ Some r.name → AreNames (account_in new place).0.names → Does old new place (command_of Three r.request) reply → AreAlone names old bs → written_for names bs r ≡ written_reply r.name (reply_lines reply)
 written_done names old new bs r place reply at known does w =
     let f = reading_of (account_in new place).0.names in
     let fits = reading_fits (account_in new place).0.names known in
     let same = w.kept place f (slice_get_within names place r.name at) (does.before f fits) ∙ ap (λ n. alone_after n bs) (get_or_from_slice_get names place r.name [] at) in
     for_account names bs r place at
-    ∙ ap (λ (k : Kept). written_reply r.name (reply_lines (done_by k (command_of r.request)).reply)) (sym same)
+    ∙ ap (λ (k : Kept). written_reply r.name (reply_lines (done_by k (command_of Three r.request)).reply)) (sym same)
     ∙ ap (λ (x : Done). written_reply r.name (reply_lines x.reply)) (does.done f fits)
 
 -- what holds in any case holds after a success

@@ -13,9 +13,9 @@ use Rattle.kl1_lines.specs.Replies.{Written}
 abbrev pub if_accepted : Transition → Option Transition
 if_accepted x = if is_refused x.reply then None else Some x
 
--- what became of the entry of a line, if it is one and is accepted
+-- what became of the entry of a line, if it is one by the account's rules and is accepted
 abbrev pub accepted_in : State → List ℕ → Option Transition
-accepted_in s line = option_and_then (λ e. if_accepted (entry_step s e)) (entry_in line)
+accepted_in s line = option_and_then (λ e. if_accepted (entry_step s e)) (entry_in s.rules line)
 
 -- the reply to an entry, with those to the entries after it; nothing if it isn't accepted
 abbrev pub reply_then : (State → List (List ℕ)) → Option Transition → List (List ℕ)

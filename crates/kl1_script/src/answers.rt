@@ -18,7 +18,7 @@ use kl1_codes::CodeSource;
 use kl1_command::{Parsed, Performed, command_in, put_lines};
 use kl1_lines::Record;
 use kl1_user_events::{Refusal, Reply};
-use kl1_world::{AccountName, World};
+use kl1_world::{AccountName, Rules, World};
 use std::alloc::{AllocError, Global};
 
 /// Does the command of a record to the account that it names, and puts what is written for it after the bytes. After an `Err` the
@@ -41,7 +41,7 @@ pub(crate) fn put_record<A: AtomSource + Drop, C: CodeSource + Drop>(
     let Some(account) = place_in(accounts, found.name) else {
         return out.extend_from_slice(b"! account\n");
     };
-    let command = match command_in(alloc, found.request) {
+    let command = match command_in(alloc, Rules::Three, found.request) {
         Ok(Parsed::Command(command)) => command,
         Ok(Parsed::Refused) => {
             return put_lines(out, found.name, &Reply::Refused(Refusal::Syntax));

@@ -77,7 +77,7 @@ fn put_entry<A: AtomSource + Drop, C: CodeSource + Drop>(
     ensures before { (f : Reading) → Fits replayed.new.names f → Fits replayed.old.names f }
     ensures err { OnErr result (out.new.items ≡ out.old.items) }
 {
-    match entry_of(alloc, line)? {
+    match entry_of(alloc, replayed.rules(), line)? {
         None => Ok(false),
         Some(Deed::Event(event)) => put_event(replayed, &event, out),
         Some(Deed::Run(reductions)) => put_run(replayed, reductions, out),

@@ -1,7 +1,7 @@
 // The account that replays a journal, with its seat.
 
 ghost use Rattle.std.specs.Prelude.{◌≡◌, ◌≤◌, [], length, IfOk, OnErr};
-ghost use Rattle.kl1_model.specs.declared.limits.TheConstants.{MOST_NAMES};
+ghost use Rattle.kl1_model.specs.Rules.{limits_of};
 ghost use Rattle.kl1_model.specs.State.{fresh_with};
 ghost use Rattle.kl1_model.specs.Step.{step};
 ghost use Rattle.kl1_model_server.specs.Journal.{runs, first_step, entry_step};
@@ -38,11 +38,12 @@ impl<A: AtomSource + Drop, C: CodeSource + Drop> Model for Replayed<A, C> {
 
     ghost coded = { Prim.hlevel (codes, numbered_code) };
 
-    ghost use Rattle.std.specs.Prelude.{◌≡◌};
+    ghost use Rattle.std.specs.Prelude.{◌≡◌, ◌≤◌};
+    ghost use Rattle.kl1_model.specs.Rules.{limits_of};
 
     ghost view = { λ s. s.user };
 
-    ghost invariant = { λ s. A.is_of s.names s.seat × (A.knows s.seat ≡ s.user.names) × ArePlaced (C.has s.code_source) s.user.modules };
+    ghost invariant = { λ s. A.is_of s.names s.seat × (A.knows s.seat ≡ s.user.names) × ((limits_of s.user.rules).names ≤ (A.place s.seat).0.1) × ArePlaced (C.has s.code_source) s.user.modules };
 }
 
 impl<A: AtomSource + Drop, C: CodeSource + Drop> Replayed<A, C> {
@@ -60,7 +61,8 @@ impl<A: AtomSource + Drop, C: CodeSource + Drop> Replayed<A, C> {
         requires of { A.is_of names seat }
         requires nothing { A.knows seat ≡ [] }
         requires list { IsNameList texts.now }
-        requires few { length texts.now ≤ MOST_NAMES }
+        requires few { length texts.now ≤ (limits_of rules).names }
+        requires room { (limits_of rules).names ≤ (A.place seat).0.1 }
         ensures { IfOk result (λ replayed. (f : Reading) → state_of f replayed ≡ fresh_with rules replay_name texts.now sessions) }
     {
         let name = replay_name();
@@ -73,6 +75,13 @@ impl<A: AtomSource + Drop, C: CodeSource + Drop> Replayed<A, C> {
             seat,
             code_source: codes,
         })
+    }
+
+    /// The rules that the account keeps to.
+    pub(crate) fn rules(&self) -> Rules
+        ensures { result ≡ self.now.rules }
+    {
+        self.user.rules()
     }
 
     /// What an event does to the account, and the reply. If memory is refused, the account is as before.

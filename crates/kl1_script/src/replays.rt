@@ -1,7 +1,8 @@
 // The replay of a journal, from the bytes of its text to what is written for it.
 
 ghost use Rattle.std.specs.Prelude.{◌≡◌, ◌+◌, ◌<◌, ◌≤◌, ◌^◌, [], length};
-ghost use Rattle.kl1_model.specs.declared.limits.TheConstants.{MOST_NAMES, MOST_SCRIPT_BYTES};
+ghost use Rattle.kl1_model.specs.declared.limits.TheConstants.{MOST_SCRIPT_BYTES};
+ghost use Rattle.kl1_model.specs.Rules.{limits_of};
 ghost use Rattle.kl1_model.specs.State.{fresh_with};
 ghost use Rattle.kl1_model_server.specs.JournalText.{lines_of};
 ghost use Rattle.kl1_model_server.specs.Replay.{replay_name, replay_output, written_entries, written_fault, written_names};
@@ -110,7 +111,7 @@ fn answer_headed<C: CodeSource + Drop, W: Sink>(
     text: &[u8],
     sink: &mut W,
 ) -> Result<(), ScriptFault>
-    requires names { heading.names ≤ MOST_NAMES }
+    requires names { heading.names ≤ (limits_of heading.rules).names }
     requires small { length text.now < 2 ^ 63 }
     ensures { Ends (W.contents sink.old) (W.contents sink.new) (W.failures sink.old) (W.failures sink.new) (written_names heading.names 2 heading.rules heading.sessions [] (lines_of text.now).whole (lines_of text.now).rest) (name_replies heading.names heading.rules heading.sessions [] (lines_of text.now).whole) result }
 {
@@ -142,11 +143,11 @@ fn answer_shared<C: CodeSource + Drop, W: Sink>(
     sink: &mut W,
 ) -> Result<(), ScriptFault>
     requires list { IsNameList texts.now }
-    requires few { length texts.now ≤ MOST_NAMES }
+    requires few { length texts.now ≤ (limits_of rules).names }
     requires small { length text.now < 2 ^ 63 }
     ensures { Ends (W.contents sink.old) (W.contents sink.new) (W.failures sink.old) (W.failures sink.new) (written_entries (2 + length texts.now) 0 (fresh_with rules replay_name texts.now sessions) (lines_of text.now).whole (lines_of text.now).rest) (entry_replies (fresh_with rules replay_name texts.now sessions) (lines_of text.now).whole) result }
 {
-    match AtomTable::new(alloc, 1) {
+    match AtomTable::with_room(alloc, 1, rules.limits().names) {
         Ok((table, mut seats)) => {
             let seat = seats.swap_remove(0);
             replay_over(
@@ -181,7 +182,8 @@ pub fn replay_over<A: AtomSource + Drop, C: CodeSource + Drop, W: Sink>(
     requires of { A.is_of names seat }
     requires nothing { A.knows seat ≡ [] }
     requires list { IsNameList texts.now }
-    requires few { length texts.now ≤ MOST_NAMES }
+    requires few { length texts.now ≤ (limits_of rules).names }
+    requires room { (limits_of rules).names ≤ (A.place seat).0.1 }
     requires small { length text.now < 2 ^ 63 }
     ensures { Ends (W.contents sink.old) (W.contents sink.new) (W.failures sink.old) (W.failures sink.new) (written_entries (2 + length texts.now) 0 (fresh_with rules replay_name texts.now sessions) (lines_of text.now).whole (lines_of text.now).rest) (entry_replies (fresh_with rules replay_name texts.now sessions) (lines_of text.now).whole) result }
 {

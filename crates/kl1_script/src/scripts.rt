@@ -84,7 +84,7 @@ pub fn answer_over<A: AtomSource + Drop, C: CodeSource + Drop, W: Sink>(
     requires some { 0 < length accounts.now }
     requires distinct { IsTrue (are_distinct accounts.now) }
     requires count { length seats.items ≡ length accounts.now }
-    requires seats { AreNewSeats A.is_of A.place A.knows names seats.items }
+    requires seats { AreNewSeats A.is_of A.place A.knows Rules.Three names seats.items }
     ensures { Ends (W.contents sink.old) (W.contents sink.new) (W.failures sink.old) (W.failures sink.new) (written_records accounts.now (records_of text.now)) (replies_from accounts.now [] (records_of text.now).list) result }
 {
     match World::new(alloc, names, seats, codes, accounts, Rules::Three) {

@@ -10,7 +10,7 @@ ghost use Rattle.kl1_server_work.specs.declared.connection.TheConstants.{PIECE};
 
 use crate::pool_handler::PoolHandler;
 use kl1_lines::{FailureCounter, Sink, Source};
-use kl1_pool::{Pool, PoolIds, Share};
+use kl1_pool::{Pool, PoolIds, Rules, Share};
 use kl1_pool_history::History;
 use kl1_session::{Disconnect, Key, Keys};
 use std::alloc::Global;
@@ -36,7 +36,7 @@ pub fn serve<'t, S: Source, T: Sink, R: Wait, K: PoolIds>(
     share: Share<K>,
 ) -> (Disconnect, Share<K>)
     requires { length keys.now ≤ K.accounts }
-    ensures { (done : List Done) × Serves (found (entries_view keys.now)) PIECE result.0 (S.remaining source.old) (S.remaining source.new) (T.contents sink.old) (T.contents sink.new) [] done × AreAnswered K.rules K.names done share result.1 }
+    ensures { (done : List Done) × Serves Rules.Three (found (entries_view keys.now)) PIECE result.0 (S.remaining source.old) (S.remaining source.new) (T.contents sink.old) (T.contents sink.new) [] done × AreAnswered K.rules K.names done share result.1 }
 {
     let mut handler = PoolHandler {
         rt,
@@ -46,6 +46,7 @@ pub fn serve<'t, S: Source, T: Sink, R: Wait, K: PoolIds>(
     let mut buffer = [0u8; PIECE];
     let served = kl1_session::serve(
         alloc,
+        Rules::Three,
         source,
         sink,
         &mut handler,

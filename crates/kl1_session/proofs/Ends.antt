@@ -8,6 +8,7 @@ use Rattle.kl1_model.specs.Record.{other_line}
 use Rattle.kl1_model_server.specs.Cut.{has_feed, request_first, only_rest, cut_of}
 use Rattle.kl1_model_server.specs.code.Streams.{load_request}
 use Rattle.kl1_lines.specs.Places.{IsSplit}
+use Rattle.kl1_model.specs.declared.rules.Rules.{Rules}
 use Rattle.kl1_model_server.specs.Inputs.{inputs_in, inputs, rest}
 use Rattle.kl1_session.specs.Going.{going, rest_of, IsFew, IsKept, passed_by, most_kept, IsWhole, EndsIn, ending}
 use Rattle.kl1_session.specs.Asking.{input_view, Begins, Collects}
@@ -100,34 +101,34 @@ ends_on (Some n) x b w =
     load_at cut_of n (x ++ 10 ∷ b) (drop n x) b (drop-append-le n x (10 ∷ b) w.all) w.none ∙ ap (λ y. request_first (load_request y (drop n x)) (cut_of b)) front ∙ load_front n x b
 
 -- what a piece makes of a session: what it asks for, and what is kept then
-pub record Feeds (before piece : List ℕ) (asked : List Input) (source : Option ℕ) (kept : List ℕ) : Type 0 where
-  pub inputs : map input_view asked ≡ inputs (before ++ piece)
+pub record Feeds (rules : Rules) (before piece : List ℕ) (asked : List Input) (source : Option ℕ) (kept : List ℕ) : Type 0 where
+  pub inputs : map input_view asked ≡ inputs rules (before ++ piece)
   pub rest : rest_of source kept ≡ rest (before ++ piece)
   pub fits : IsKept source kept
 
 -- a piece in which what is kept doesn't end
-pub feeds_none : (source : Option ℕ) (kept lent piece new before : List ℕ) (most : ℕ) (asked : List Input) → IsKept source kept → rest_of source kept ≡ before → lent ≡ kept → most ≡ most_kept source → has_feed (drop (passed_by source) (lent ++ piece)) ≡ false → new ≡ take most (kept ++ piece) → asked ≡ [] → Feeds before piece asked source new
-feeds_none source kept lent piece new before most asked k view l m none new_is empty =
+pub feeds_none : (rules : Rules) (source : Option ℕ) (kept lent piece new before : List ℕ) (most : ℕ) (asked : List Input) → IsKept source kept → rest_of source kept ≡ before → lent ≡ kept → most ≡ most_kept source → has_feed (drop (passed_by source) (lent ++ piece)) ≡ false → new ≡ take most (kept ++ piece) → asked ≡ [] → Feeds rules before piece asked source new
+feeds_none rules source kept lent piece new before most asked k view l m none new_is empty =
     let still : has_feed (drop (passed_by source) (kept ++ piece)) ≡ false = ap (λ x. has_feed (drop (passed_by source) (x ++ piece))) (sym l) ∙ none in
     let front : new ≡ take (most_kept source) (kept ++ piece) = new_is ∙ ap (λ n. take n (kept ++ piece)) m in
     let cut : cut_of (before ++ piece) ≡ only_rest (rest_of source (take (most_kept source) (kept ++ piece))) =
     ap (λ x. cut_of (x ++ piece)) (sym view) ∙ rest_goes_on source kept piece (kept_few source kept k) ∙ waits_on source (kept ++ piece) still in
     record {
-      inputs = ap (map input_view) empty ∙ ap inputs_in (sym cut);
+      inputs = ap (map input_view) empty ∙ ap (inputs_in rules) (sym cut);
       rest = ap (rest_of source) front ∙ ap (λ x. x.rest) (sym cut);
       fits = let P : List ℕ → Type 0 = λ x. IsKept source x in subst P (sym front) (kept_on source (kept ++ piece) (kept_few source kept k) still);
     }
 
 -- a piece in which it ends
-pub feeds_some : (source : Option ℕ) (kept lent lent' piece front behind whole lent'' before : List ℕ) (none begun asked : List Input) (next source' : Option ℕ) (left new : List ℕ) → IsKept source kept → rest_of source kept ≡ before → lent ≡ kept → lent' ≡ kept → lent'' ≡ whole → none ≡ [] → new ≡ left → EndsIn source lent piece front behind → whole ≡ take (most_kept source) (lent' ++ front) → Begins (ending source lent'') none begun next → Collects (going next behind) begun asked source' left → Feeds before piece asked source' new
-feeds_some source kept lent lent' piece front behind whole lent'' before none begun asked next source' left new k view l l' l'' empty new_is e w b c =
+pub feeds_some : (rules : Rules) (source : Option ℕ) (kept lent lent' piece front behind whole lent'' before : List ℕ) (none begun asked : List Input) (next source' : Option ℕ) (left new : List ℕ) → IsKept source kept → rest_of source kept ≡ before → lent ≡ kept → lent' ≡ kept → lent'' ≡ whole → none ≡ [] → new ≡ left → EndsIn source lent piece front behind → whole ≡ take (most_kept source) (lent' ++ front) → Begins rules (ending source lent'') none begun next → Collects rules (going next behind) begun asked source' left → Feeds rules before piece asked source' new
+feeds_some rules source kept lent lent' piece front behind whole lent'' before none begun asked next source' left new k view l l' l'' empty new_is e w b c =
     let P : List ℕ → Type 0 = λ x. EndsIn source x piece front behind in
     let ends : EndsIn source kept piece front behind = subst P l e in
     let whole_is : take (most_kept source) (kept ++ front) ≡ lent'' = ap (λ x. take (most_kept source) (x ++ front)) (sym l') ∙ sym w ∙ sym l'' in
     let cut : cut_of (before ++ piece) ≡ ending source lent'' behind =
     ap (λ x. cut_of (x ++ piece)) (sym view) ∙ rest_goes_on source kept piece (kept_few source kept k) ∙ ap (λ x. going source (kept ++ x)) ends.is ∙ ap (going source) (sym (append_assoc kept front (10 ∷ behind))) ∙ ends_on source (kept ++ front) behind ends.whole ∙ ap (λ x. ending source x behind) whole_is in
     record {
-      inputs = c.inputs ∙ b.inputs behind ∙ ap (λ x. map input_view x ++ inputs_in (ending source lent'' behind)) empty ∙ ap inputs_in (sym cut);
+      inputs = c.inputs ∙ b.inputs behind ∙ ap (λ x. map input_view x ++ inputs_in rules (ending source lent'' behind)) empty ∙ ap (inputs_in rules) (sym cut);
       rest = ap (rest_of source') new_is ∙ c.rest ∙ b.rest behind ∙ ap (λ x. x.rest) (sym cut);
       fits = let Q : List ℕ → Type 0 = λ x. IsKept source' x in subst Q (sym new_is) c.fits;
     }

@@ -4,6 +4,7 @@ use Rattle.std.specs.declared.option.Option.{Option}
 use Rattle.std.specs.declared.result.Result.{Result}
 use Rattle.std.specs.Io.KnownBytes.{Consumes, Appends, IsAtEnd}
 use Rattle.kl1_lines.specs.Devices.{AppendsFront, ConsumesIfKnown, PassesOn}
+use Rattle.kl1_model.specs.declared.rules.Rules.{Rules}
 use Rattle.kl1_model_server.specs.Inputs.{Input, inputs, rest}
 use Rattle.kl1_session.specs.Doors.{Opens, Action}
 use Rattle.kl1_session.specs.Conversations.{Done, Turn, Answers, Converses, Closes}
@@ -37,34 +38,34 @@ Ends room disconnect.Bye read left a b bytes others turn = Consumes read left by
 Ends room disconnect.Ended read left a b bytes others turn = Consumes read left bytes × (0 < room → IsAtEnd left) × (others ≡ []) × (turn.is_last ≡ false) × Appends a.sink b.sink turn.told
 Ends room disconnect.Fault read left a b bytes others turn = ConsumesIfKnown read left bytes × AppendsFront a.sink b.sink turn.told
 
--- a connection ended so: of the inputs of the bytes that were kept and then read, the first came to this turn, by buffers of `room` bytes
-pub record Connects (opens : Opens) (room : ℕ) (end : Disconnect) (kept : List ℕ) (read left : Option (List ℕ)) (a b : Standing) : Type 0 where
+-- a connection to accounts of these rules ended so: of the inputs of the bytes that were kept and then read, the first came to this turn, by buffers of `room` bytes
+pub record Connects (rules : Rules) (opens : Opens) (room : ℕ) (end : Disconnect) (kept : List ℕ) (read left : Option (List ℕ)) (a b : Standing) : Type 0 where
   pub bytes : List ℕ
   pub answered : List Input
   pub others : List Input
   pub turn : Turn
-  pub inputs : inputs (kept ++ bytes) ≡ answered ++ others
+  pub inputs : inputs rules (kept ++ bytes) ≡ answered ++ others
   pub converses : Converses opens a.visitor answered turn
   pub done : b.done ≡ a.done ++ turn.done
   pub visitor : b.visitor ≡ turn.visitor
   pub ends : Ends room end read left a b bytes others turn
 
 -- a connection of one who isn't logged in ended so, and a session that was open at its end was closed
-pub record Serves (opens : Opens) (room : ℕ) (end : Disconnect) (read left old new : Option (List ℕ)) (before after : List Done) : Type 0 where
+pub record Serves (rules : Rules) (opens : Opens) (room : ℕ) (end : Disconnect) (read left old new : Option (List ℕ)) (before after : List Done) : Type 0 where
   pub last : Standing
   pub sink : last.sink ≡ new
-  pub talk : Connects opens room end [] read left (fresh old before) last
+  pub talk : Connects rules opens room end [] read left (fresh old before) last
   pub closes : Closes last.visitor last.done after
 
 -- ---- the steps of a connection
 
 -- a connection goes on: all inputs of the bytes that were kept and then read are answered, all replies are written, and the rest is kept
-pub record GoesOn (opens : Opens) (kept after : List ℕ) (read left : Option (List ℕ)) (a b : Standing) : Type 0 where
+pub record GoesOn (rules : Rules) (opens : Opens) (kept after : List ℕ) (read left : Option (List ℕ)) (a b : Standing) : Type 0 where
   pub bytes : List ℕ
   pub turn : Turn
   pub reads : Consumes read left bytes
   pub rest : after ≡ rest (kept ++ bytes)
-  pub converses : Converses opens a.visitor (inputs (kept ++ bytes)) turn
+  pub converses : Converses opens a.visitor (inputs rules (kept ++ bytes)) turn
   pub going : turn.is_last ≡ false
   pub done : b.done ≡ a.done ++ turn.done
   pub visitor : b.visitor ≡ turn.visitor
@@ -72,9 +73,9 @@ pub record GoesOn (opens : Opens) (kept after : List ℕ) (read left : Option (L
   pub empty : b.waiting ≡ []
 
 -- a connection goes on, or ended
-abbrev pub GoesOrEnds : Opens → ℕ → Option Disconnect → List ℕ → List ℕ → Option (List ℕ) → Option (List ℕ) → Standing → Standing → Type 0
-GoesOrEnds opens room None kept after read left a b = GoesOn opens kept after read left a b
-GoesOrEnds opens room (Some end) kept after read left a b = Connects opens room end kept read left a b
+abbrev pub GoesOrEnds : Rules → Opens → ℕ → Option Disconnect → List ℕ → List ℕ → Option (List ℕ) → Option (List ℕ) → Standing → Standing → Type 0
+GoesOrEnds rules opens room None kept after read left a b = GoesOn rules opens kept after read left a b
+GoesOrEnds rules opens room (Some end) kept after read left a b = Connects rules opens room end kept read left a b
 
 -- ---- the inputs of a piece
 

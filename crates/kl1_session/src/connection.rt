@@ -19,6 +19,7 @@ use crate::input::Input;
 use crate::session::Session;
 use kl1_command::{Command, put_reply};
 use kl1_lines::{DeviceFailed, Sink, Source, finish, pass_on};
+use kl1_model::Rules;
 use kl1_user_events::{Event, Reply};
 use std::alloc::{AllocError, Global};
 
@@ -53,10 +54,11 @@ struct ConnectionState {
     replies: Vec<u8>,
 }
 
-/// Serves one connection of whom `door` lets in, which comes in pieces of at most the length of `buffer`. A session that is still open
-/// at its end is closed.
+/// Serves one connection of whom `door` lets in, to accounts of these rules, which comes in pieces of at most the length of `buffer`. A
+/// session that is still open at its end is closed.
 pub fn serve<S: Source, T: Sink, D: CommandHandler, K: Door>(
     alloc: Global,
+    rules: Rules,
     source: &mut S,
     sink: &mut T,
     handler: &mut D,
@@ -68,13 +70,15 @@ pub fn serve<S: Source, T: Sink, D: CommandHandler, K: Door>(
     ensures beside { D.beside handler.new ≡ D.beside handler.old }
     ensures keys { K.accounts door.new ≡ K.accounts door.old }
     ensures opens { K.opens door.new ≡ K.opens door.old }
-    ensures serves { Serves (K.opens door.old) (length buffer.old) result (S.remaining source.old) (S.remaining source.new) (T.contents sink.old) (T.contents sink.new) (D.done handler.old) (D.done handler.new) }
+    ensures serves { Serves rules (K.opens door.old) (length buffer.old) result (S.remaining source.old) (S.remaining source.new) (T.contents sink.old) (T.contents sink.new) (D.done handler.old) (D.done handler.new) }
 {
     let mut state = ConnectionState {
         account: None,
         replies: Vec::new(alloc),
     };
-    let served = converse(alloc, source, sink, handler, door, buffer, &mut state);
+    let served = converse(
+        alloc, rules, source, sink, handler, door, buffer, &mut state,
+    );
     if let Some(account) = state.account {
         let _ = handler.act(account, &Command::Does(Event::Logout));
     }
@@ -84,6 +88,7 @@ pub fn serve<S: Source, T: Sink, D: CommandHandler, K: Door>(
 /// Like `serve`, but a session that is still open at the end stays so.
 fn converse<S: Source, T: Sink, D: CommandHandler, K: Door>(
     alloc: Global,
+    rules: Rules,
     source: &mut S,
     sink: &mut T,
     handler: &mut D,
@@ -98,11 +103,20 @@ fn converse<S: Source, T: Sink, D: CommandHandler, K: Door>(
     ensures keys { K.accounts door.new ≡ K.accounts door.old }
     ensures opens { K.opens door.new ≡ K.opens door.old }
     ensures visitor { IsVisitor (K.accounts door.new) state.new.account }
-    ensures talk { Connects (K.opens door.old) (length buffer.old) result [] (S.remaining source.old) (S.remaining source.new) (standing (T.contents sink.old) (D.done handler.old) state.old) (standing (T.contents sink.new) (D.done handler.new) state.new) }
+    ensures talk { Connects rules (K.opens door.old) (length buffer.old) result [] (S.remaining source.old) (S.remaining source.new) (standing (T.contents sink.old) (D.done handler.old) state.old) (standing (T.contents sink.new) (D.done handler.new) state.new) }
 {
     let mut session = Session::new(alloc);
     for _ in 0..u64::MAX {
-        let ended = serve_piece(source, sink, handler, door, buffer, &mut session, state);
+        let ended = serve_piece(
+            rules,
+            source,
+            sink,
+            handler,
+            door,
+            buffer,
+            &mut session,
+            state,
+        );
         if let Some(served) = ended {
             return served;
         }
@@ -112,6 +126,7 @@ fn converse<S: Source, T: Sink, D: CommandHandler, K: Door>(
 
 /// Reads a piece, answers its inputs and writes the replies; answers how the connection ended, if it did.
 fn serve_piece<S: Source, T: Sink, D: CommandHandler, K: Door>(
+    rules: Rules,
     source: &mut S,
     sink: &mut T,
     handler: &mut D,
@@ -123,14 +138,14 @@ fn serve_piece<S: Source, T: Sink, D: CommandHandler, K: Door>(
     requires handler { K.accounts door.old ≤ D.accounts handler.old }
     requires visitor { IsVisitor (K.accounts door.old) state.old.account }
     requires empty { state.old.replies.items ≡ [] }
-    requires quiet { inputs session.old ≡ [] }
+    requires quiet { inputs rules session.old ≡ [] }
     ensures handler { D.accounts handler.new ≡ D.accounts handler.old }
     ensures beside { D.beside handler.new ≡ D.beside handler.old }
     ensures keys { K.accounts door.new ≡ K.accounts door.old }
     ensures opens { K.opens door.new ≡ K.opens door.old }
     ensures visitor { IsVisitor (K.accounts door.new) state.new.account }
     ensures room { length buffer.new ≡ length buffer.old }
-    ensures talk { GoesOrEnds (K.opens door.old) (length buffer.old) result session.old session.new (S.remaining source.old) (S.remaining source.new) (standing (T.contents sink.old) (D.done handler.old) state.old) (standing (T.contents sink.new) (D.done handler.new) state.new) }
+    ensures talk { GoesOrEnds rules (K.opens door.old) (length buffer.old) result session.old session.new (S.remaining source.old) (S.remaining source.new) (standing (T.contents sink.old) (D.done handler.old) state.old) (standing (T.contents sink.new) (D.done handler.new) state.new) }
 {
     let Ok(count) = source.read(buffer) else {
         return Some(Disconnect::Fault);
@@ -138,7 +153,7 @@ fn serve_piece<S: Source, T: Sink, D: CommandHandler, K: Door>(
     if count == 0 {
         return Some(Disconnect::Ended);
     }
-    let Ok(inputs) = session.feed(&buffer[..count]) else {
+    let Ok(inputs) = session.feed(rules, &buffer[..count]) else {
         return Some(Disconnect::Fault);
     };
     match answer_piece(sink, handler, door, inputs.as_slice(), state) {

@@ -9,6 +9,7 @@ ghost use Rattle.kl1_session.specs.Asking.{input_view};
 
 use kl1_command::{Command, Parsed, command_in, parse};
 use kl1_lines::{Request, is_blank_line, is_same, split_word};
+use kl1_model::Rules;
 use kl1_model::limits::MOST_COMMAND_BYTES;
 use kl1_user_events::Refusal;
 use std::alloc::{AllocError, Global};
@@ -24,13 +25,17 @@ pub enum Input {
     Refused(Refusal),
 }
 
-/// The input that a request is.
-pub(crate) fn input_in(alloc: Global, request: Request<'_>) -> Result<Input, AllocError>
-    ensures { IfOk result (λ input. input_view input ≡ input_of (request_of request.entry)) }
+/// The input that a request is, by the rules of the accounts.
+pub(crate) fn input_in(
+    alloc: Global,
+    rules: Rules,
+    request: Request<'_>,
+) -> Result<Input, AllocError>
+    ensures { IfOk result (λ input. input_view input ≡ input_of rules (request_of request.entry)) }
 {
     match request {
-        Request::Line(line) => line_input(alloc, line),
-        Request::Load(source) => Ok(input_by(command_in(alloc, Request::Load(source))?)),
+        Request::Line(line) => line_input(alloc, rules, line),
+        Request::Load(source) => Ok(input_by(command_in(alloc, rules, Request::Load(source))?)),
         Request::SpoiledLoad => Ok(Input::Refused(Refusal::Syntax)),
     }
 }
@@ -46,14 +51,14 @@ fn input_by(parsed: Parsed) -> Input
 }
 
 /// The input that a line is.
-fn line_input(alloc: Global, line: &[u8]) -> Result<Input, AllocError>
-    ensures { IfOk result (λ input. input_view input ≡ input_of (other_line line.now)) }
+fn line_input(alloc: Global, rules: Rules, line: &[u8]) -> Result<Input, AllocError>
+    ensures { IfOk result (λ input. input_view input ≡ input_of rules (other_line line.now)) }
 {
     let (word, rest) = split_word(line);
     if line.len() <= MOST_COMMAND_BYTES && is_same(word, b"login") {
         login_by(alloc, rest)
     } else {
-        Ok(input_by(parse(alloc, line)?))
+        Ok(input_by(parse(alloc, rules, line)?))
     }
 }
 

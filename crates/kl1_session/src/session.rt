@@ -12,6 +12,7 @@ use crate::ended::{Ended, end_in, most_kept, read_whole};
 use crate::input::{Input, input_in};
 use crate::next::{Next, next_request};
 use crate::texts::keep;
+use kl1_model::Rules;
 use std::alloc::{AllocError, Global};
 use std::marker::Model;
 
@@ -50,10 +51,10 @@ impl Session {
         }
     }
 
-    /// Takes the next piece of the bytes that come in, and answers what they and those that were kept ask for. On an error
-    /// the piece isn't taken.
-    pub fn feed(&mut self, piece: &[u8]) -> Result<Vec<Input>, AllocError>
-        ensures inputs { IfOk result (λ asked. map input_view asked.items ≡ inputs (self.old ++ piece.now)) }
+    /// Takes the next piece of the bytes that come in, and answers what they and those that were kept ask for, by the rules of the
+    /// accounts. On an error the piece isn't taken.
+    pub fn feed(&mut self, rules: Rules, piece: &[u8]) -> Result<Vec<Input>, AllocError>
+        ensures inputs { IfOk result (λ asked. map input_view asked.items ≡ inputs rules (self.old ++ piece.now)) }
         ensures rest { OnOk result (self.new ≡ rest (self.old ++ piece.now)) }
         ensures err { OnErr result (self.new ≡ self.old) }
     {
@@ -63,8 +64,8 @@ impl Session {
         };
         let mut asked = Vec::new(self.alloc);
         let whole = joined(self.alloc, self.source, self.kept.as_slice(), front)?;
-        let begun = begin(self.alloc, self.source, whole.as_slice(), &mut asked)?;
-        let (source, rest) = collect(self.alloc, begun, behind, &mut asked)?;
+        let begun = begin(self.alloc, rules, self.source, whole.as_slice(), &mut asked)?;
+        let (source, rest) = collect(self.alloc, rules, begun, behind, &mut asked)?;
         let kept = Vec::from_slice(self.alloc, rest)?;
         self.source = source;
         self.kept = kept;
@@ -105,16 +106,17 @@ fn joined(
 /// source has instead.
 fn begin(
     alloc: Global,
+    rules: Rules,
     source: Option<u64>,
     whole: &[u8],
     asked: &mut Vec<Input>,
 ) -> Result<Option<u64>, AllocError>
     requires { passed_by source ≤ length whole.now }
-    ensures { IfOk result (λ next. Begins (ending source whole.now) asked.old.items asked.new.items next) }
+    ensures { IfOk result (λ next. Begins rules (ending source whole.now) asked.old.items asked.new.items next) }
 {
     match read_whole(source, whole) {
         Ended::Asks(request) => {
-            asked.push(input_in(alloc, request)?)?;
+            asked.push(input_in(alloc, rules, request)?)?;
             Ok(None)
         }
         Ended::Loads(count) => Ok(Some(count)),
@@ -125,19 +127,20 @@ fn begin(
 /// they stand after the line of a load.
 fn collect<'a>(
     alloc: Global,
+    rules: Rules,
     source: Option<u64>,
     bytes: &'a [u8],
     asked: &mut Vec<Input>,
 ) -> Result<(Option<u64>, &'a [u8]), AllocError>
     requires { IsFew source }
-    ensures { IfOk result (λ r. Collects (going source bytes.now) asked.old.items asked.new.items r.0 r.1.now) }
+    ensures { IfOk result (λ r. Collects rules (going source bytes.now) asked.old.items asked.new.items r.0 r.1.now) }
 {
     let mut source = source;
     let mut rest = bytes;
     'requests: loop {
         match next_request(source, rest) {
             Next::Found(request, behind) => {
-                asked.push(input_in(alloc, request)?)?;
+                asked.push(input_in(alloc, rules, request)?)?;
                 source = None;
                 rest = behind;
             }

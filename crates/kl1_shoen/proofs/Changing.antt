@@ -7,9 +7,9 @@ use Rattle.kl1_model.specs.declared.life.Life.TheVariants.{Aborted}
 use Rattle.kl1_model.specs.State.{is_living}
 use Rattle.kl1_shoen_paths.specs.declared.shoen.Shoen.{Shoen}
 use Rattle.kl1_shoen.specs.declared.change.Change.{Change}
-use Rattle.kl1_shoen.specs.declared.change.Change.TheVariants.{Tail, Control, OriginControl, Breaks, Stopped, Allows, Ends, Aborts}
+use Rattle.kl1_shoen.specs.declared.change.Change.TheVariants.{Tail, Control, OriginControl, Breaks, Stopped, Allows, Ends, Leaves, Aborts, Forgets, Empties}
 use Rattle.kl1_shoen.specs.Changes.{changed_by}
-use Rattle.kl1_shoen.specs.Shoens.{has_number, changed, AreNumbered, parents_in}
+use Rattle.kl1_shoen.specs.Shoens.{has_number, changed, ended_with, empty_with, AreNumbered, parents_in}
 use Rattle.kl1_shoen_paths.proofs.Numbered.{found_none, found_at}
 use Rattle.kl1_shoen.proofs.Numbered.{number_is, numbered_set}
 
@@ -21,25 +21,39 @@ if_parent : {N : Type 0} (c : Bool) (x y : Shoen N) → y.parent ≡ x.parent �
 if_parent true x y e = e
 if_parent false x y e = refl
 
+if_number_not : {N : Type 0} (c : Bool) (x y : Shoen N) → y.number ≡ x.number → (if c then x else y).number ≡ x.number
+if_number_not true x y e = refl
+if_number_not false x y e = e
+
+if_parent_not : {N : Type 0} (c : Bool) (x y : Shoen N) → y.parent ≡ x.parent → (if c then x else y).parent ≡ x.parent
+if_parent_not true x y e = refl
+if_parent_not false x y e = e
+
 pub number_kept : {N : Type 0} (c : Change N) (s : Shoen N) → (changed_by c s).number ≡ s.number
 number_kept (Tail x) s = refl
 number_kept (Control x) s = refl
 number_kept (OriginControl x) s = refl
-number_kept Breaks s = refl
+number_kept (Breaks x) s = refl
 number_kept (Stopped x) s = refl
 number_kept (Allows x) s = refl
 number_kept (Ends x) s = refl
-number_kept Aborts s = if_number (is_living s.life) s (record s { life = Aborted }) refl
+number_kept (Leaves x) s = refl
+number_kept (Aborts x) s = if_number (is_living s.life) s (ended_with x Aborted s) refl
+number_kept (Forgets n x) s = refl
+number_kept (Empties x) s = if_number_not (is_living s.life) s (empty_with x s) refl
 
 pub parent_kept : {N : Type 0} (c : Change N) (s : Shoen N) → (changed_by c s).parent ≡ s.parent
 parent_kept (Tail x) s = refl
 parent_kept (Control x) s = refl
 parent_kept (OriginControl x) s = refl
-parent_kept Breaks s = refl
+parent_kept (Breaks x) s = refl
 parent_kept (Stopped x) s = refl
 parent_kept (Allows x) s = refl
 parent_kept (Ends x) s = refl
-parent_kept Aborts s = if_parent (is_living s.life) s (record s { life = Aborted }) refl
+parent_kept (Leaves x) s = refl
+parent_kept (Aborts x) s = if_parent (is_living s.life) s (ended_with x Aborted s) refl
+parent_kept (Forgets n x) s = refl
+parent_kept (Empties x) s = if_parent_not (is_living s.life) s (empty_with x s) refl
 
 -- a shoen that is found has a number from 1
 pub number_some : {N : Type 0} (n : ℕ) (s : Shoen N) (ss : List (Shoen N)) → AreNumbered 0 ss → find (has_number n) ss ≡ Some s → 0 < n

@@ -3,7 +3,7 @@ pub mod Paths
 pub mod Charges
 pub mod Changing
 pub mod Linked
-pub mod Aborting
+pub mod Belows
 pub mod Counting
 pub mod Flags
 pub mod Shifting

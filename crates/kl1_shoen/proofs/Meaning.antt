@@ -1,20 +1,27 @@
 -- The words of shoens in order of number, as the definitions have them over a state, for each reading of the names.
-use Rattle.std.proofs.Common.{◌≡◌, ℕ, ◌+◌, Bool, true, false, ◌==◌, ◌&&◌, ◌||◌, not, if◌then◌else◌, nat_le, List, [], ◌∷◌, map, length, count_by, refl, ap, ap₂, ◌∙◌}
+use Rattle.std.proofs.Common.{◌≡◌, ℕ, ◌+◌, Bool, true, false, ◌==◌, ◌&&◌, ◌||◌, not, if◌then◌else◌, nat_le, List, [], ◌∷◌, map, length, count_by, refl, sym, ap, ap₂, ◌∙◌}
 use Rattle.std.specs.Prelude.{Option, Some, None, find, option_map, unwrap_or, cond}
 use Rattle.std.specs.List.{list_any}
 use Rattle.std.proofs.lemmas.List.Sums.{sum_by-cons}
+use Rattle.kl1_model.specs.declared.life.Life.{Life}
 use Rattle.kl1_model.specs.declared.life.Life.TheVariants.{Aborted}
+use Rattle.kl1_model.specs.declared.rules.Rules.{Rules}
 use Rattle.kl1_model.specs.Module.{is_among}
 use Rattle.kl1_model.specs.State as model
 use Rattle.kl1_model.specs.State.{State, shoen_at, is_living}
 use Rattle.kl1_model.specs.Tree.{parents_of, path_within, path, is_on_path, depth_of, charged_of, is_exhausted, is_blocking, is_enabled_in, is_living_child}
 use Rattle.kl1_model.specs.Tree as tree
-use Rattle.kl1_model.specs.Ending.{has_living_child, lives, has_reached}
+use Rattle.kl1_model.specs.Ending as ending
+use Rattle.kl1_model.specs.Ending.{has_living_child, lives, has_reached, ended_as}
+use Rattle.kl1_model.specs.Meaning.{nil}
 use Rattle.kl1_model.specs.code.Steps.{aborted_below}
+use Rattle.kl1_store.specs.declared.cell.Cell.{Cell}
 use Rattle.kl1_store.specs.Held.{Held}
+use Rattle.kl1_store.specs.Meaning.{term_of}
+use Rattle.kl1_shoen_paths.specs.declared.shoen.Origin.{Origin}
 use Rattle.kl1_shoen_paths.specs.declared.shoen.Shoen.{Shoen}
-use Rattle.kl1_shoen.specs.Shoens.{has_number, shoen_in, parents_in, path_in, is_on_path_in, charged_in, is_exhausted_in, is_blocking_in, is_blocking_at, is_enabled_at, has_reached_in, lives_in, is_living_child_of, changed, aborted_below_in}
-use Rattle.kl1_shoen.specs.Meaning.{shoen_of}
+use Rattle.kl1_shoen.specs.Shoens.{has_number, shoen_in, parents_in, path_in, is_on_path_in, charged_in, is_exhausted_in, is_blocking_in, is_blocking_at, is_enabled_at, has_reached_in, lives_in, is_living_child_of, changed, control_left, ended_with, aborted_below_in}
+use Rattle.kl1_shoen.specs.Meaning.{origin_of, shoen_of, LeavesBy}
 
 -- one reduction more charges just its path one more
 pub charge_is : {N : Type 0} (ss : List (Shoen N)) (work : List ℕ) (n a : ℕ) → charged_in ss (n ∷ work) a ≡ (if is_on_path_in ss a n then 1 else 0) + charged_in ss work a
@@ -109,16 +116,30 @@ pub changed_is : {N : Type 0} (f : N → List ℕ) (h : Held N) (n : ℕ) (chang
 changed_is f h n change make e [] = refl
 changed_is f h n change make e (x ∷ ss) = ap₂ (λ (k : model.Shoen) (ks : List model.Shoen). k ∷ ks) (changed_if f h (x.number == n) x (change (shoen_of f h x)) (make x) (e x)) (changed_is f h n change make e ss)
 
-aborted_one : {N : Type 0} (f : N → List ℕ) (h : Held N) (ss : List (Shoen N)) (n : ℕ) (x : Shoen N) → aborted_below (map (shoen_of f h) ss) n (shoen_of f h x) ≡ shoen_of f h (aborted_below_in ss n x)
-aborted_one {N = N} f h ss n x =
-    let ended : Shoen N = record x { life = Aborted } in
-    ap (λ b. if is_living x.life && b then shoen_of f h ended else shoen_of f h x) (on_path_is f h ss n x.number)
-    ∙ changed_if f h (is_living x.life && is_on_path_in ss n x.number) x (shoen_of f h ended) ended refl
+-- what is left of a control stream
+left_is : {N : Type 0} (f : N → List ℕ) (h : Held N) (rules : Rules) (left : Option (Cell N)) (o : Option (Origin N)) (c : Cell N) → LeavesBy rules f h left →
+    ending.control_left rules (option_map (origin_of f h) o) (term_of f h c) ≡ term_of f h (control_left left o c)
+left_is f h rules None None c l = ap (λ b. if b then nil else term_of f h c) l
+left_is f h rules None (Some o) c l = refl
+left_is f h rules (Some x) None c l = ap (λ b. if b then nil else term_of f h c) l.0 ∙ sym l.1
+left_is f h rules (Some x) (Some o) c l = refl
 
-aborted_each : {N : Type 0} (f : N → List ℕ) (h : Held N) (ss : List (Shoen N)) (n : ℕ) (xs : List (Shoen N)) → map (aborted_below (map (shoen_of f h) ss) n) (map (shoen_of f h) xs) ≡ map (shoen_of f h) (map (aborted_below_in ss n) xs)
-aborted_each f h ss n [] = refl
-aborted_each f h ss n (x ∷ xs) = ap₂ (λ (k : model.Shoen) (ks : List model.Shoen). k ∷ ks) (aborted_one f h ss n x) (aborted_each f h ss n xs)
+-- the end of a shoen of the definitions
+pub ended_is : {N : Type 0} (f : N → List ℕ) (h : Held N) (rules : Rules) (left : Option (Cell N)) (life : Life) (x : Shoen N) → LeavesBy rules f h left → ended_as rules life (shoen_of f h x) ≡ shoen_of f h (ended_with left life x)
+ended_is f h rules left life x l = ap (λ t. let z : model.Shoen = record (shoen_of f h x) { life = life; control = t } in z) (left_is f h rules left x.origin x.control l)
+
+aborted_one : {N : Type 0} (f : N → List ℕ) (h : Held N) (rules : Rules) (left : Option (Cell N)) (ss : List (Shoen N)) (n : ℕ) (x : Shoen N) → LeavesBy rules f h left →
+    aborted_below rules (map (shoen_of f h) ss) n (shoen_of f h x) ≡ shoen_of f h (aborted_below_in left ss n x)
+aborted_one {N = N} f h rules left ss n x l =
+    ap (λ b. if is_living x.life && b then ended_as rules Aborted (shoen_of f h x) else shoen_of f h x) (on_path_is f h ss n x.number)
+    ∙ changed_if f h (is_living x.life && is_on_path_in ss n x.number) x (ended_as rules Aborted (shoen_of f h x)) (ended_with left Aborted x) (ended_is f h rules left Aborted x l)
+
+aborted_each : {N : Type 0} (f : N → List ℕ) (h : Held N) (rules : Rules) (left : Option (Cell N)) (ss : List (Shoen N)) (n : ℕ) (xs : List (Shoen N)) → LeavesBy rules f h left →
+    map (aborted_below rules (map (shoen_of f h) ss) n) (map (shoen_of f h) xs) ≡ map (shoen_of f h) (map (aborted_below_in left ss n) xs)
+aborted_each f h rules left ss n [] l = refl
+aborted_each f h rules left ss n (x ∷ xs) l = ap₂ (λ (k : model.Shoen) (ks : List model.Shoen). k ∷ ks) (aborted_one f h rules left ss n x l) (aborted_each f h rules left ss n xs l)
 
 -- an abort of the definitions' shoens
-pub aborted_is : {N : Type 0} (f : N → List ℕ) (h : Held N) (ss : List (Shoen N)) (n : ℕ) → map (aborted_below (map (shoen_of f h) ss) n) (map (shoen_of f h) ss) ≡ map (shoen_of f h) (map (aborted_below_in ss n) ss)
-aborted_is f h ss n = aborted_each f h ss n ss
+pub aborted_is : {N : Type 0} (f : N → List ℕ) (h : Held N) (rules : Rules) (left : Option (Cell N)) (ss : List (Shoen N)) (n : ℕ) → LeavesBy rules f h left →
+    map (aborted_below rules (map (shoen_of f h) ss) n) (map (shoen_of f h) ss) ≡ map (shoen_of f h) (map (aborted_below_in left ss n) ss)
+aborted_is f h rules left ss n l = aborted_each f h rules left ss n ss l

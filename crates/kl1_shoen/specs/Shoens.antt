@@ -1,9 +1,11 @@
 -- Shoens in order of number, as a tree: charges, and which are enabled.
-use Rattle.std.specs.Prelude.{◌≡◌, ◌≤◌, ℕ, suc, ◌==◌, nat_le, not, ◌&&◌, ◌||◌, Bool, false, if◌then◌else◌, Option, List, map, length, find, get_or, take, count_by, option_map, unwrap_or}
+use Rattle.std.specs.Prelude.{◌≡◌, ◌≤◌, ℕ, suc, ◌==◌, nat_le, not, ◌&&◌, ◌||◌, Bool, false, true, if◌then◌else◌, Option, Some, None, List, map, length, find, get_or, take, count_by, option_map, unwrap_or}
 use Rattle.std.specs.List.{AllByRecursion, list_any}
 use Rattle.kl1_model.specs.declared.life.Life.{Life}
-use Rattle.kl1_model.specs.declared.life.Life.TheVariants.{Aborted}
+use Rattle.kl1_model.specs.declared.life.Life.TheVariants.{Aborted, Forgotten}
 use Rattle.kl1_model.specs.State.{is_living}
+use Rattle.kl1_store.specs.declared.cell.Cell.{Cell}
+use Rattle.kl1_shoen_paths.specs.declared.shoen.Origin.{Origin}
 use Rattle.kl1_shoen_paths.specs.declared.shoen.Shoen.{Shoen}
 use Rattle.kl1_shoen_paths.specs.Tracked.{Tracked}
 use Rattle.kl1_shoen_paths.specs.Below.{Links, AreLinked}
@@ -59,9 +61,27 @@ is_living_child_of n h = h.parent == n && is_living h.life
 abbrev pub changed : {N : Type 0} → ℕ → (Shoen N → Shoen N) → List (Shoen N) → List (Shoen N)
 changed n f shoens = map (λ h. if has_number n h then f h else h) shoens
 
+-- what is left of the control stream of a shoen that ends: this, if it is told, unless the console keeps the stream
+abbrev pub control_left : {N : Type 0} → Option (Cell N) → Option (Origin N) → Cell N → Cell N
+control_left None origin control = control
+control_left (Some left) None control = left
+control_left (Some left) (Some o) control = control
+
+-- a shoen that ended in this way, of whose control stream this is left
+abbrev pub ended_with : {N : Type 0} → Option (Cell N) → Life → Shoen N → Shoen N
+ended_with left life h = record h { life = life; control = control_left left h.origin h.control }
+
 -- a shoen after an abort of one on whose path it may be: it is ended, if it lives
-abbrev pub aborted_below_in : {N : Type 0} → List (Shoen N) → ℕ → Shoen N → Shoen N
-aborted_below_in shoens n h = if is_living h.life && is_on_path_in shoens n h.number then record h { life = Aborted } else h
+abbrev pub aborted_below_in : {N : Type 0} → Option (Cell N) → List (Shoen N) → ℕ → Shoen N → Shoen N
+aborted_below_in left shoens n h = if is_living h.life && is_on_path_in shoens n h.number then ended_with left Aborted h else h
+
+-- the place of a shoen that was let go, with this in place of its streams
+abbrev pub empty_with : {N : Type 0} → Cell N → Shoen N → Shoen N
+empty_with none h = record h { life = Forgotten; is_stopped = false; low = 0; high = 0; control = none; tail = none; is_broken = true; origin = None }
+
+-- a shoen after one was let go on whose path it may be: its place, if it has ended
+abbrev pub emptied_below : {N : Type 0} → Cell N → List (Shoen N) → ℕ → Shoen N → Shoen N
+emptied_below none shoens n h = if not (is_living h.life) && is_on_path_in shoens n h.number then empty_with none h else h
 
 -- shoens in order of number are a tree, and each was charged what the reductions come to
 pub record AreCharged {N : Type 0} (shoens : List (Shoen N)) (charges work : List ℕ) : Type 0 where

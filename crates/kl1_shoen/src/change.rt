@@ -2,8 +2,9 @@
 
 ghost use Rattle.std.specs.Prelude.{◌≡◌, ◌+◌, min, option_map};
 ghost use Rattle.kl1_model.specs.Reduction.{grown};
-ghost use Rattle.kl1_shoen.specs.declared.change.Change.TheVariants.{Aborts};
-ghost use Rattle.kl1_shoen.specs.Changes.{changed_by, with_control as kept_with};
+ghost use Rattle.kl1_shoen.specs.declared.change.Change.TheVariants.{Aborts, Breaks, Empties};
+ghost use Rattle.kl1_shoen.specs.Shoens.{control_left};
+ghost use Rattle.kl1_shoen.specs.Changes.{changed_by, reports_left, with_control as kept_with};
 
 use crate::counted::is_living;
 use kl1_model::Life;
@@ -21,16 +22,22 @@ pub enum Change<N> {
     Control(Cell<N>),
     /// The console keeps this tail of its control stream.
     OriginControl(Cell<N>),
-    /// Its report stream is broken.
-    Breaks,
+    /// Its report stream is broken, and has this tail, if one is told.
+    Breaks(Option<Cell<N>>),
     /// It is stopped, or not.
     Stopped(bool),
     /// It may be charged this many reductions more, up to the greatest allowance.
     Allows(u64),
     /// It has this life.
     Ends(Life),
-    /// It is ended as aborted, if it lives.
-    Aborts,
+    /// This is left of its control stream, unless the console keeps the stream.
+    Leaves(Cell<N>),
+    /// It is ended as aborted, if it lives, and this is left of its control stream, if it is told and the console doesn't keep the stream.
+    Aborts(Option<Cell<N>>),
+    /// Of its report stream so many reports were let go from the first on, and this is left.
+    Forgets(u64, Cell<N>),
+    /// It is let go, if it has ended: its place stays, with this in place of its streams.
+    Empties(Cell<N>),
 }
 
 /// An allowance, in reductions, after it was raised: it ends at the greatest there is.
@@ -56,15 +63,80 @@ fn with_control<N: NameValue>(origin: Option<Origin<N>>, control: Cell<N>) -> Op
     }
 }
 
+/// What is left of the control stream of a shoen that ends: `left`, if it is told, unless the console keeps the stream.
+fn control_left<N: NameValue>(shoen: Shoen<N>, left: Option<Cell<N>>) -> Cell<N>
+    ensures { result ≡ control_left left shoen.origin shoen.control }
+{
+    match left {
+        None => shoen.control,
+        Some(left) => match shoen.origin {
+            None => left,
+            Some(_) => shoen.control,
+        },
+    }
+}
+
 /// A shoen after an abort: ended, if it lives.
-fn aborted<N: NameValue>(shoen: Shoen<N>) -> Shoen<N>
-    ensures { result ≡ changed_by Aborts shoen }
+fn aborted<N: NameValue>(shoen: Shoen<N>, left: Option<Cell<N>>) -> Shoen<N>
+    ensures { result ≡ changed_by (Aborts left) shoen }
 {
     if !is_living(shoen.life) {
         return shoen;
     }
     Shoen {
         life: Life::Aborted,
+        control: control_left(shoen, left),
+        ..shoen
+    }
+}
+
+/// What the console keeps, without its first `count` reports, of which this is left.
+fn without_reports<N: NameValue>(
+    origin: Option<Origin<N>>,
+    count: u64,
+    left: Cell<N>,
+) -> Option<Origin<N>>
+    ensures { result ≡ option_map (reports_left count left) origin }
+{
+    match origin {
+        None => None,
+        Some(origin) => Some(Origin {
+            forgotten: count,
+            reports: left,
+            ..origin
+        }),
+    }
+}
+
+/// A shoen after it was let go, if it has ended: its place, with its number, its parent and its allowance.
+fn emptied<N: NameValue>(shoen: Shoen<N>, none: Cell<N>) -> Shoen<N>
+    ensures { result ≡ changed_by (Empties none) shoen }
+{
+    if is_living(shoen.life) {
+        return shoen;
+    }
+    Shoen {
+        number: shoen.number,
+        parent: shoen.parent,
+        allowance: shoen.allowance,
+        low: 0,
+        high: 0,
+        control: none,
+        tail: none,
+        life: Life::Forgotten,
+        is_stopped: false,
+        is_broken: true,
+        origin: None,
+    }
+}
+
+/// A shoen whose report stream is broken, with this tail, if one is told.
+fn broken<N: NameValue>(shoen: Shoen<N>, tail: Option<Cell<N>>) -> Shoen<N>
+    ensures { result ≡ changed_by (Breaks tail) shoen }
+{
+    Shoen {
+        is_broken: true,
+        tail: tail.unwrap_or(shoen.tail),
         ..shoen
     }
 }
@@ -80,10 +152,7 @@ pub fn changed<N: NameValue>(shoen: Shoen<N>, change: Change<N>) -> Shoen<N>
             origin: with_control(shoen.origin, control),
             ..shoen
         },
-        Change::Breaks => Shoen {
-            is_broken: true,
-            ..shoen
-        },
+        Change::Breaks(tail) => broken(shoen, tail),
         Change::Stopped(is_stopped) => Shoen {
             is_stopped,
             ..shoen
@@ -93,6 +162,15 @@ pub fn changed<N: NameValue>(shoen: Shoen<N>, change: Change<N>) -> Shoen<N>
             ..shoen
         },
         Change::Ends(life) => Shoen { life, ..shoen },
-        Change::Aborts => aborted(shoen),
+        Change::Leaves(left) => Shoen {
+            control: control_left(shoen, Some(left)),
+            ..shoen
+        },
+        Change::Aborts(left) => aborted(shoen, left),
+        Change::Forgets(count, left) => Shoen {
+            origin: without_reports(shoen.origin, count, left),
+            ..shoen
+        },
+        Change::Empties(none) => emptied(shoen, none),
     }
 }

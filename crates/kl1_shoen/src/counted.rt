@@ -168,6 +168,7 @@ pub(crate) fn is_living(life: Life) -> bool
         Life::Living => true,
         Life::Terminated => false,
         Life::Aborted => false,
+        Life::Forgotten => false,
     }
 }
 

@@ -7,10 +7,11 @@ use kl1_model::Life;
 use kl1_store::Cell;
 use std::alloc::AllocError;
 
-/// What the console keeps of a shoen that it started: the goal as started, the report stream from its beginning, and the tail
-/// of the control stream.
+/// What the console keeps of a shoen that it started: the goal as started, how many of its first reports were let go, the report
+/// stream after these, and the tail of the control stream.
 pub struct Origin<N> {
     pub goal: Cell<N>,
+    pub forgotten: u64,
     pub reports: Cell<N>,
     pub control: Cell<N>,
 }

@@ -2,8 +2,7 @@
 use Rattle.std.proofs.Common.{◌≡◌, ℕ, zero, suc, true, List, [], ◌∷◌, ◌++◌, length, get_or, ◌<◌, ◌⊎◌, inl, inr, refl, sym, arith, subst}
 use Rattle.std.specs.Prelude.{Contains, ◌↔◌}
 use Rattle.kl1_model.specs.declared.built_in.BuiltIn.{BuiltIn}
-use Rattle.kl1_model.specs.Same.{same, differs, unknown}
-use Rattle.kl1_model.specs.code.Awaited.{awaited, some_clash, awaited_by, passive_each}
+use Rattle.kl1_model.specs.code.Comparing.{same, differs, unknown, awaited, some_clash, awaited_by, passive_each}
 use Rattle.kl1_model.proofs.SameEach.{each_is_same, each_differs, each_is_unknown}
 use Rattle.kl1_text.specs.Reading.{Reads}
 use Rattle.kl1_store.specs.declared.cell.Cell.{Cell}

@@ -9,8 +9,7 @@ use Rattle.std.proofs.lemmas.Slice.Eq.{bytes_eq-Decides}
 use Rattle.kl1_model.specs.declared.built_in.BuiltIn.{BuiltIn}
 use Rattle.kl1_model.specs.Term.{Term, variable, integer, atom, structure, Terms, none, more, count_of, size}
 use Rattle.kl1_model.specs.Unify.{Equation, remains, conflicts, transformed, argument_equations, equations_size}
-use Rattle.kl1_model.specs.Same.{clash, any_clash}
-use Rattle.kl1_model.specs.code.Awaited.{awaited, all_awaited}
+use Rattle.kl1_model.specs.code.Comparing.{clash, any_clash, awaited, all_awaited}
 use Rattle.kl1_model.proofs.Clashes.{no_clash}
 use Rattle.kl1_text.specs.Reading.{Reads}
 use Rattle.kl1_store.specs.declared.cell.Cell.{Cell}

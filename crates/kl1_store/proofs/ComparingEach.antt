@@ -5,8 +5,7 @@ use Rattle.std.specs.Prelude.{◌↔◌}
 use Rattle.kl1_store.specs.Done.{IsOf}
 use Rattle.kl1_store.proofs.Comparing.{of_split, of_first, of_second}
 use Rattle.kl1_model.specs.declared.built_in.BuiltIn.{BuiltIn}
-use Rattle.kl1_model.specs.Same.{clash}
-use Rattle.kl1_model.specs.code.Awaited.{awaited, clashes_with_some, some_clash, awaited_with, awaited_by}
+use Rattle.kl1_model.specs.code.Comparing.{clash, awaited, clashes_with_some, some_clash, awaited_with, awaited_by}
 use Rattle.kl1_text.specs.Reading.{Reads}
 use Rattle.kl1_store.specs.declared.cell.Cell.{Cell}
 use Rattle.kl1_store.specs.Held.{Held, AreIn}

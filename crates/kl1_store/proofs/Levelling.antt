@@ -57,7 +57,7 @@ stands_variable h vs ss n zero w p level lt inside le = absurd (omega arith)
 stands_variable h vs ss n (suc m) w p level lt inside le =
     stands_by h vs ss n w p level inside le (λ u less there below. stands_variable h vs ss n m u p level (omega arith) there below) (either (is_bound w h.bindings))
 
-stands : {N : Type 0} (h : Held N) (vs ss : ℕ → ℕ) (n : ℕ) (x : Cell N) → IsFormed h → IsLevel h vs ss → IsIn h x → LiesAt vs ss n x → StandsAt h vs ss n x
+pub stands : {N : Type 0} (h : Held N) (vs ss : ℕ → ℕ) (n : ℕ) (x : Cell N) → IsFormed h → IsLevel h vs ss → IsIn h x → LiesAt vs ss n x → StandsAt h vs ss n x
 stands h vs ss n (Variable w) p level inside lies = stands_variable h vs ss n (suc w) w p level (omega arith) inside lies
 stands h vs ss n (Integer i) p level inside lies = record { cell = Integer i; inside = inside; walked = tt; means = λ f. refl; lies = lies }
 stands h vs ss n (Atom a) p level inside lies = record { cell = Atom a; inside = inside; walked = tt; means = λ f. refl; lies = lies }
@@ -65,13 +65,13 @@ stands h vs ss n (Structure s) p level inside lies = record { cell = Structure s
 
 -- ---- a variable is in no term that lies above it
 
-size-positive : (t : Term) → 0 < size t
+pub size-positive : (t : Term) → 0 < size t
 size-positive (variable n) = omega arith
 size-positive (integer i) = omega arith
 size-positive (atom a) = omega arith
 size-positive (structure a ts) = omega arith
 
-or-both : (a b : Bool) → a ≡ false → b ≡ false → (a || b) ≡ false
+pub or-both : (a b : Bool) → a ≡ false → b ≡ false → (a || b) ≡ false
 or-both true b p q = p
 or-both false b p q = q
 

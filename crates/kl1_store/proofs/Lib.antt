@@ -41,3 +41,4 @@ pub mod Standing
 pub mod Resting
 pub mod Resuming
 pub mod Fingering
+pub mod Occurrences

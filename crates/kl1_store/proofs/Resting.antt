@@ -9,8 +9,7 @@ use Rattle.std.proofs.lemmas.Option.{slice_get-get_or, get_or_from_slice_get}
 use Rattle.kl1_model.specs.declared.built_in.BuiltIn.{BuiltIn}
 use Rattle.kl1_model.specs.Term.{Term, size}
 use Rattle.kl1_model.specs.Unify.{Equation, argument_equations, equations_size}
-use Rattle.kl1_model.specs.Same.{clash}
-use Rattle.kl1_model.specs.code.Awaited.{awaited}
+use Rattle.kl1_model.specs.code.Comparing.{clash, awaited}
 use Rattle.kl1_model.specs.code.Unifying.{replaced}
 use Rattle.kl1_model.proofs.SameEach.{same_from}
 use Rattle.kl1_model.proofs.TermFacts.{same_term_decides}

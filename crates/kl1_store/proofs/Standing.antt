@@ -4,8 +4,7 @@ use Rattle.std.specs.Prelude.{◌↔◌, bytes_eq}
 use Rattle.std.proofs.lemmas.List.{map-append}
 use Rattle.kl1_model.specs.Term.{Term, Terms, none, more, count_of, Replacement}
 use Rattle.kl1_model.specs.Unify.{Equation, argument_equations}
-use Rattle.kl1_model.specs.Same.{clash}
-use Rattle.kl1_model.specs.code.Awaited.{awaited}
+use Rattle.kl1_model.specs.code.Comparing.{clash, awaited}
 use Rattle.kl1_model.specs.code.Unifying.{replaced}
 use Rattle.kl1_model.proofs.Clashes.{no_clash}
 use Rattle.kl1_store.specs.Compares.{clash_among, awaited_among}

@@ -3,8 +3,7 @@ use Rattle.std.specs.Prelude.{◌≡◌, ℕ, ◌+◌, ◌≤◌, Bool, true, fa
 use Rattle.kl1_model.specs.declared.built_in.BuiltIn.{BuiltIn}
 use Rattle.kl1_model.specs.Term.{size}
 use Rattle.kl1_model.specs.Unify.{Equation, equations_size}
-use Rattle.kl1_model.specs.Same.{clash}
-use Rattle.kl1_model.specs.code.Awaited.{awaited}
+use Rattle.kl1_model.specs.code.Comparing.{clash, awaited}
 use Rattle.kl1_text.specs.Reading.{Reads}
 use Rattle.kl1_store.specs.declared.cell.Cell.{Cell}
 use Rattle.kl1_store.specs.declared.frame.Frame.{Frame}

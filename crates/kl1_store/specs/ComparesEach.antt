@@ -2,7 +2,7 @@
 use Rattle.std.specs.Prelude.{◌≡◌, ℕ, Bool, true, false, List, [], ◌∷◌, ◌⊎◌, ◌↔◌}
 use Rattle.kl1_model.specs.declared.built_in.BuiltIn.{BuiltIn}
 use Rattle.kl1_model.specs.Term.{Term}
-use Rattle.kl1_model.specs.code.Awaited.{clashes_with_some, some_clash, awaited_with, awaited_by}
+use Rattle.kl1_model.specs.code.Comparing.{clashes_with_some, some_clash, awaited_with, awaited_by}
 use Rattle.kl1_text.specs.Reading.{Reads}
 use Rattle.kl1_store.specs.declared.cell.Cell.{Cell}
 use Rattle.kl1_store.specs.Held.{Held}

@@ -1,10 +1,10 @@
 -- Levels of variables and structures: no part of a term lies below the whole.
-use Rattle.std.specs.Prelude.{◌≡◌, ℕ, suc, ◌≤◌, Bool, true, false, List, length, Some, slice_get, get_or}
+use Rattle.std.specs.Prelude.{◌≡◌, ◌⊎◌, ℕ, suc, ◌≤◌, Bool, true, false, List, length, Some, slice_get, get_or}
 use Rattle.kl1_model.specs.Term.{occurs}
 use Rattle.kl1_store.specs.declared.cell.Cell.{Cell}
 use Rattle.kl1_store.specs.declared.cell.Cell.TheVariants.{Variable, Integer, Atom, Structure}
 use Rattle.kl1_store.specs.declared.levels.Levels.{Levels}
-use Rattle.kl1_store.specs.Held.{Held, found, arguments_of}
+use Rattle.kl1_store.specs.Held.{Held, is_bound, found, arguments_of}
 use Rattle.kl1_store.specs.Meaning.{term_of}
 
 -- the level at `n`; those beyond the end of the list lie at 0
@@ -38,3 +38,8 @@ pub record SetsLevel (old new : List ℕ) (number level : ℕ) : Type 0 where
 abbrev pub FindsAs : {N : Type 0} → Held N → Levels → ℕ → Cell N → Bool → Type 0
 FindsAs h ls v x true = (f : _) → occurs v (term_of f h x) ≡ true
 FindsAs h ls v x false = ((f : _) → occurs v (term_of f h x) ≡ false) × LiesAt (level_at ls.variables.items) (level_at ls.structures.items) (level_at ls.variables.items v) x
+
+-- all that is in a term lies above 0, and of the variables that stand for themselves those alone that are in it
+pub record SeesTerm {N : Type 0} (h : Held N) (ls : Levels) (x : Cell N) : Type 0 where
+  pub here : LiesAt (level_at ls.variables.items) (level_at ls.structures.items) 1 x
+  pub seen : (v : ℕ) → is_bound v h.bindings ≡ false → (level_at ls.variables.items v ≡ 0) ⊎ ((f : N → List ℕ) → occurs v (term_of f h x) ≡ true)

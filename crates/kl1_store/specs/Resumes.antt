@@ -4,7 +4,7 @@ use Rattle.std.specs.List.{All}
 use Rattle.kl1_model.specs.declared.built_in.BuiltIn.{BuiltIn}
 use Rattle.kl1_model.specs.Term.{size}
 use Rattle.kl1_model.specs.Unify.{Equation, equations_size}
-use Rattle.kl1_model.specs.Same.{clash}
+use Rattle.kl1_model.specs.code.Comparing.{clash}
 use Rattle.kl1_text.specs.Reading.{Reads}
 use Rattle.kl1_store.specs.declared.frame.Frame.{Frame}
 use Rattle.kl1_store.specs.declared.progress.Progress.{Progress}

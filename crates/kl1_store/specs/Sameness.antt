@@ -1,8 +1,7 @@
 -- What passive equality of cells promises, by its definition on terms.
 use Rattle.std.specs.Prelude.{◌≡◌, ℕ, ◌↔◌, Bool, true, false, List, ◌++◌, Contains}
 use Rattle.kl1_model.specs.declared.built_in.BuiltIn.{BuiltIn}
-use Rattle.kl1_model.specs.Same.{same, differs, unknown, clash}
-use Rattle.kl1_model.specs.code.Awaited.{passive_each, awaited, awaited_by}
+use Rattle.kl1_model.specs.code.Comparing.{same, differs, unknown, clash, passive_each, awaited, awaited_by}
 use Rattle.kl1_text.specs.Reading.{Reads}
 use Rattle.kl1_store.specs.declared.cell.Cell.{Cell}
 use Rattle.kl1_store.specs.declared.same.Same.{Same}

@@ -25,6 +25,7 @@ mod merges;
 mod moving;
 mod next;
 mod node;
+mod occurring;
 mod occurs;
 mod point;
 mod progress;

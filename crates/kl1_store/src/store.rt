@@ -17,6 +17,7 @@ mod build_one;
 mod build_three;
 mod constants;
 mod fingers;
+mod occurring;
 mod renaming;
 
 use crate::cell::Cell;

@@ -6,4 +6,5 @@ pub mod Changes
 pub mod Shapes
 pub mod Putting
 pub mod Listing
-mod Unanswered
+mod Asked
+mod LettingGo

@@ -6,3 +6,5 @@ pub mod Tops
 pub mod Controls
 pub mod Messages
 pub mod Elements
+pub mod Askings
+pub mod Letting

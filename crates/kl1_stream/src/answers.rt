@@ -1,11 +1,11 @@
 // What reports say of substitutes.
 
-ghost use Rattle.std.specs.Prelude.{◌≡◌, ◌-◌, ◌<◌, ℕ, List, IfSome};
-ghost use Rattle.kl1_model.specs.Answering.{unanswered, unanswered_at};
+ghost use Rattle.std.specs.Prelude.{◌≡◌, ℕ, List, IfSome, option_map};
+ghost use Rattle.kl1_model.specs.Answering.{asked};
 ghost use Rattle.kl1_text.specs.Reading.{Reads};
 ghost use Rattle.kl1_store.specs.Held.{IsIn};
 ghost use Rattle.kl1_store.specs.Meaning.{term_of};
-ghost use Rattle.kl1_store.specs.Unbound.{IsUnbound};
+ghost use Rattle.kl1_stream.specs.Askings.{asked_of, asked_in, IsAskingIn};
 
 use crate::elements::{next_element, nth_cell};
 use crate::tops::is_built_in;
@@ -13,11 +13,18 @@ use kl1_model::BuiltIn;
 use kl1_store::{Cell, Store};
 use kl1_text::NameValue;
 
-/// The variable for which a substitute waits by a report, if one does.
-fn unanswered<N: NameValue>(store: &Store<N>, report: Cell<N>) -> Option<u32>
+/// An exception that a substitute waits by: its goal, and the variable that the substitute waits for.
+#[derive(Clone, Copy)]
+pub struct Asking<N> {
+    pub goal: Cell<N>,
+    pub new: u32,
+}
+
+/// The exception that a substitute waits by, if a report is one.
+pub(crate) fn asked<N: NameValue>(store: &Store<N>, report: Cell<N>) -> Option<Asking<N>>
     requires { IsIn store.now.held report }
-    ensures unbound { IfSome result (IsUnbound store.now.held) }
-    ensures variable { (f : N → List ℕ) → Reads N.built f → unanswered (term_of f store.now.held report) ≡ result }
+    ensures inside { IfSome result (IsAskingIn store.now.held) }
+    ensures asking { (f : N → List ℕ) → Reads N.built f → asked (term_of f store.now.held report) ≡ option_map (asked_of f store.now.held) result }
 {
     // Only for the proof: what the store holds is formed.
     let _formed = store.mark();
@@ -31,16 +38,21 @@ fn unanswered<N: NameValue>(store: &Store<N>, report: Cell<N>) -> Option<u32>
     if !is_built_in(head.name, BuiltIn::Exception) {
         return None;
     }
-    store.walk(store.argument(structure, 2)).variable()
+    let Some(new) = store.walk(store.argument(structure, 2)).variable() else {
+        return None;
+    };
+    Some(Asking {
+        goal: store.argument(structure, 1),
+        new,
+    })
 }
 
-/// The variable for which a substitute waits by report `report`, the first being 1, of those on a stream, if one does.
-pub fn unanswered_at<N: NameValue>(store: &Store<N>, reports: Cell<N>, report: u64) -> Option<u32>
+/// The exception that a substitute waits by, if the report at place `place` of a stream, the first being 0, is one.
+pub fn asked_at<N: NameValue>(store: &Store<N>, reports: Cell<N>, place: u64) -> Option<Asking<N>>
     requires reports { IsIn store.now.held reports }
-    requires report { 0 < report }
-    ensures unbound { IfSome result (IsUnbound store.now.held) }
-    ensures variable { (f : N → List ℕ) → Reads N.built f → unanswered_at (term_of f store.now.held reports) report ≡ result }
+    ensures inside { IfSome result (IsAskingIn store.now.held) }
+    ensures asking { (f : N → List ℕ) → Reads N.built f → asked_in (term_of f store.now.held reports) place ≡ option_map (asked_of f store.now.held) result }
 {
-    let (element, _rest) = next_element(store, nth_cell(store, reports, report - 1))?;
-    unanswered(store, element)
+    let (element, _rest) = next_element(store, nth_cell(store, reports, place))?;
+    asked(store, element)
 }

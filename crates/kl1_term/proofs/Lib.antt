@@ -8,3 +8,6 @@ pub mod Prints
 pub mod Rows
 pub mod Texts
 pub mod VariableFacts
+pub mod Renumbering
+pub mod Anew
+pub mod Untold

@@ -4,4 +4,6 @@ pub mod Nodes
 pub mod Openings
 pub mod Page
 pub mod Printing
+pub mod Telling
+pub mod UntoldLaws
 pub mod Variables

@@ -1,5 +1,5 @@
 -- What an event did to an account, said of the same account and event under other names.
-use Rattle.std.proofs.Common.{◌≡◌, ℕ, Option, ap, sym, ◌∙◌, subst}
+use Rattle.std.proofs.Common.{◌≡◌, Option, ap, sym, ◌∙◌, subst}
 use Rattle.std.specs.Prelude.{List, IfOk}
 use Rattle.std.specs.declared.result.Result.{Result}
 use Rattle.kl1_model.specs.Event as model

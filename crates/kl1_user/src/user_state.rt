@@ -3,7 +3,7 @@
 mod viewing;
 
 ghost use Rattle.std.specs.Prelude.{◌≡◌, ◌↔◌, ◌≤◌, ℕ, [], length, IfOk, IsOk, OnErr, IsTrue, option_map};
-ghost use Rattle.kl1_model.specs.declared.limits.TheConstants.{MOST_NAMES};
+ghost use Rattle.kl1_model.specs.Rules.{limits_of};
 ghost use Rattle.kl1_model.specs.State.{fresh, fresh_with};
 ghost use Rattle.kl1_model.specs.Event.{reduce as reduce_event, read};
 ghost use Rattle.kl1_model.specs.Step.{step};
@@ -77,7 +77,7 @@ impl<A: AtomSource, C: CodeSource> UserState<A, C> {
         requires of { A.is_of names.old seat.old }
         requires knows { A.knows seat.old ≡ [] }
         requires list { IsNameList texts.now }
-        requires few { length texts.now ≤ MOST_NAMES }
+        requires few { length texts.now ≤ (A.place seat.old).0.1 }
         ensures fresh { IfOk result (λ user. (f : Reading) → state_of f user ≡ fresh_with rules name texts.now sessions) }
         ensures knows { IfOk result (λ user. A.knows seat.new ≡ user.names) }
         ensures modules { IfOk result (λ user. user.modules ≡ []) }
@@ -103,6 +103,7 @@ impl<A: AtomSource, C: CodeSource> UserState<A, C> {
     ) -> Result<Reply, AllocError>
         requires of { A.is_of names.old seat.old }
         requires knows { A.knows seat.old ≡ self.old.names }
+        requires room { (limits_of self.old.rules).names ≤ (A.place seat.old).0.1 }
         requires placed { ArePlaced (C.has codes.old) self.old.modules }
         ensures step { IfOk result (λ reply. (f : Reading) → Fits self.new.names f → step (state_of f self.old) (event_of event.now) ≡ record { state = state_of f self.new; reply = reply_of reply }) }
         ensures logout { IsTrue (is_logout event.now) → IsOk result }
@@ -142,6 +143,7 @@ impl<A: AtomSource, C: CodeSource> UserState<A, C> {
                 self.account.reset()?;
                 Ok(Reply::Reset)
             }
+            Event::Forget { shoen, count } => self.account.forget(codes, shoen.0, *count),
         }
     }
 
@@ -180,6 +182,7 @@ impl<A: AtomSource, C: CodeSource> UserState<A, C> {
     ) -> Result<Option<Refusal>, AllocError>
         requires of { A.is_of names.old seat.old }
         requires knows { A.knows seat.old ≡ self.old.names }
+        requires room { (limits_of self.old.rules).names ≤ (A.place seat.old).0.1 }
         requires placed { ArePlaced (C.has codes.now) self.old.modules }
         ensures step { IfOk result (λ refused. (f : Reading) → Fits self.new.names f → step (state_of f self.old) (reduce_event goal.0 clause.0) ≡ record { state = state_of f self.new; reply = reduced_or refused }) }
         ensures err { OnErr result (self.new ≡ self.old) }

@@ -26,3 +26,9 @@ mod Bringing
 mod Loaded
 mod Started
 pub mod Words
+pub mod Givings
+pub mod GivenShapes
+pub mod ToldAmong
+mod GivenGoals
+mod ForgetSteps
+mod LettingGo

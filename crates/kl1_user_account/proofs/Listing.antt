@@ -1,5 +1,5 @@
 -- Reports that are listed.
-use Rattle.kl1_user_account.proofs.Words.{◌≡◌, ℕ, ◌-◌, ◌<◌, ◌≤◌, ◌&&◌, true, false, if◌then◌else◌, List, [], ◌∷◌, ◌++◌, map, take, drop, sym, ap, ◌∙◌, Option, Some, option_map, le-leb, Term, cut_print, State, syntax, refuse, read, reports, is_number, elements_of, origin_at, reports_of, step, CellName, Known, Cell, Held, IsIn, HasElement, Origin, Reading, Fits, built, Account, meaning, origin_with, state_of, kept_at, cells_of}
+use Rattle.kl1_user_account.proofs.Words.{◌≡◌, ℕ, ◌-◌, ◌<◌, ◌≤◌, ◌&&◌, true, false, if◌then◌else◌, List, [], ◌∷◌, ◌++◌, map, take, drop, sym, ap, ◌∙◌, Option, Some, option_map, le-leb, Term, cut_print, State, syntax, refuse, read, reports, is_number, elements_of, origin_at, reports_of, step, CellName, Known, Cell, Held, IsIn, HasElement, Origin, Reading, Fits, built, Account, meaning, origin_with, state_of, kept_at, cells_of, Bool, Transition, listed, refused, answer_refused, MOST_LISTED, lt-ltb, le-ltb}
 use Rattle.std.proofs.Common.{nat_le}
 use Rattle.kl1_user_account.proofs.Origins.{origin_is, origin_named}
 use Rattle.kl1_user_account.proofs.Paging.{one_more}
@@ -47,6 +47,19 @@ reports_read f a n from o e le is =
     ap (λ b. if b && nat_le 1 from then reports_of s from (origin_at n s.shoens) else refuse s syntax) e
     ∙ ap (λ b. if b then reports_of s from (origin_at n s.shoens) else refuse s syntax) (le-leb 1 from le)
     ∙ ap (reports_of s from) (origin_is f a n o is)
+
+-- if the first of them was let go
+pub reports_gone : (f : Reading) (a : Account) (n from : ℕ) (o : Origin CellName) → (is_number n && is_number from) ≡ true → 1 ≤ from → kept_at n a.shoens ≡ Some o → from ≤ o.forgotten → step (state_of f a) (read (reports n from)) ≡ refuse (state_of f a) answer_refused
+reports_gone f a n from o e le is gone =
+    let R : Bool → Transition = λ b. record { state = state_of f a; reply = if b then listed (map cut_print (take MOST_LISTED (drop (from - 1 - o.forgotten) (cells_of f a.held o.reports)))) else refused answer_refused } in
+    reports_read f a n from (Some o) e le is ∙ ap R (le-ltb o.forgotten from gone)
+
+-- and if it is there
+pub reports_there : (f : Reading) (a : Account) (n from : ℕ) (o : Origin CellName) → (is_number n && is_number from) ≡ true → 1 ≤ from → kept_at n a.shoens ≡ Some o → o.forgotten < from →
+    step (state_of f a) (read (reports n from)) ≡ record { state = state_of f a; reply = listed (map cut_print (take MOST_LISTED (drop (from - 1 - o.forgotten) (cells_of f a.held o.reports)))) }
+reports_there f a n from o e le is lt =
+    let R : Bool → Transition = λ b. record { state = state_of f a; reply = if b then listed (map cut_print (take MOST_LISTED (drop (from - 1 - o.forgotten) (cells_of f a.held o.reports)))) else refused answer_refused } in
+    reports_read f a n from (Some o) e le is ∙ ap R (lt-ltb o.forgotten from lt)
 
 -- readings that agree on an account agree on the reports from one on
 pub first_named : (f g : Reading) (a : Account) (n skip : ℕ) (o : Origin CellName) (first : Cell CellName) → kept_at n a.shoens ≡ Some o → state_of f a ≡ state_of g a →

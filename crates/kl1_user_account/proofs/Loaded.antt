@@ -14,7 +14,7 @@ settled_by f hooks h rules ms ns ss gs e a =
 
 -- an event began, which loads this module: all goals were looked at again, and the module's names were published
 pub record IsLoaded (e : Began) (source : List ℕ) (d : Numbered) (r : Machine) (names : NameShelf) (row : List CellName) : Type 0 where
-  pub draft : IsDraftOf e.account.modules e.account.names (has_no_room e.account) source d
+  pub draft : IsDraftOf e.account.modules e.account.names (limits_of e.account.rules).names (has_no_room e.account) source d
   pub looks : Reschedules e.machine r
   pub settled : AllSettled (with_last e.program d) r
   pub flags : map unready r.goals.goals ≡ map unready e.machine.goals.goals
@@ -44,8 +44,8 @@ module _ (e : Began) (source : List ℕ) (d : Numbered) (r : Machine) (names : N
   abbrev n : Machine
   n = record r { names = names }
 
-  draft : IsDraftOf x.modules b.names.names (has_no_room (account_of x b)) source d
-  draft = let D : Account → Type 0 = λ a. IsDraftOf a.modules a.names (has_no_room a) source d in subst D (sym e.is) p.draft
+  draft : IsDraftOf x.modules b.names.names (limits_of (account_of x b).rules).names (has_no_room (account_of x b)) source d
+  draft = let D : Account → Type 0 = λ a. IsDraftOf a.modules a.names (limits_of a.rules).names (has_no_room a) source d in subst D (sym e.is) p.draft
 
   before : r.names ≡ b.names
   before = ap (λ (z : Machine). z.names) p.looks.rest
@@ -82,7 +82,7 @@ module _ (e : Began) (source : List ℕ) (d : Numbered) (r : Machine) (names : N
       let R : State → Transition = λ z. record { state = z; reply = loaded d.content.name } in
       ap (λ (a : Account). step (state_of f a) (load source)) (sym e.is)
       ∙ draft.loads (state_of f (account_of x b))
-      ∙ draft.draft.loads (state_of f (account_of x b)) (record { modules_are = refl; names_are = refl; full_is = refl })
+      ∙ draft.draft.loads (state_of f (account_of x b)) (record { modules_are = refl; names_are = refl; most_is = refl; full_is = refl })
       ∙ ap R (state f)
 
   -- ---- what always holds

@@ -1,5 +1,5 @@
 -- What is shown of shoens and goals, one after another from a number on.
-use Rattle.kl1_user_account.proofs.Words.{◌≡◌, ◌⊎◌, inl, inr, ℕ, zero, suc, ◌+◌, ◌-◌, ◌<◌, ◌≤◌, nat_lt, Bool, true, false, if◌then◌else◌, List, [], ◌∷◌, ◌++◌, map, take, drop, refl, sym, ap, ap₂, subst, ◌∙◌, arith, append_assoc, append-nil, Some, None, filter, find, slice_get, is_some, AllByRecursion, cases_lt, lt-ltb, le-ltb, le-leb, lt-leb, take-map, drop_more, drop_all, slice_get_within, get_or_from_slice_get, nat_tests, State, CellName, Hook, Task, Monitor, Reduces, Substitutes, Goal, is_after, Ascend, Shoen, found_at, AreNumbered, ShoenView, TaskKind, GoalView, shoen_view, shoen_page, kind_of, goal_view, goal_page, Reading, Fits, Account, Means, meaning, task_with, goal_with, shoen_with, state_of, IsKept, shoen_shown, kind_shown, goal_shown, same_goal, none-some, slice_get_cases, cases_Bool}
+use Rattle.kl1_user_account.proofs.Words.{◌≡◌, ◌⊎◌, inl, inr, ℕ, zero, suc, ◌+◌, ◌-◌, ◌<◌, ◌≤◌, nat_lt, ◌&&◌, Bool, true, false, if◌then◌else◌, List, [], ◌∷◌, ◌++◌, map, take, drop, refl, sym, ap, ap₂, subst, ◌∙◌, arith, append_assoc, append-nil, Some, None, filter, find, slice_get, is_some, AllByRecursion, cases_lt, lt-ltb, le-ltb, le-leb, lt-leb, take-map, drop_more, drop_all, slice_get_within, get_or_from_slice_get, nat_tests, State, CellName, Hook, Task, Monitor, Reduces, Substitutes, Goal, is_after, Ascend, Shoen, found_at, AreNumbered, ShoenView, TaskKind, GoalView, shoen_view, shoen_page, kind_of, goal_view, goal_page, Reading, Fits, Account, Means, meaning, task_with, goal_with, shoen_with, state_of, IsKept, shoen_shown, kind_shown, goal_shown, same_goal, none-some, slice_get_cases, cases_Bool, Life, Forgotten, is_forgotten}
 use Rattle.std.proofs.Common.{nat_le}
 use Rattle.std.proofs.Math.Seq.{take-nil}
 use Rattle.std.proofs.lemmas.Simd.{map-map}
@@ -7,6 +7,8 @@ use Rattle.kl1_model.specs.State as model
 use Rattle.kl1_goals.specs.Lists.{number_of}
 use Rattle.kl1_goals.proofs.Ranking.{stands_is}
 use Rattle.kl1_shoen.specs.Shoens.{has_number}
+use Rattle.kl1_user_events.specs.Viewing.{is_kept}
+use Rattle.kl1_user_account.specs.Viewed.{is_kept_shoen}
 use Rattle.kl1_user_effects.proofs.Lists.{filter_by, filter_each, all_of, all_then, all_filter}
 use Rattle.kl1_user_account.proofs.Statuses.{shoen_read}
 use Rattle.kl1_user_account.proofs.Choosing.{IsStanding, all_stand}
@@ -123,16 +125,42 @@ numbered_from from last (h ∷ ss) up = by_case (cases_lt (suc last) from) (numb
         ∙ ap (λ (ks : List (Shoen CellName)). h ∷ ks) (later ∙ ap (λ n. drop n ss) beyond)
         ∙ ap (λ n. drop n (h ∷ ss)) (sym none)
 
+-- what passes both tests is what passes the one of what passes the other
+filter_both : {A : Type 0} (p q : A → Bool) (xs : List A) → filter (λ x. p x && q x) xs ≡ filter q (filter p xs)
+filter_both p q [] = refl
+filter_both p q (x ∷ xs) = elim (cases_Bool (p x)) [
+  | inl y ↦ rw y (ap (λ (ys : List _). if q x then x ∷ ys else ys) (filter_both p q xs))
+  | inr y ↦ rw y (filter_both p q xs)
+]
+
+-- of shoens from one on the first is shown, unless it was let go
+kept_life : (life : Life) → is_forgotten life ≡ false → is_kept life ≡ true
+kept_life Forgotten e = absurd (cc)
+kept_life _ e = refl
+
+gone_life : (life : Life) → is_forgotten life ≡ true → is_kept life ≡ false
+gone_life Forgotten e = refl
+gone_life _ e = absurd (cc)
+
+pub one_kept : (ss xs : List (Shoen CellName)) (h : Shoen CellName) → ss ≡ h ∷ xs → is_forgotten h.life ≡ false → filter is_kept_shoen ss ≡ h ∷ filter is_kept_shoen xs
+one_kept ss xs h e there = ap (filter is_kept_shoen) e ∙ ap (λ b. if b then h ∷ filter is_kept_shoen xs else filter is_kept_shoen xs) (kept_life h.life there)
+
+pub one_gone : (ss xs : List (Shoen CellName)) (h : Shoen CellName) → ss ≡ h ∷ xs → is_forgotten h.life ≡ true → filter is_kept_shoen ss ≡ filter is_kept_shoen xs
+one_gone ss xs h e gone = ap (filter is_kept_shoen) e ∙ ap (λ b. if b then h ∷ filter is_kept_shoen xs else filter is_kept_shoen xs) (gone_life h.life gone)
+
 -- a page of shoens is shown as they are kept
-pub shoens_shown : (f : Reading) (a : Account) (from count : ℕ) (views : List ShoenView) → AreNumbered 0 a.shoens → views ≡ map (shoen_shown a.shoens a.work a.goals) (take count (drop (from - 1) a.shoens)) → views ≡ shoen_page (state_of f a) from count
+pub shoens_shown : (f : Reading) (a : Account) (from count : ℕ) (views : List ShoenView) → AreNumbered 0 a.shoens → views ≡ map (shoen_shown a.shoens a.work a.goals) (take count (filter is_kept_shoen (drop (from - 1) a.shoens))) → views ≡ shoen_page (state_of f a) from count
 shoens_shown f a from count views up e =
     let k = shoen_with (meaning f a.held) in
     let shown = shoen_shown a.shoens a.work a.goals in
-    let page = drop (from - 1) a.shoens in
+    let page = filter is_kept_shoen (drop (from - 1) a.shoens) in
     let view = shoen_view (state_of f a) in
-    let test = λ (h : model.Shoen). nat_le from h.number in
+    let test = λ (h : model.Shoen). nat_le from h.number && is_kept h.life in
+    let low = λ (h : Shoen CellName). nat_le from h.number in
     let all : from - 1 - 0 ≡ from - 1 = omega arith in
-    let is = filter_each k test (λ (h : Shoen CellName). nat_le from h.number) (λ h. refl) a.shoens ∙ ap (map k) (numbered_from from 0 a.shoens up ∙ ap (λ n. drop n a.shoens) all) in
+    let is =
+    filter_each k test (λ (h : Shoen CellName). nat_le from h.number && is_kept_shoen h) (λ h. refl) a.shoens
+    ∙ ap (map k) (filter_both low is_kept_shoen a.shoens ∙ ap (filter is_kept_shoen) (numbered_from from 0 a.shoens up ∙ ap (λ n. drop n a.shoens) all)) in
     e ∙ sym (page_shown k view shown test a.shoens page count is (all_of (λ (h : Shoen CellName). view (k h) ≡ shown h) (shoen_read f a) page))
 
 -- a goal that stands as the definitions have it is shown as it is kept

@@ -1,5 +1,5 @@
 -- What is known of a goal that may be started, or be an answer.
-use Rattle.kl1_user_account.proofs.Words.{◌≡◌, ℕ, ◌<◌, ◌≤◌, ◌&&◌, Bool, true, length, arith, nat_le, and_parts, leb-true, Term, is_number, is_range, MOST_LINE_BYTES, MOST_PRIORITY, MONITOR_PRIORITY, is_goal, is_writable, may_start, start_line, may_answer, answer_line}
+use Rattle.kl1_user_account.proofs.Words.{◌≡◌, ℕ, ◌≤◌, ◌&&◌, Bool, true, length, arith, nat_le, and_parts, leb-true, Term, is_number, is_range, MOST_LINE_BYTES, MOST_PRIORITY, MONITOR_PRIORITY, is_goal, is_writable, may_start, start_line, may_answer, answer_line, is_numbered_by, has_substitutes, Rules}
 use Rattle.kl1_model.specs.Meaning.{is_numbered}
 
 -- of five tests that hold, the first, the second and the fourth
@@ -20,9 +20,7 @@ may_start_is allowance low high goal m =
     let most : high ≤ MOST_PRIORITY = leb-true high MOST_PRIORITY u.1 in
     (t.1.0, t.1.1, omega arith, omega arith)
 
--- so is one that may be an answer, and the first report is 1
-pub may_answer_is : (n report : ℕ) (goal : Term) → may_answer n report goal ≡ true → (is_goal goal ≡ true) × (is_numbered goal ≡ true) × (0 < report)
-may_answer_is n report goal m =
-    let t = all_hold (is_number n && is_number report && nat_le 1 report) (is_goal goal) (is_writable goal) (is_numbered goal) (nat_le (length (answer_line n report goal)) MOST_LINE_BYTES) m in
-    let le = leb-true 1 report (and_parts (is_number n && is_number report) (nat_le 1 report) t.0).1 in
-    (t.1.0, t.1.1, omega (arith, le))
+-- so is one that may be an answer, as the rules want its variables numbered
+pub may_answer_is : (rules : Rules) (n report : ℕ) (goal : Term) → may_answer rules n report goal ≡ true → (is_goal goal ≡ true) × (is_numbered_by rules goal ≡ true)
+may_answer_is rules n report goal m =
+    (all_hold (has_substitutes rules && is_number n && is_number report && nat_le 1 report) (is_goal goal) (is_writable goal) (is_numbered_by rules goal) (nat_le (length (answer_line n report goal)) MOST_LINE_BYTES) m).1

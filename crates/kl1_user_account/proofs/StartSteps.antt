@@ -1,5 +1,5 @@
 -- What refuses a goal of the console, and the step of a start that nothing refuses.
-use Rattle.kl1_user_account.proofs.Words.{◌≡◌, ℕ, suc, ◌+◌, not, ◌&&◌, Bool, true, if◌then◌else◌, List, [], ◌∷◌, length, sym, ap, ap₂, ◌∙◌, nat_le, Option, Some, None, Limits, MOST_NAMES, Term, highest, goal_nodes, State, names_of, with_names, Transition, start, opened, refuse, unless, are_too_many, is_full, syntax, too_many_names, limit_passed, journal_full, with_entry, may_start, has_room_to_start, start_goal, goals_alive, step, start_by, Known, with_texts, Refusal, texts_of, Counted, HasNames, has_room_beside, refusals_of, refused_or, IsFree, IsStartable, names_used}
+use Rattle.kl1_user_account.proofs.Words.{◌≡◌, ℕ, suc, ◌+◌, not, ◌&&◌, Bool, true, if◌then◌else◌, List, [], ◌∷◌, length, sym, ap, ap₂, ◌∙◌, nat_le, Option, Some, None, Limits, Term, highest, goal_nodes, State, names_of, with_names, Transition, start, opened, refuse, unless, are_too_many, is_full, syntax, too_many_names, limit_passed, journal_full, with_entry, may_start, has_room_to_start, start_goal, goals_alive, step, start_by, Known, with_texts, Refusal, texts_of, Counted, HasNames, has_room_beside, refusals_of, refused_or, IsFree, IsStartable, names_used}
 use Rattle.std.specs.Prelude.{nat_lt}
 use Rattle.std.proofs.Math.Bool.{not-not}
 use Rattle.kl1_model.specs.State.{limits_of}
@@ -9,12 +9,12 @@ use Rattle.kl1_user_account.proofs.Counting.{not_less}
 -- ---- names, room and the journal
 
 -- whether names are too many, by their number
-pub many_is : (n : ℕ) → not (nat_le n MOST_NAMES) ≡ nat_lt MOST_NAMES n
-many_is n = ap not (not_less n MOST_NAMES) ∙ not-not (nat_lt MOST_NAMES n)
+pub many_is : (n most : ℕ) → not (nat_le n most) ≡ nat_lt most n
+many_is n most = ap not (not_less n most) ∙ not-not (nat_lt most n)
 
 -- what a state refuses a goal of the console for, if there is room for it or not
 abbrev pub refusals_at : State → Term → Bool → List (Bool × Reason)
-refusals_at s goal has_room = (are_too_many (with_names s.names (names_of goal)), too_many_names) ∷ (not has_room, limit_passed) ∷ (is_full s, journal_full) ∷ []
+refusals_at s goal has_room = (are_too_many s.rules (with_names s.names (names_of goal)), too_many_names) ∷ (not has_room, limit_passed) ∷ (is_full s, journal_full) ∷ []
 
 -- that is known by its names and counts
 pub refusals_in : (s : State) (names : List Known) (c : Counted) (goal : Term) (texts : List (List ℕ)) (has_room : Bool) → HasNames s names c → texts ≡ with_names [] (names_of goal) → refusals_at s goal has_room ≡ refusals_of c names texts has_room
@@ -22,7 +22,7 @@ refusals_in s names c goal texts has_room at are =
     let R : Bool → Bool → List (Bool × Reason) = λ many full. (many, too_many_names) ∷ (not has_room, limit_passed) ∷ (full, journal_full) ∷ [] in
     let count : length (with_names s.names (names_of goal)) ≡ length (with_texts (texts_of names) texts) =
     ap length (sym (ap (λ (ns : List (List ℕ)). with_texts ns texts) (sym at.names_are) ∙ names_used s.names texts goal are)) in
-    ap₂ R (ap (λ n. not (nat_le n MOST_NAMES)) count ∙ many_is (length (with_texts (texts_of names) texts)))
+    ap₂ R (ap₂ (λ (l : Limits) (n : ℕ). not (nat_le n l.names)) at.most_are count ∙ many_is (length (with_texts (texts_of names) texts)) c.most.names)
     (ap₂ (λ (n : ℕ) (m : Limits). not (nat_lt n m.entries)) at.entries_are at.most_are)
 
 -- ---- a start

@@ -1,9 +1,10 @@
 -- A goal that the console brings to an account, if nothing refuses it.
-use Rattle.kl1_user_account.proofs.Words.{◌≡◌, ℕ, suc, ◌+◌, ◌≤◌, ◌&&◌, true, List, [], length, sym, ap, ◌∙◌, arith, nat_le, and_parts, leb-true, Limits, MOST_NAMES, Term, is_goal, highest, goal_nodes, structures_of, names_of, with_names, with_texts, IsNameList, Reading, Account, state_of, texts_of, Answer, Starts, Answers, Start, Counted, HasNames, has_room_beside, IsFree, IsStartable, has_room_to_answer_beside, IsAnswerable, MayBring}
+use Rattle.kl1_user_account.proofs.Words.{◌≡◌, ℕ, suc, ◌+◌, ◌≤◌, ◌&&◌, true, List, [], length, sym, ap, ◌∙◌, arith, nat_le, and_parts, leb-true, Limits, Term, is_goal, highest, goal_nodes, structures_of, names_of, with_names, with_texts, IsNameList, Reading, Account, state_of, texts_of, Answer, Starts, Answers, Start, Counted, HasNames, has_room_beside, IsFree, IsStartable, has_room_to_answer_beside, IsAnswerable, MayBring, Given, new_in}
 use Rattle.std.specs.Prelude.{nat_lt}
 use Rattle.kl1_model.specs.Meaning.{is_numbered}
+use Rattle.kl1_model.specs.Rules.{limits_of}
 use Rattle.kl1_user_account.proofs.Counting.{low_limits}
-use Rattle.kl1_user_account.proofs.StartChecks.{may_start_is, may_answer_is}
+use Rattle.kl1_user_account.proofs.StartChecks.{may_start_is}
 
 -- ---- room
 
@@ -21,8 +22,8 @@ room_to_answer c variables nodes e =
     (leb-true (c.variables + variables) c.most.variables p.0, leb-true (c.nodes + nodes) c.most.nodes p.1)
 
 -- names of a goal by its code, which may be published
-few_names : (a : Account) (goal code : Term) (texts : List (List ℕ)) → code ≡ goal → texts ≡ with_names [] (names_of code) → length (with_texts (texts_of a.names) (with_names [] (names_of goal))) ≤ MOST_NAMES → length (with_texts (texts_of a.names) texts) ≤ MOST_NAMES
-few_names a goal code texts same are few = rw (are, same) few
+few_names : (a : Account) (most : ℕ) (goal code : Term) (texts : List (List ℕ)) → code ≡ goal → texts ≡ with_names [] (names_of code) → length (with_texts (texts_of a.names) (with_names [] (names_of goal))) ≤ most → length (with_texts (texts_of a.names) texts) ≤ most
+few_names a most goal code texts same are few = rw (are, same) few
 
 -- ---- the goal may be brought
 
@@ -38,7 +39,7 @@ may_start_it a c goal texts s may counts are list variables =
     record {
       texts_are = are;
       list = list;
-      few = few_names a goal s.code.now texts may.code_is are may.free.few;
+      few = few_names a (limits_of a.rules).names goal s.code.now texts may.code_is are (rw (ap (λ (l : Limits). l.names) at.most_are) may.free.few);
       can = λ numbers count.
           record {
             goal = ap is_goal may.code_is ∙ is.0;
@@ -53,28 +54,38 @@ may_start_it a c goal texts s may counts are list variables =
       room = omega (arith, may.free.journal, at.entries_are, entries);
     }
 
-pub may_answer_it : (a : Account) (c : Counted) (n report : ℕ) (goal : Term) (texts : List (List ℕ)) (s : Answer) → IsAnswerable a.rules a.held a.shoens a.names c n report goal s.code.now s.variable → ((f : Reading) → HasNames (state_of f a) a.names c) →
-    texts ≡ with_names [] (names_of s.code.now) → IsNameList texts → (s.variables ≡ highest goal) × (s.nodes ≡ structures_of goal) → MayBring a texts (Answers s)
-may_answer_it a c n report goal texts s may counts are list sizes =
+-- the answer that is brought is this goal
+pub record IsOf (s : Answer) (g : Given) (nodes : ℕ) : Type 0 where
+  pub code : s.code.now ≡ g.code
+  pub told : s.told.now ≡ g.told.items
+  pub new : s.new ≡ g.new
+  pub nodes_are : s.nodes ≡ nodes
+
+pub may_answer_it : (a : Account) (c : Counted) (n report : ℕ) (goal : Term) (texts : List (List ℕ)) (s : Answer) (g : Given) → {nodes : ℕ} → IsAnswerable a.rules a.held a.shoens a.names c n report goal g nodes s.variable → ((f : Reading) → HasNames (state_of f a) a.names c) →
+    texts ≡ with_names [] (names_of g.code) → IsNameList texts → IsOf s g nodes → MayBring a texts (Answers s)
+may_answer_it a c n report goal texts s g {nodes} may counts are list of =
     let at = counts (λ x. []) in
-    let is = may_answer_is n report goal may.may in
-    let room = room_to_answer c (highest goal) (structures_of goal) may.free.has in
+    let room = room_to_answer c g.new nodes may.free.has in
     let most = low_limits a.rules c.most (sym at.most_are) in
     let entries = ap (λ (l : Limits). l.entries) at.most_are in
+    let own : texts ≡ with_names [] (names_of s.code.now) = are ∙ ap (λ (t : Term). with_names [] (names_of t)) (sym of.code) in
     record {
-      texts_are = are;
+      texts_are = own;
       list = list;
-      few = few_names a goal s.code.now texts may.code_is are may.free.few;
+      few = few_names a (limits_of a.rules).names g.code s.code.now texts of.code own (rw (ap (λ (l : Limits). l.names) at.most_are) may.free.few);
       can = λ numbers count.
           record {
-            goal = ap is_goal may.code_is ∙ is.0;
-            numbered = ap is_numbered may.code_is ∙ is.1;
-            variables_are = sizes.0 ∙ sym (ap highest may.code_is);
-            nodes_are = sizes.1 ∙ sym (ap structures_of may.code_is);
-            numbers_are = count ∙ ap length are;
+            goal = ap is_goal of.code ∙ may.goal_is;
+            numbered = ap is_numbered of.code ∙ may.numbered;
+            count = ap length of.told ∙ (may.count ∙ ap highest (sym of.code));
+            new_is = of.new ∙ (may.new_is ∙ ap new_in (sym of.told));
+            nodes_are = of.nodes_are ∙ (may.nodes_are ∙ ap structures_of (sym of.code));
+            numbers_are = count ∙ ap length own;
             unbound = may.unbound;
-            few = omega (arith, room.0, most.variables, at.variables_are, sizes.0);
-            small = omega (arith, room.1, most.nodes, at.nodes_are, sizes.1);
+            told = rw of.told may.told;
+            others = rw of.told may.others;
+            few = omega (arith, room.0, most.variables, at.variables_are, of.new);
+            small = omega (arith, room.1, most.nodes, at.nodes_are, of.nodes_are);
           };
       room = omega (arith, may.free.journal, at.entries_are, entries);
     }

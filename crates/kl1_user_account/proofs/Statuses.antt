@@ -1,5 +1,5 @@
 -- What is shown of a shoen, and of the modules.
-use Rattle.kl1_user_account.proofs.Words.{◌≡◌, ◌≢◌, ℕ, zero, suc, ◌+◌, ◌≤◌, ◌==◌, ◌&&◌, ◌||◌, not, Bool, true, false, if◌then◌else◌, List, [], ◌∷◌, ◌++◌, map, take, length, count_by, refl, sym, ap, ap₂, ◌∙◌, arith, Option, Some, find, option_map, slice_get, cond, AllPairs, eqb-true, sum_by-cons, Life, Living, Terminated, Aborted, Condition, Stopped, Exhausted, Running, is_among, shoen_at, path_within, charged_of, goals_below, Transition, syntax, status_is, refuse, read, status, is_number, condition_by, status_of, condition_of, module_line, step, CellName, Goal, is_monitor, is_goal_of, Shoen, contains_among, parents_in, charged_in, AreBelow, Numbered, contents, ShoenView, parent_shown, is_goal_in, shoen_view, Reading, Account, meaning, goal_with, shoen_with, state_of, AreOwned, is_of_any, found_in, parents_read, condition_at, is_alive_in, shoen_shown, AllByRecursion, Means, false_from_ne_true, nat_tests}
+use Rattle.kl1_user_account.proofs.Words.{◌≡◌, ◌≢◌, ℕ, zero, suc, ◌+◌, ◌≤◌, ◌==◌, ◌&&◌, ◌||◌, not, Bool, true, false, if◌then◌else◌, List, [], ◌∷◌, ◌++◌, map, take, length, count_by, refl, sym, ap, ap₂, ◌∙◌, arith, Option, Some, find, option_map, slice_get, cond, AllPairs, eqb-true, sum_by-cons, Life, Living, Terminated, Aborted, Condition, Stopped, Exhausted, Running, is_among, shoen_at, path_within, charged_of, goals_below, Transition, syntax, status_is, refuse, read, status, is_number, condition_by, status_of, condition_of, module_line, step, CellName, Goal, is_monitor, is_goal_of, Shoen, contains_among, parents_in, charged_in, AreBelow, Numbered, contents, ShoenView, parent_shown, is_goal_in, shoen_view, Reading, Account, meaning, goal_with, shoen_with, state_of, AreOwned, is_of_any, found_in, parents_read, condition_at, is_alive_in, shoen_shown, AllByRecursion, Means, false_from_ne_true, nat_tests, Forgotten, None, option_and_then, no_shoen, is_forgotten}
 use Rattle.std.proofs.Common.{nat_le}
 use Rattle.std.proofs.Math.Bool.{and-false}
 use Rattle.kl1_model.specs.State as model
@@ -88,18 +88,34 @@ alive_few ns gs = sum_by-le-sum_by (λ (g : Goal CellName). cond (is_alive_in ns
 
 -- ---- the answers
 
+-- a shoen of the definitions, if it wasn't let go
+abbrev kept : model.Shoen → Option model.Shoen
+kept h = elim h.life [ Living ↦ Some h | Terminated ↦ Some h | Aborted ↦ Some h | Forgotten ↦ None ]
+
+kept_some : (life : Life) (h : model.Shoen) → is_forgotten life ≡ false → (elim life [ Living ↦ Some h | Terminated ↦ Some h | Aborted ↦ Some h | Forgotten ↦ None ]) ≡ Some h
+kept_some Forgotten h e = absurd (cc)
+kept_some _ h e = refl
+
+kept_none : (life : Life) (h : model.Shoen) → is_forgotten life ≡ true → ◌≡◌ {A = Option model.Shoen} (elim life [ Living ↦ Some h | Terminated ↦ Some h | Aborted ↦ Some h | Forgotten ↦ None ]) None
+kept_none Forgotten h e = refl
+kept_none _ h e = absurd (cc)
+
 -- what is told of a shoen that may be there
-pub status_read : (f : Reading) (a : Account) (n : ℕ) (o : Option (Shoen CellName)) → is_number n ≡ true → o ≡ find (has_number n) a.shoens → step (state_of f a) (read (status n)) ≡ status_of (state_of f a) (option_map (shoen_with (meaning f a.held)) o)
+pub status_read : (f : Reading) (a : Account) (n : ℕ) (o : Option (Shoen CellName)) → is_number n ≡ true → o ≡ find (has_number n) a.shoens → step (state_of f a) (read (status n)) ≡ status_of (state_of f a) (option_and_then kept (option_map (shoen_with (meaning f a.held)) o))
 status_read f a n o e is =
-    ap (λ b. if b then status_of (state_of f a) (shoen_at n (state_of f a).shoens) else refuse (state_of f a) syntax) e
-    ∙ ap (status_of (state_of f a)) (found_in (meaning f a.held) n a.shoens ∙ ap (option_map (shoen_with (meaning f a.held))) (sym is))
+    ap (λ b. if b then status_of (state_of f a) (option_and_then kept (shoen_at n (state_of f a).shoens)) else refuse (state_of f a) syntax) e
+    ∙ ap (λ (h : Option model.Shoen). status_of (state_of f a) (option_and_then kept h)) (found_in (meaning f a.held) n a.shoens ∙ ap (option_map (shoen_with (meaning f a.held))) (sym is))
+
+-- what is told of one that was let go
+pub status_gone : (f : Reading) (a : Account) (n : ℕ) (h : Shoen CellName) → is_number n ≡ true → Some h ≡ find (has_number n) a.shoens → is_forgotten h.life ≡ true → step (state_of f a) (read (status n)) ≡ refuse (state_of f a) no_shoen
+status_gone f a n h e is gone = status_read f a n (Some h) e is ∙ ap (status_of (state_of f a)) (kept_none h.life (shoen_with (meaning f a.held) h) gone)
 
 -- what is told of one that is there
-pub status_some : (f : Reading) (a : Account) (n : ℕ) (h : Shoen CellName) (v : ShoenView) (alive : ℕ) → is_number n ≡ true → Some h ≡ find (has_number n) a.shoens → v ≡ shoen_shown a.shoens a.work a.goals h → goals_below (state_of f a) h.number ≡ alive →
+pub status_some : (f : Reading) (a : Account) (n : ℕ) (h : Shoen CellName) (v : ShoenView) (alive : ℕ) → is_number n ≡ true → Some h ≡ find (has_number n) a.shoens → is_forgotten h.life ≡ false → v ≡ shoen_shown a.shoens a.work a.goals h → goals_below (state_of f a) h.number ≡ alive →
     step (state_of f a) (read (status n)) ≡ record { state = state_of f a; reply = status_is v.condition v.charged v.allowance alive }
-status_some f a n h v alive e is shown below =
+status_some f a n h v alive e is there shown below =
     let R : ShoenView → ℕ → Transition = λ w m. record { state = state_of f a; reply = status_is w.condition w.charged w.allowance m } in
-    status_read f a n (Some h) e is ∙ ap₂ R (shoen_read f a h ∙ sym shown) below
+    status_read f a n (Some h) e is ∙ ap (status_of (state_of f a)) (kept_some h.life (shoen_with (meaning f a.held) h) there) ∙ ap₂ R (shoen_read f a h ∙ sym shown) below
 
 -- the lines of modules
 abbrev pub lines_of : List Numbered → List (List ℕ)

@@ -12,10 +12,10 @@ pub use Rattle.std.specs.List.{AllPairs, list_all}
 pub use Rattle.std.specs.Prelude.{decimal, ⊤, ◌↔◌}
 pub use Rattle.kl1_model.proofs.LimitFacts.{limits_are_low}
 pub use Rattle.kl1_model.specs.AccountName.{is_account_name}
-pub use Rattle.kl1_model.specs.Answering.{answer_by, answer_line, answer_living, answer_to, has_room_to_answer, may_answer, unanswered_at}
+pub use Rattle.kl1_model.specs.Answering.{answer_asked, answer_by, answer_line, answer_living, answer_to, answer_with, answered, asked_at, has_room_to_answer, is_numbered_by, may_answer}
 pub use Rattle.kl1_model.specs.Asking.{condition_of, elements_of, module_line, origin_at}
 pub use Rattle.kl1_model.specs.Choice.{Chosen, can_step, clause_for, first, first_of_goals, goes_before, is_first, quiet, task_clauses}
-pub use Rattle.kl1_model.specs.Event.{answer, are_too_many, exists, is_range, listed, load, loaded, opened, read, refused, reports, run_after, start, status, status_is, too_many_names, unless}
+pub use Rattle.kl1_model.specs.Event.{answer, answer_refused, are_too_many, exists, is_range, listed, load, loaded, opened, read, refused, reports, run_after, start, status, status_is, too_many_names, unless}
 pub use Rattle.kl1_model.specs.Found.{Found, awaits, found, wrong}
 pub use Rattle.kl1_model.specs.Match.{call_of, module_of}
 pub use Rattle.kl1_model.specs.Meaning.{are_narrow, depth, highest_in, is_narrow, is_word, is_writable}
@@ -26,7 +26,7 @@ pub use Rattle.kl1_model.specs.Print.{Printed, call_text, commas, cut_print, for
 pub use Rattle.kl1_model.specs.Reduction.{Move, term_move}
 pub use Rattle.kl1_model.specs.Rules.{has_runs, limits_of}
 pub use Rattle.kl1_model.specs.Sending.{if_living}
-pub use Rattle.kl1_model.specs.State.{fresh_with, goal_at}
+pub use Rattle.kl1_model.specs.State.{fresh_with, goal_at, replace_in_state}
 pub use Rattle.kl1_model.specs.Step.{load_module, start_by}
 pub use Rattle.kl1_model.specs.Term.{count_of, list_of, size}
 pub use Rattle.kl1_model.specs.Text.{is_name_byte}
@@ -39,6 +39,7 @@ pub use Rattle.kl1_model.specs.declared.built_in.BuiltIn.TheVariants.{ListCell}
 pub use Rattle.kl1_model.specs.declared.condition.Condition.{Condition}
 pub use Rattle.kl1_model.specs.declared.condition.Condition.TheVariants.{Exhausted, Running, Stopped}
 pub use Rattle.kl1_model.specs.declared.life.Life.{Life}
+pub use Rattle.kl1_model.specs.declared.life.Life.TheVariants.{Forgotten}
 pub use Rattle.kl1_model.specs.declared.limits.TheConstants.{MOST_ACCOUNT_NAME_BYTES, MOST_ARGUMENTS, MOST_DEPTH, MOST_LINE_BYTES, MOST_LISTED, MOST_MODULES, MOST_NAME_BYTES, MOST_PRIORITY, MOST_RUN, MOST_SOURCE_BYTES, NUMBER_LIMIT}
 pub use Rattle.kl1_model.specs.declared.pair_form.PairForm.{PairForm}
 pub use Rattle.kl1_model.specs.declared.pair_form.PairForm.TheVariants.{Call}
@@ -66,6 +67,10 @@ pub use Rattle.kl1_codes.proofs.Placing.{placed_more, placed_still}
 pub use Rattle.kl1_codes.specs.Finding.{TellsModule, is_numbered}
 pub use Rattle.kl1_codes.specs.Numbered.{ArePlaced, number_of, own_names}
 pub use Rattle.kl1_stream.specs.Elements.{HasElement}
+pub use Rattle.kl1_stream.specs.Askings.{IsAskingIn, asked_of}
+pub use Rattle.kl1_stream.specs.declared.answers.Asking.{Asking}
+pub use Rattle.kl1_match.specs.GoalCells.{AreTold, new_in, told_at}
+pub use Rattle.kl1_machine.specs.Bringing.{AreOthers, answered_by, given_by}
 pub use Rattle.kl1_match.proofs.Naming.{same_as_itself}
 pub use Rattle.kl1_match.specs.Waiting.{AreSame}
 pub use Rattle.kl1_user_events.specs.Viewing.{AreAwaited, AreListedOf, IsLookedAt, IsPresence, awaited_by_goal, goal_page, goal_term, goal_view, is_goal_in, is_variable_part, kept_text, kind_of, parent_shown, shoen_page, shoen_view, term_in}
@@ -95,7 +100,7 @@ pub use Rattle.kl1_machine.proofs.Planned.{enabled_read, found_holds, goal_read,
 pub use Rattle.kl1_machine.proofs.Published.{IsReduced, published_reduced}
 pub use Rattle.kl1_machine.proofs.Resting.{looked_read}
 pub use Rattle.kl1_machine.proofs.Sending.{refused_as}
-pub use Rattle.kl1_machine.proofs.Words.{Aborted, AllByRecursion, AllSettled, AreBelow, AreEnabled, AreGoalsIn, AreNames, AreNumbered, AreOwned, AreSettled, AreSmall, Ascend, Atom, Bool, Brings, CanPublish, Cell, CellName, Contains, Fits, Goal, Held, Hook, IsBegun, IsEnabled, IsFormed, IsIn, IsMachine, IsPublished, IsRested, IsSettled, IsTaskIn, Keeps, Known, Knows, List, Living, MONITOR_PRIORITY, MOST_NAMES, Means, Message, Monitor, NameShelf, None, Numbered, Option, Origin, Predicate, Program, Publishes, Qualified, Reading, Reads, ReadsAlike, Reduces, Refusal, Refuses, Reschedules, Shoen, Some, State, Substitutes, Task, Term, Terms, Trail, Transition, [], aim, aim_with, and_parts, answered, ap, append-nil, append_assoc, ap₂, arith, atom, breaks_off, built, bytes_eq, cases_lt, change_of, charged_in, codes, cond, contents, control, control_at, drop, drop_all, drop_more, eq-eqb, eqb-true, false, false≢true, find, found_in, get_or, goal_nodes, goal_of, goal_with, has_substitutes, highest, if◌then◌else◌, inl, inr, integer, is_after, is_among, is_full, is_goal, is_goal_of, is_in_run, is_living, is_monitor, is_number, is_of_any, is_some, is_text, journal_full, le-leb, le-ltb, leb-true, length, length-map, list_any, list_any-append, lives_in, lt-leb, lt-ltb, ltb-false, ltb-true, made, map, map-append, meaning, more, moves, names_of, names_with, nat_le, ne_eqb, needs_entry, nodes_of, none, not, occurs, occurs_in, on_ok_weaker, option_copied, option_map, origin_in, origin_with, parents_in, parents_read, point_of, reduce, reduced, refl, refusal_of, refuse, rules, sent, settled_alike, shoen_at, shoen_with, sizes, start_goal, state_with, step, structure, structures_of, subst, suc, sum_by-cons, sym, syntax, take, take_all, task_action, task_with, tells, tells_other, term_of-Atom, term_of-Integer, term_of-unbound, texts_of, told_in, true, unready, unwrap_or, variable, with_entry, with_last, with_names, with_reduction, worked, zero, ℕ, ℤ, ◌&&◌, ◌++◌, ◌+◌, ◌-◌, ◌<◌, ◌==◌, ◌^◌, ◌||◌, ◌∙◌, ◌∷◌, ◌≡◌, ◌≤◌}
+pub use Rattle.kl1_machine.proofs.Words.{Aborted, AllByRecursion, AllSettled, AreBelow, AreEnabled, AreGoalsIn, AreNames, AreNumbered, AreOwned, AreSettled, AreSmall, Ascend, Atom, Bool, Brings, CanPublish, Cell, CellName, Contains, Fits, Goal, Held, Hook, IsBegun, IsEnabled, IsFormed, IsIn, IsMachine, IsPublished, IsRested, IsSettled, IsTaskIn, Keeps, Known, Knows, List, Living, MONITOR_PRIORITY, Means, Message, Monitor, NameShelf, None, Numbered, Option, Origin, Predicate, Program, Publishes, Qualified, Reading, Reads, ReadsAlike, Reduces, Refusal, Refuses, Reschedules, Shoen, Some, State, Substitutes, Task, Term, Terms, Trail, Transition, [], aim, aim_with, and_parts, ap, append-nil, append_assoc, ap₂, arith, atom, breaks_off, built, bytes_eq, cases_lt, change_of, charged_in, codes, cond, contents, control, control_at, drop, drop_all, drop_more, eq-eqb, eqb-true, false, false≢true, find, found_in, get_or, goal_nodes, goal_of, goal_with, has_substitutes, highest, if◌then◌else◌, inl, inr, integer, is_after, is_among, is_full, is_goal, is_goal_of, is_in_run, is_living, is_monitor, is_number, is_of_any, is_some, is_text, journal_full, le-leb, le-ltb, leb-true, length, length-map, list_any, list_any-append, lives_in, lt-leb, lt-ltb, ltb-false, ltb-true, made, map, map-append, meaning, more, moves, names_of, names_with, nat_le, ne_eqb, needs_entry, nodes_of, none, not, occurs, occurs_in, on_ok_weaker, option_copied, option_map, origin_in, origin_with, parents_in, parents_read, point_of, reduce, reduced, refl, refusal_of, refuse, rules, sent, settled_alike, shoen_at, shoen_with, sizes, start_goal, state_with, step, structure, structures_of, subst, suc, sum_by-cons, sym, syntax, take, take_all, task_action, task_with, tells, tells_other, term_of-Atom, term_of-Integer, term_of-unbound, texts_of, told_in, true, unready, unwrap_or, variable, with_entry, with_last, with_names, with_reduction, worked, zero, ℕ, ℤ, ◌&&◌, ◌++◌, ◌+◌, ◌-◌, ◌<◌, ◌==◌, ◌^◌, ◌||◌, ◌∙◌, ◌∷◌, ◌≡◌, ◌≤◌}
 unfoldable pub use Rattle.kl1_machine.proofs.Words.{path_within, with_texts}
 pub use Rattle.kl1_machine.specs.Bringing.{CanBring, PublishesNames}
 pub use Rattle.kl1_machine.specs.Sending.{IsRefusedMessage, Sends}
@@ -104,7 +109,9 @@ pub use Rattle.kl1_machine.specs.declared.machine.bringing.Brought.TheVariants.{
 pub use Rattle.kl1_machine.specs.declared.machine.starting.Start.{Start}
 pub use Rattle.kl1_user_account.specs.Accounts.{kept_in}
 pub use Rattle.kl1_user_account.specs.Answering.{IsAnswerable, RefusesAnswer, has_room_to_answer_beside}
-pub use Rattle.kl1_user_account.specs.Asked.{cells_of, condition_at, is_alive_in}
+pub use Rattle.kl1_user_account.specs.Giving.{AreFound, IsAsked, IsGiven, given_goal, given_view, is_variable_of}
+pub use Rattle.kl1_user_account.specs.declared.given.Given.{Given}
+pub use Rattle.kl1_user_account.specs.Asked.{cells_of, condition_at, is_alive_in, is_forgotten}
 pub use Rattle.kl1_user_account.specs.Beginning.{begun}
 pub use Rattle.kl1_user_account.specs.Bringing.{MayBring}
 pub use Rattle.kl1_user_account.specs.Keeping.{CountsWork, IsKept}

@@ -1,7 +1,7 @@
 -- What is shown of an account.
-use Rattle.std.specs.Prelude.{ℕ, nat_le, not, ◌&&◌, Bool, if◌then◌else◌, List}
+use Rattle.std.specs.Prelude.{ℕ, nat_le, not, ◌&&◌, Bool, true, false, if◌then◌else◌, List}
 use Rattle.kl1_model.specs.declared.life.Life.{Life}
-use Rattle.kl1_model.specs.declared.life.Life.TheVariants.{Living, Terminated, Aborted}
+use Rattle.kl1_model.specs.declared.life.Life.TheVariants.{Living, Terminated, Aborted, Forgotten}
 use Rattle.kl1_model.specs.declared.condition.Condition.{Condition}
 use Rattle.kl1_model.specs.declared.condition.Condition.TheVariants.{Terminated as HasTerminated, Aborted as IsAborted, Stopped, Exhausted, Running}
 use Rattle.kl1_model.specs.Term.{Term}
@@ -20,11 +20,19 @@ use Rattle.kl1_user_effects.specs.Drafts.{is_of_any}
 abbrev pub condition_at : Shoen CellName → ℕ → Life → Condition
 condition_at h charged Terminated = HasTerminated
 condition_at h charged Aborted = IsAborted
+condition_at h charged Forgotten = HasTerminated
 condition_at h charged Living = if h.is_stopped then Stopped else if nat_le h.allowance charged then Exhausted else Running
 
 -- the state of a shoen as it is shown, if `charged` is what it was charged
 abbrev pub condition_by : Shoen CellName → ℕ → Condition
 condition_by h charged = condition_at h charged h.life
+
+-- whether a shoen of this life was let go
+abbrev pub is_forgotten : Life → Bool
+is_forgotten Living = false
+is_forgotten Terminated = false
+is_forgotten Aborted = false
+is_forgotten Forgotten = true
 
 -- whether a goal is of one of these shoens, and no monitor
 abbrev pub is_alive_in : List ℕ → Goal CellName → Bool

@@ -1,6 +1,5 @@
 -- Goals that the console brings to an account.
 use Rattle.std.specs.Prelude.{◌≡◌, ℕ, ◌<◌, ◌≤◌, List, [], length}
-use Rattle.kl1_model.specs.declared.limits.TheConstants.{MOST_NAMES}
 use Rattle.kl1_model.specs.Rules.{limits_of}
 use Rattle.kl1_model.specs.State.{names_of, with_names}
 use Rattle.kl1_text.specs.declared.cell_name.CellName.{CellName}
@@ -13,6 +12,6 @@ use Rattle.kl1_machine.specs.Bringing.{goal_of, CanBring}
 pub record MayBring (a : Account) (texts : List (List ℕ)) (z : Brought) : Type 0 where
   pub texts_are : texts ≡ with_names [] (names_of (goal_of z))
   pub list : IsNameList texts
-  pub few : length (with_texts (texts_of a.names) texts) ≤ MOST_NAMES
+  pub few : length (with_texts (texts_of a.names) texts) ≤ (limits_of a.rules).names
   pub can : (numbers : List CellName) → length numbers ≡ length texts → CanBring a.held a.variables a.nodes numbers z
   pub room : a.entries < (limits_of a.rules).entries

@@ -2,7 +2,6 @@
 use Rattle.std.specs.Prelude.{◌≡◌, ℕ, suc, ◌+◌, ◌<◌, ◌≤◌, nat_lt, nat_le, not, ◌&&◌, Bool, true, List, [], ◌∷◌, length, Option, Some, None}
 use Rattle.kl1_model.specs.Term.{Term}
 use Rattle.kl1_model.specs.Meaning.{highest}
-use Rattle.kl1_model.specs.declared.limits.TheConstants.{MOST_NAMES}
 use Rattle.kl1_model.specs.Nodes.{goal_nodes}
 use Rattle.kl1_model.specs.Opening.{may_start, start_goal}
 use Rattle.kl1_model.specs.State.{State, limits_of, names_of, with_names}
@@ -37,7 +36,7 @@ has_room_beside c variables nodes =
 -- what refuses a goal of the console with these names, if there is room for it or not: too many names, no room, or a full journal
 abbrev pub refusals_of : Counted → List Known → List (List ℕ) → Bool → List (Bool × Reason)
 refusals_of c names texts has_room =
-    (nat_lt MOST_NAMES (length (with_texts (texts_of names) texts)), too_many_names) ∷ (not has_room, limit_passed) ∷ (not (nat_lt c.entries c.most.entries), journal_full) ∷ []
+    (nat_lt c.most.names (length (with_texts (texts_of names) texts)), too_many_names) ∷ (not has_room, limit_passed) ∷ (not (nat_lt c.entries c.most.entries), journal_full) ∷ []
 
 -- what comes of an event, or its refusal
 abbrev pub refused_or : State → Transition → Option Refusal → Transition
@@ -46,7 +45,7 @@ refused_or s after (Some r) = refuse s (refusal_of r)
 
 -- nothing refuses a goal of the console with these names
 pub record IsFree (c : Counted) (names : List Known) (texts : List (List ℕ)) (has_room : Bool) : Type 0 where
-  pub few : length (with_texts (texts_of names) texts) ≤ MOST_NAMES
+  pub few : length (with_texts (texts_of names) texts) ≤ c.most.names
   pub has : has_room ≡ true
   pub journal : c.entries < c.most.entries
 

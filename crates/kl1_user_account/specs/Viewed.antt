@@ -2,7 +2,7 @@
 use Rattle.std.specs.Prelude.{ℕ, ◌==◌, Bool, false, List, count_by, Some}
 use Rattle.std.specs.List.Sorted.{IsStrictlyIncreasing}
 use Rattle.kl1_model.specs.Control.{control_of}
-use Rattle.kl1_model.specs.code.Awaited.{awaited_by_control}
+use Rattle.kl1_model.specs.code.Waits.{awaited_by_control}
 use Rattle.kl1_text.specs.declared.cell_name.CellName.{CellName}
 use Rattle.kl1_text.specs.Reading.{Reads}
 use Rattle.kl1_store.specs.declared.cell.Cell.{Cell}
@@ -23,7 +23,7 @@ use Rattle.kl1_user_events.specs.declared.goal_view.TaskKind.{TaskKind}
 use Rattle.kl1_user_events.specs.declared.goal_view.TaskKind.TheVariants.{Monitor, Reduces, Substitutes}
 use Rattle.kl1_user_events.specs.declared.goal_view.GoalView.{GoalView}
 use Rattle.kl1_user_events.specs.declared.goal_view.Presence.{Presence}
-use Rattle.kl1_user_events.specs.Viewing.{parent_shown, IsPresence}
+use Rattle.kl1_user_events.specs.Viewing.{parent_shown, is_kept, IsPresence}
 use Rattle.kl1_user_effects.specs.Fitting.{Reading, built}
 use Rattle.kl1_user_effects.specs.Account.{meaning, task_with}
 use Rattle.kl1_user_effects.specs.Works.{Knows}
@@ -31,6 +31,10 @@ use Rattle.kl1_user_effects.specs.Settled.{control_with, awaited_by_task}
 use Rattle.kl1_user_account.specs.declared.top.Top.{Top}
 use Rattle.kl1_user_account.specs.declared.top.Top.TheVariants as top
 use Rattle.kl1_user_account.specs.Asked.{condition_by}
+
+-- whether a shoen wasn't let go
+abbrev pub is_kept_shoen : Shoen CellName → Bool
+is_kept_shoen h = is_kept h.life
 
 -- what is shown of a shoen among others, with this charged work and these goals
 abbrev pub shoen_shown : List (Shoen CellName) → List ℕ → List (Goal CellName) → Shoen CellName → ShoenView

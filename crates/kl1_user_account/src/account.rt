@@ -4,6 +4,7 @@ mod answering;
 mod asking;
 mod beginning;
 mod bringing;
+mod forgetting;
 mod loading;
 mod reducing;
 mod sending;

@@ -13,7 +13,7 @@ ghost use Rattle.kl1_codes.specs.Finding.{contents};
 ghost use Rattle.kl1_text.specs.declared.cell_name.CellName.{CellName};
 ghost use Rattle.kl1_user_effects.specs.Fitting.{Reading, Fits};
 ghost use Rattle.kl1_user_effects.specs.Naming.{AreSmall, Keeps};
-ghost use Rattle.kl1_user_account.specs.Asked.{condition_by, is_alive_in, cells_of};
+ghost use Rattle.kl1_user_account.specs.Asked.{condition_by, is_forgotten, is_alive_in, cells_of};
 
 use crate::printing::print_cell;
 use itoa::Buffer;
@@ -29,13 +29,14 @@ use kl1_text::{CellName, put_atom};
 use kl1_user_events::{Listed, Reply};
 use std::alloc::{AllocError, Global};
 
-/// The state of a shoen as it is shown, if `charged` is what it was charged.
+/// The state of a shoen as it is shown, if `charged` is what it was charged. Of one that was let go nothing is shown.
 pub(crate) fn condition_of(shoen: &Shoen<CellName>, charged: u64) -> Condition
     ensures { result ≡ condition_by shoen.now charged }
 {
     match shoen.life {
         Life::Terminated => Condition::Terminated,
         Life::Aborted => Condition::Aborted,
+        Life::Forgotten => Condition::Terminated,
         Life::Living => {
             if shoen.is_stopped {
                 return Condition::Stopped;
@@ -45,6 +46,18 @@ pub(crate) fn condition_of(shoen: &Shoen<CellName>, charged: u64) -> Condition
             }
             Condition::Running
         }
+    }
+}
+
+/// Whether a shoen of this life was let go.
+pub(crate) fn is_forgotten(life: Life) -> bool
+    ensures { result ≡ is_forgotten life }
+{
+    match life {
+        Life::Living => false,
+        Life::Terminated => false,
+        Life::Aborted => false,
+        Life::Forgotten => true,
     }
 }
 

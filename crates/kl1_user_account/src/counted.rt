@@ -63,7 +63,7 @@ impl Counted {
         ensures refuses { (s : State) (after : Transition) → unless s (refusals_of self.now names.now.names texts.now has_room) after ≡ refused_or s after result }
         ensures free { result ≡ None → IsFree self.now names.now.names texts.now has_room }
     {
-        if names.are_too_many(texts) {
+        if names.are_too_many(texts, self.most.names) {
             return Some(Refusal::Names);
         }
         if !has_room {

@@ -6,6 +6,8 @@ mod account_name;
 mod answerable;
 mod asking;
 mod counted;
+mod forgettable;
+mod given;
 mod line_length;
 mod loading;
 mod name_rows;

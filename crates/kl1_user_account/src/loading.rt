@@ -38,23 +38,24 @@ fn row_of(alloc: Global, names: &AccountNames, code: &Code) -> Result<Vec<CellNa
     Ok(row)
 }
 
-/// Why an account with these modules and names, whose journal may be full, refuses the module of a code whose names have
+/// Why an account with these modules and names, which may have `most` names and whose journal may be full, refuses the module of a code whose names have
 /// these numbers; nothing if it may be loaded.
 fn refusal_of<C: CodeSource>(
     modules: &Modules<C>,
     names: &AccountNames,
+    most: usize,
     is_full: bool,
     code: &Code,
     row: &[CellName],
 ) -> Option<Refusal>
     requires reads { ReadsDraft names.now.names (own_names code.now) row.now }
     requires rows { (f : Reading) → Fits names.now.names f → AreRead f modules.now.loaded }
-    ensures { (place : ℕ × ℕ) → DraftsAs modules.now.loaded names.now.names is_full (record { content = code.now; row = row.now; place = place }) result }
+    ensures { (place : ℕ × ℕ) → DraftsAs modules.now.loaded names.now.names most is_full (record { content = code.now; row = row.now; place = place }) result }
 {
     if modules.has(number_by(code, row)) {
         return Some(Refusal::Exists);
     }
-    if names.are_too_many(code.names()) {
+    if names.are_too_many(code.names(), most) {
         return Some(Refusal::Names);
     }
     if modules.len() >= MOST_MODULES {
@@ -72,6 +73,7 @@ fn draft_found<C: CodeSource>(
     modules: &Modules<C>,
     names: &AccountNames,
     codes: &C,
+    most: usize,
     is_full: bool,
     source: &[u8],
     found: C::Ref,
@@ -82,12 +84,12 @@ fn draft_found<C: CodeSource>(
     requires few { length source.now ≤ MOST_SOURCE_BYTES }
     requires of { C.has codes.now (C.place found) }
     requires module { read_module source.now ≡ good (C.meaning found) }
-    ensures loads { IfOk result (LoadsAs modules.now.loaded names.now.names is_full source.now) }
+    ensures loads { IfOk result (LoadsAs modules.now.loaded names.now.names most is_full source.now) }
     ensures stands { IfOk result (StandsIn (C.has codes.now)) }
 {
     let code = codes.code(&found);
     let row = row_of(alloc, names, code)?;
-    match refusal_of(modules, names, is_full, code, &row) {
+    match refusal_of(modules, names, most, is_full, code, &row) {
         Some(refusal) => Ok(Loading::Refused(refusal)),
         None => Ok(Loading::Drafted(Loaded::new(alloc, codes, found, row)?)),
     }
@@ -99,6 +101,7 @@ fn draft_new<C: CodeSource>(
     modules: &Modules<C>,
     names: &AccountNames,
     codes: &mut C,
+    most: usize,
     is_full: bool,
     source: &[u8],
 ) -> Result<Loading<C>, AllocError>
@@ -106,7 +109,7 @@ fn draft_new<C: CodeSource>(
     requires small { AreSmall names.now.names }
     requires rows { (f : Reading) → Fits names.now.names f → AreRead f modules.now.loaded }
     requires few { length source.now ≤ MOST_SOURCE_BYTES }
-    ensures loads { IfOk result (LoadsAs modules.now.loaded names.now.names is_full source.now) }
+    ensures loads { IfOk result (LoadsAs modules.now.loaded names.now.names most is_full source.now) }
     ensures stands { IfOk result (StandsIn (C.has codes.new)) }
     ensures same { (p : ℕ × ℕ) → C.has codes.old p ↔ C.has codes.new p }
 {
@@ -118,7 +121,7 @@ fn draft_new<C: CodeSource>(
         Err(CodeFault::Memory) => return Err(AllocError),
     };
     let row = row_of(alloc, names, &code)?;
-    match refusal_of(modules, names, is_full, &code, &row) {
+    match refusal_of(modules, names, most, is_full, &code, &row) {
         Some(refusal) => Ok(Loading::Refused(refusal)),
         None => {
             let pushed = codes.push(code)?;
@@ -127,20 +130,21 @@ fn draft_new<C: CodeSource>(
     }
 }
 
-/// Drafts the module of a source for an account with these modules and names, whose journal may be full. Its code is put
-/// in if it isn't found and the module isn't refused.
+/// Drafts the module of a source for an account with these modules and names, which may have `most` names and whose journal may be
+/// full. Its code is put in if it isn't found and the module isn't refused.
 pub(crate) fn draft_module<C: CodeSource>(
     alloc: Global,
     modules: &Modules<C>,
     names: &AccountNames,
     codes: &mut C,
+    most: usize,
     is_full: bool,
     source: &[u8],
 ) -> Result<Loading<C>, AllocError>
     requires names { AreNames names.now.names }
     requires small { AreSmall names.now.names }
     requires rows { (f : Reading) → Fits names.now.names f → AreRead f modules.now.loaded }
-    ensures loads { IfOk result (LoadsAs modules.now.loaded names.now.names is_full source.now) }
+    ensures loads { IfOk result (LoadsAs modules.now.loaded names.now.names most is_full source.now) }
     ensures stands { IfOk result (StandsIn (C.has codes.new)) }
     ensures same { (p : ℕ × ℕ) → C.has codes.old p ↔ C.has codes.new p }
 {
@@ -148,8 +152,8 @@ pub(crate) fn draft_module<C: CodeSource>(
         return Ok(Loading::Refused(Refusal::Syntax));
     }
     match codes.find(source) {
-        Some(found) => draft_found(alloc, modules, names, codes, is_full, source, found),
-        None => draft_new(alloc, modules, names, codes, is_full, source),
+        Some(found) => draft_found(alloc, modules, names, codes, most, is_full, source, found),
+        None => draft_new(alloc, modules, names, codes, most, is_full, source),
     }
 }
 

@@ -1,11 +1,12 @@
 -- What messages to a shoen make of drafts, and the child that opens.
-use Rattle.kl1_user_effects.proofs.Words.{◌≡◌, ℕ, ◌&&◌, true, false, if◌then◌else◌, Bool, List, [], ◌∷◌, map, inl, inr, ap, Some, State, change_shoen, is_living, report, stopped_report, resumed_report, grown, stopped_of, resumed_of, CellName, Cell, Held, Shoen, is_on_path_in, aborted_below_in, Means, shoen_with, AreShoensIn, cases_Bool, ExecuteArguments, Goal, IsOrder, Living, None, length, suc}
+use Rattle.kl1_user_effects.proofs.Words.{◌≡◌, ℕ, ◌&&◌, true, false, if◌then◌else◌, Bool, List, [], ◌∷◌, map, inl, inr, ap, Some, State, change_shoen, is_living, report, stopped_report, resumed_report, grown, stopped_of, resumed_of, CellName, Cell, Held, Shoen, is_on_path_in, aborted_below_in, Means, shoen_with, AreShoensIn, cases_Bool, ExecuteArguments, Goal, IsOrder, Living, None, length, suc, Rules, left_by}
+use Rattle.kl1_user_effects.proofs.Leaving.{control_in}
 
-pub aborted_in : (h : Held CellName) (all : List (Shoen CellName)) (n : ℕ) (ss : List (Shoen CellName)) → AreShoensIn h ss → AreShoensIn h (map (aborted_below_in all n) ss)
-aborted_in h all n [] i = tt
-aborted_in h all n (s ∷ ss) i = elim (cases_Bool (is_living s.life && is_on_path_in all n s.number)) [
-  | inl p ↦ rw p (record { control = i.0.control; tail = i.0.tail; origin = i.0.origin; low = i.0.low; high = i.0.high }, aborted_in h all n ss i.1)
-  | inr p ↦ rw p (i.0, aborted_in h all n ss i.1)
+pub aborted_in : (rules : Rules) (h : Held CellName) (all : List (Shoen CellName)) (n : ℕ) (ss : List (Shoen CellName)) → AreShoensIn h ss → AreShoensIn h (map (aborted_below_in (left_by rules) all n) ss)
+aborted_in rules h all n [] i = tt
+aborted_in rules h all n (s ∷ ss) i = elim (cases_Bool (is_living s.life && is_on_path_in all n s.number)) [
+  | inl p ↦ rw p (record { control = control_in rules h s i.0; tail = i.0.tail; origin = i.0.origin; low = i.0.low; high = i.0.high }, aborted_in rules h all n ss i.1)
+  | inr p ↦ rw p (i.0, aborted_in rules h all n ss i.1)
 ]
 
 -- a shoen that is stopped, or not

@@ -1,5 +1,5 @@
 -- What stays of shoens through what goals do and monitors read.
-use Rattle.kl1_user_effects.proofs.Words.{◌≡◌, ℕ, suc, ◌+◌, ◌<◌, ◌≤◌, ◌==◌, List, [], ◌∷◌, ◌++◌, length, refl, inl, inr, sym, ap, ◌∙◌, arith, find, Some, option_map, OnOk, Result, Ok, Err, eqb-false, CellName, Cell, Shoen, Tree, has_number, changed, AreNumbered, KeepsBy, plain, IsCalm, cases_Bool, None, map, if◌then◌else◌, KeepsOthers, KeepsOutlines, Option, Variable, aborted_below_in, eqb-true, is_living, is_on_path_in, ne_eqb, outline, ◌&&◌}
+use Rattle.kl1_user_effects.proofs.Words.{◌≡◌, ℕ, suc, ◌+◌, ◌<◌, ◌≤◌, ◌==◌, List, [], ◌∷◌, ◌++◌, length, refl, inl, inr, sym, ap, ◌∙◌, arith, find, Some, option_map, OnOk, Result, Ok, Err, eqb-false, CellName, Cell, Shoen, Tree, has_number, changed, AreNumbered, KeepsBy, plain, IsCalm, cases_Bool, None, map, if◌then◌else◌, KeepsOthers, KeepsOutlines, Option, Variable, eqb-true, ne_eqb, outline, Rules, leaving}
 
 pub keeps_map : (f g : Shoen CellName → Shoen CellName) → ((h : Shoen CellName) → f (g h) ≡ f h) → (ss : List (Shoen CellName)) → KeepsBy f ss (map g ss)
 keeps_map f g e [] = tt
@@ -47,8 +47,8 @@ calm_controlled n x t u is = rw is (record { shoens = keeps_changed plain (λ h.
 pub outlines_controlled : (n : ℕ) (x : Cell CellName) (t u : Tree CellName) → u ≡ record t { shoens = changed n (λ h. record h { control = x }) t.shoens } → KeepsOutlines n t.shoens u.shoens
 outlines_controlled n x t u is = rw is (keeps_map (outline n) (λ h. if has_number n h then record h { control = x } else h) (λ h. elim (cases_Bool (has_number n h)) [ inl p ↦ rw (p, p) | inr p ↦ rw (p, p) ]) t.shoens)
 
-pub outlines_aborted : (n m : ℕ) (t u : Tree CellName) → u ≡ record t { shoens = map (aborted_below_in t.shoens m) t.shoens } → KeepsOutlines n t.shoens u.shoens
-outlines_aborted n m t u is = rw is (keeps_map (outline n) (aborted_below_in t.shoens m) (λ h. elim (cases_Bool (is_living h.life && is_on_path_in t.shoens m h.number)) [ inl p ↦ rw p | inr p ↦ rw p ]) t.shoens)
+pub outlines_leaving : (rules : Rules) (n : ℕ) (ss : List (Shoen CellName)) → KeepsOutlines n ss (changed n (leaving rules) ss)
+outlines_leaving rules n ss = keeps_map (outline n) (λ h. if has_number n h then leaving rules h else h) (λ h. elim (cases_Bool (has_number n h)) [ inl p ↦ rw (p, p) | inr p ↦ rw (p, p) ]) ss
 
 pub found_number : (a : ℕ) (ss : List (Shoen CellName)) (h : Shoen CellName) → find (has_number a) ss ≡ Some h → h.number ≡ a
 found_number a [] h e = absurd (cc)

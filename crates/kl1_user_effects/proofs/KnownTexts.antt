@@ -1,5 +1,5 @@
 -- The texts of names that are known, and lists of texts put to them.
-use Rattle.kl1_user_effects.proofs.Words.{◌≡◌, ℕ, ◌+◌, ◌<◌, ◌≤◌, Bool, true, false, cond, ◌||◌, List, [], ◌∷◌, ◌++◌, length, take, get_or, is_some, bytes_eq, refl, sym, ap, ◌∙◌, inl, inr, arith, length-append, length-take, drop, list_any, cases_Bool, or_cases, take_more, get_or-take, get_or_default, map-append, length-map, take-append-drop, list_any-append, bytes_eq-Decides, AtomNo, built_in_of, Known, number_in, number_by, added, option_cases, is_of_language, with_text, with_texts, IsNameList, all_grow, with_none, with_more, with_one, with_both, found_in_language, missed_in_language, texts_of, Contains-from_any, or_from, or_parts, CellName, Held, IsMadeIn, MOST_NAMES, Made, Module, Numbered, State, Turns, add-one, false_from_ne_true, false≢true, keeps_names, length_push, names_of_module, nat_le, nat_lt, option_map, or-true, with_name, with_names, worked, AreKnown, HashMap, bytes_eq_comm, insert_entry, insert_entry-new, known_of, lookup, map, subst}
+use Rattle.kl1_user_effects.proofs.Words.{◌≡◌, ℕ, ◌+◌, ◌<◌, ◌≤◌, Bool, true, false, cond, ◌||◌, List, [], ◌∷◌, ◌++◌, length, take, get_or, is_some, bytes_eq, refl, sym, ap, ◌∙◌, inl, inr, arith, length-append, length-take, drop, list_any, cases_Bool, or_cases, take_more, get_or-take, get_or_default, map-append, length-map, take-append-drop, list_any-append, bytes_eq-Decides, AtomNo, built_in_of, Known, number_in, number_by, added, option_cases, is_of_language, with_text, with_texts, IsNameList, all_grow, with_none, with_more, with_one, with_both, found_in_language, missed_in_language, texts_of, Contains-from_any, or_from, or_parts, CellName, Held, IsMadeIn, Made, Module, Numbered, State, Turns, add-one, false_from_ne_true, false≢true, keeps_names, length_push, names_of_module, nat_le, nat_lt, option_map, or-true, with_name, with_names, worked, AreKnown, HashMap, bytes_eq_comm, insert_entry, insert_entry-new, known_of, lookup, map, subst}
 use Rattle.std.proofs.Common.{Option, Some, None}
 use Rattle.kl1_user_effects.proofs.Lists.{all_append}
 
@@ -261,16 +261,16 @@ named_turns ms h w text names i e = record {
 
 -- ---- whether there is room for a name
 
-pub room_known : (known : List Known) (text : List ℕ) (o : Option CellName) (v : CellName) (len : ℕ) → option_map (λ (c : CellName). c.number) o ≡ number_by known text → o ≡ Some v → len ≡ length known → nat_le len MOST_NAMES ≡ keeps_names known text
-room_known known text o v len number is len_is =
+pub room_known : (most : ℕ) (known : List Known) (text : List ℕ) (o : Option CellName) (v : CellName) (len : ℕ) → option_map (λ (c : CellName). c.number) o ≡ number_by known text → o ≡ Some v → len ≡ length known → nat_le len most ≡ keeps_names most known text
+room_known most known text o v len number is len_is =
     let e : number_by known text ≡ Some v.number = sym number ∙ ap (option_map (λ (c : CellName). c.number)) is in
-    ap (λ n. nat_le n MOST_NAMES) (len_is ∙ sym (length-map known (λ (k : Known). k.text)))
-    ∙ ap (λ (l : List (List ℕ)). nat_le (length l) MOST_NAMES) (sym (known_named known text v.number e))
+    ap (λ n. nat_le n most) (len_is ∙ sym (length-map known (λ (k : Known). k.text)))
+    ∙ ap (λ (l : List (List ℕ)). nat_le (length l) most) (sym (known_named known text v.number e))
 
-pub room_new : (known : List Known) (text : List ℕ) (o : Option CellName) (len : ℕ) → option_map (λ (c : CellName). c.number) o ≡ number_by known text → o ≡ None → len ≡ length known → nat_lt len MOST_NAMES ≡ keeps_names known text
-room_new known text o len number is len_is =
+pub room_new : (most : ℕ) (known : List Known) (text : List ℕ) (o : Option CellName) (len : ℕ) → option_map (λ (c : CellName). c.number) o ≡ number_by known text → o ≡ None → len ≡ length known → nat_lt len most ≡ keeps_names most known text
+room_new most known text o len number is len_is =
     let e : number_by known text ≡ None = sym number ∙ ap (option_map (λ (c : CellName). c.number)) is in
-    ap (λ n. nat_le n MOST_NAMES) (sym (add-one len))
-    ∙ ap (λ n. nat_le (n + 1) MOST_NAMES) (len_is ∙ sym (length-map known (λ (k : Known). k.text)))
-    ∙ ap (λ n. nat_le n MOST_NAMES) (sym (length_push (texts_of known) text))
-    ∙ ap (λ (l : List (List ℕ)). nat_le (length l) MOST_NAMES) (sym (new_named known text e))
+    ap (λ n. nat_le n most) (sym (add-one len))
+    ∙ ap (λ n. nat_le (n + 1) most) (len_is ∙ sym (length-map known (λ (k : Known). k.text)))
+    ∙ ap (λ n. nat_le n most) (sym (length_push (texts_of known) text))
+    ∙ ap (λ (l : List (List ℕ)). nat_le (length l) most) (sym (new_named known text e))

@@ -1,8 +1,11 @@
 -- A variable becomes a name before what comes after a goal's effects, or after that: it makes no difference.
-use Rattle.kl1_user_effects.proofs.Words.{◌≡◌, ℕ, suc, ◌≤◌, ◌==◌, ◌||◌, not, ◌&&◌, Bool, true, false, if◌then◌else◌, List, [], ◌∷◌, refl, sym, ap, ap₂, ◌∙◌, arith, inl, inr, codes, count_by, Option, Some, None, option_map, unwrap_or, cases_Bool, ne_eqb, map-map, is_among, Term, variable, atom, structure, Terms, none, more, occurs, replace, replace_each, nil, cell, monitor, reduces, substitutes, State, shoen_at, replace_in_task, replace_in_goal, replace_in_origin, replace_in_shoen, replace_in_state, change_shoen, is_living, parents_of, path_within, path, is_living_child, broken_at, has_made_last, report_tail, reported_on, reported_at, report, report_each, closed_at, close, exhausted_report, terminated_report, report_of, close_of, has_goal, has_living_child, lives, ends_now, without_monitor, ended_at, ending_of, has_reached, newly_exhausted, after_reduction, ended_each, is_variable, is_tail_of, report_late, report_each_late, close_late, finished_late, finished_each_late, settle_charged_late}
+use Rattle.kl1_user_effects.proofs.Words.{◌≡◌, ℕ, suc, ◌≤◌, ◌==◌, ◌||◌, not, ◌&&◌, Bool, true, false, if◌then◌else◌, List, [], ◌∷◌, refl, sym, ap, ap₂, ◌∙◌, arith, inl, inr, codes, count_by, Option, Some, None, option_map, unwrap_or, cases_Bool, ne_eqb, map-map, is_among, Term, variable, atom, structure, Terms, none, more, occurs, replace, replace_each, nil, cell, monitor, reduces, substitutes, State, shoen_at, replace_in_task, replace_in_goal, replace_in_origin, replace_in_shoen, replace_in_state, change_shoen, is_living, parents_of, path_within, path, is_living_child, broken_at, has_made_last, report_tail, reported_on, reported_at, report, report_each, closed_at, close, exhausted_report, terminated_report, report_of, close_of, has_goal, has_living_child, lives, ends_now, without_monitor, ending_of, has_reached, newly_exhausted, after_reduction, ended_each, left_at, life_at, Rules, has_forgetting, is_variable, is_tail_of, report_late, report_each_late, close_late, finished_late, finished_each_late, settle_charged_late}
 use Rattle.std.proofs.Common.{eqb-true}
 use Rattle.std.specs.Prelude.{map}
 use Rattle.kl1_model.specs.State.{Task, Goal, Origin, Shoen, is_monitor}
+use Rattle.kl1_model.specs.Ending.{control_left}
+use Rattle.kl1_user_effects.proofs.Leaving.{broken_as, left_as}
+use Rattle.kl1_user_effects.proofs.Lives.{ending_lives, ending_is_lives}
 use Rattle.kl1_user_effects.proofs.Apart.{change_replaced, replace_ended, settles_apart}
 use Rattle.kl1_user_effects.proofs.Lists.{maps_both, find_by, any_by, filter_each, found_by}
 
@@ -47,12 +50,23 @@ swapped_state v w a u e s =
 pub found_replaced : (n v : ℕ) (t : Term) (hs : List Shoen) → shoen_at n (map (replace_in_shoen v t) hs) ≡ option_map (replace_in_shoen v t) (shoen_at n hs)
 found_replaced n v t hs = find_by (replace_in_shoen v t) (λ h. h.number == n) (λ h. h.number == n) (λ h. refl) hs
 
--- a shoen with its report stream broken
-abbrev no_more : Shoen → Shoen
-no_more h = record h { is_broken = true }
+-- a stream on which nothing is told any more, or not
+nil_or : (v : ℕ) (t : Term) (b : Bool) (x : Term) → replace v t (if b then nil else x) ≡ (if b then nil else replace v t x)
+nil_or v t true x = refl
+nil_or v t false x = refl
 
 broken_replaced : (n v : ℕ) (t : Term) (s : State) → replace_in_state v t (broken_at n s) ≡ broken_at n (replace_in_state v t s)
-broken_replaced n v t s = change_replaced n v t no_more no_more s (λ h. refl)
+broken_replaced n v t s =
+    change_replaced n v t (broken_as s.rules) (broken_as s.rules) s (λ h. ap (λ x. let z : Shoen = record (replace_in_shoen v t h) { is_broken = true; tail = x } in z) (nil_or v t (has_forgetting s.rules) h.tail))
+
+-- what is left of a control stream
+control_replaced : (v : ℕ) (t : Term) (rules : Rules) (o : Option Origin) (x : Term) → replace v t (control_left rules o x) ≡ control_left rules (option_map (replace_in_origin v t) o) (replace v t x)
+control_replaced v t rules None x = nil_or v t (has_forgetting rules) x
+control_replaced v t rules (Some o) x = refl
+
+left_replaced : (n v : ℕ) (t : Term) (s : State) → replace_in_state v t (left_at n s) ≡ left_at n (replace_in_state v t s)
+left_replaced n v t s =
+    change_replaced n v t (left_as s.rules) (left_as s.rules) s (λ h. ap (λ x. let z : Shoen = record (replace_in_shoen v t h) { control = x } in z) (control_replaced v t s.rules h.origin h.control))
 
 -- ---- reports
 
@@ -128,7 +142,7 @@ close_replaced n v a s = ap (λ o. close_of o (replace_in_state v (atom a) s)) (
 -- lives end before a variable is replaced or after that
 pub ends_replaced : (ns : List ℕ) (v : ℕ) (t : Term) (s : State) → ended_each ns (replace_in_state v t s) ≡ replace_in_state v t (ended_each ns s)
 ends_replaced [] v t s = refl
-ends_replaced (n ∷ ns) v t s = ap (ended_each ns) (sym (replace_ended n v t s)) ∙ ends_replaced ns v t (ended_at n s)
+ends_replaced (n ∷ ns) v t s = ap (ended_each ns) (sym (replace_ended n v t s)) ∙ ends_replaced ns v t (life_at n s)
 
 monitor_task : (v : ℕ) (t : Term) (k : Task) → is_monitor (replace_in_task v t k) ≡ is_monitor k
 monitor_task v t monitor = refl
@@ -155,12 +169,15 @@ ends_now_replaced n v t s =
     let children : has_living_child n (replace_in_state v t s) ≡ has_living_child n s = any_by (replace_in_shoen v t) (is_living_child n) (is_living_child n) (λ h. refl) s.shoens in
     ap₂ (λ b c. b && not c && not (has_living_child n (replace_in_state v t s))) (lives_replaced n v t s) goals ∙ ap (λ b. lives n s && not (has_goal n s) && not b) children
 
+lives_replaced_each : (ns : List ℕ) (v : ℕ) (t : Term) (s : State) → ending_lives ns (replace_in_state v t s) ≡ ending_lives ns s
+lives_replaced_each [] v t s = refl
+lives_replaced_each (n ∷ ns) v t s =
+    ap (λ c. if c then n ∷ ending_lives ns (life_at n (replace_in_state v t s)) else ending_lives ns (replace_in_state v t s)) (ends_now_replaced n v t s)
+    ∙ ap₂ (λ (xs ys : List ℕ). if ends_now n s then n ∷ xs else ys) (ap (ending_lives ns) (sym (replace_ended n v t s)) ∙ lives_replaced_each ns v t (life_at n s)) (lives_replaced_each ns v t s)
+
 -- which shoens terminate doesn't depend on terms
 pub ending_replaced : (ns : List ℕ) (v : ℕ) (t : Term) (s : State) → ending_of ns (replace_in_state v t s) ≡ ending_of ns s
-ending_replaced [] v t s = refl
-ending_replaced (n ∷ ns) v t s =
-    ap (λ c. if c then n ∷ ending_of ns (ended_at n (replace_in_state v t s)) else ending_of ns (replace_in_state v t s)) (ends_now_replaced n v t s)
-    ∙ ap₂ (λ (xs ys : List ℕ). if ends_now n s then n ∷ xs else ys) (ap (ending_of ns) (sym (replace_ended n v t s)) ∙ ending_replaced ns v t (ended_at n s)) (ending_replaced ns v t s)
+ending_replaced ns v t s = ending_is_lives ns (replace_in_state v t s) ∙ lives_replaced_each ns v t s ∙ sym (ending_is_lives ns s)
 
 has_reached_replaced : (n v : ℕ) (t : Term) (s : State) → has_reached (replace_in_state v t s) n ≡ has_reached s n
 has_reached_replaced n v t s =
@@ -202,8 +219,9 @@ close_more_of (Some h) last s le = more_if h.is_broken last s (closed_at h.tail 
 
 finished_more : (v n last : ℕ) (s : State) → last ≤ s.last_variable → last ≤ (finished_late (Some v) n s).last_variable
 finished_more v n last s le =
-    let z = report_late (Some v) n terminated_report (without_monitor n s) in
-    let told = report_late_more v n last terminated_report (without_monitor n s) le in
+    let left = left_at n (without_monitor n s) in
+    let z = report_late (Some v) n terminated_report left in
+    let told = report_late_more v n last terminated_report left le in
     more_if (is_tail_of v (shoen_at n z.shoens)) last z (close n z) told (close_more_of (shoen_at n z.shoens) last z told)
 
 reports_more : (ns : List ℕ) (v last : ℕ) (message : Term) (s : State) → last ≤ s.last_variable → last ≤ (report_each_late (Some v) ns message s).last_variable
@@ -212,7 +230,7 @@ reports_more (n ∷ ns) v last message s le = reports_more ns v last message (re
 
 ends_more : (ns : List ℕ) (last : ℕ) (s : State) → last ≤ s.last_variable → last ≤ (ended_each ns s).last_variable
 ends_more [] last s le = le
-ends_more (n ∷ ns) last s le = ends_more ns last (ended_at n s) le
+ends_more (n ∷ ns) last s le = ends_more ns last (life_at n s) le
 
 -- ---- all of it
 
@@ -225,9 +243,12 @@ reports_replaced (n ∷ ns) v a b s le =
 -- what is left of a termination, before a variable becomes a name or after that
 pub finish_replaced : (n v : ℕ) (a : List ℕ) (s : State) → v ≤ s.last_variable → finished_late None n (replace_in_state v (atom a) s) ≡ replace_in_state v (atom a) (finished_late (Some v) n s)
 finish_replaced n v a s le =
-    ap (λ (z : State). close n (report n terminated_report z)) (monitor_replaced n v (atom a) s)
-    ∙ ap (close n) (report_replaced n v a (codes "terminated") (without_monitor n s) le)
-    ∙ close_replaced n v a (report_late (Some v) n terminated_report (without_monitor n s))
+    let gone = without_monitor n s in
+    let left = left_at n gone in
+    ap (λ (z : State). close n (report n terminated_report (left_at n z))) (monitor_replaced n v (atom a) s)
+    ∙ ap (λ (z : State). close n (report n terminated_report z)) (sym (left_replaced n v (atom a) gone))
+    ∙ ap (close n) (report_replaced n v a (codes "terminated") left le)
+    ∙ close_replaced n v a (report_late (Some v) n terminated_report left)
 
 -- what is left of terminations of shoens, in order, before a variable becomes a name or after that
 pub finishes_replaced : (ns : List ℕ) (v : ℕ) (a : List ℕ) (s : State) → v ≤ s.last_variable → finished_each_late None ns (replace_in_state v (atom a) s) ≡ replace_in_state v (atom a) (finished_each_late (Some v) ns s)

@@ -1,5 +1,7 @@
 pub mod Lists
 pub mod States
+pub mod Leaving
+pub mod Lives
 pub mod Works
 pub mod Goals
 pub mod Streams

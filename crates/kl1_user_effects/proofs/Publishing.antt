@@ -1,5 +1,5 @@
 -- Texts looked up one after another in a table of names.
-use Rattle.kl1_user_effects.proofs.Words.{◌≡◌, ℕ, ◌+◌, ◌<◌, ◌≤◌, ◌^◌, List, [], ◌∷◌, ◌++◌, length, map, take, get_or, refl, sym, ap, ap₂, ◌∙◌, subst, inl, inr, arith, length-map, map-append, length_push, MOST_NAMES, AtomNo, CellName, Known, number_by, added, Adds, HasRoom, option_cases, publishes_same, publishes_then, with_text, with_texts, with_none, texts_of, AreSmall, AreNumbersOf, Grows, Keeps, Fits, Reading}
+use Rattle.kl1_user_effects.proofs.Words.{◌≡◌, ℕ, ◌+◌, ◌<◌, ◌≤◌, ◌^◌, List, [], ◌∷◌, ◌++◌, length, map, take, get_or, refl, sym, ap, ap₂, ◌∙◌, subst, inl, inr, arith, length-map, map-append, length_push, AtomNo, CellName, Known, number_by, added, Adds, HasRoom, option_cases, publishes_same, publishes_then, with_text, with_texts, with_none, texts_of, AreSmall, AreNumbersOf, Grows, Keeps, Fits, Reading}
 use Rattle.std.proofs.Common.{Some}
 use Rattle.kl1_user_effects.proofs.KnownTexts.{added_new, no_text, next_text, put_more, not_there}
 use Rattle.kl1_user_effects.proofs.Lists.{all_append}
@@ -37,8 +37,8 @@ numbered_more now new texts row t c grows own numbered f fits =
     map-append f row (c ∷ []) ∙ ap₂ (λ (xs : List (List ℕ)) (x : List ℕ). xs ++ x ∷ []) (numbered f (fits_less now new grows f fits)) (fits.texts t c.number own)
 
 -- there is room for the next text, if there is room for all
-pub has_room : (first : List Known) (texts : List (List ℕ)) (i : ℕ) (now : List Known) (row : List CellName) (t : List ℕ) → i < length texts → t ≡ get_or texts i t → length (with_texts (texts_of first) texts) ≤ MOST_NAMES → Published first texts i now row → HasRoom now t
-has_room first texts i now row t within is few p = elim (option_cases (number_by now t)) [
+pub has_room : (room : ℕ) (first : List Known) (texts : List (List ℕ)) (i : ℕ) (now : List Known) (row : List CellName) (t : List ℕ) → i < length texts → t ≡ get_or texts i t → length (with_texts (texts_of first) texts) ≤ room → Published first texts i now row → HasRoom room now t
+has_room room first texts i now row t within is few p = elim (option_cases (number_by now t)) [
   | inl none ↦
       let n = no_text now t none in
       let next : with_texts (texts_of first) (take (i + 1) texts) ≡ texts_of now ++ t ∷ [] =
@@ -52,7 +52,7 @@ has_room first texts i now row t within is few p = elim (option_cases (number_by
 
 -- ---- what calls leave of a table and of a seat
 
-module _ {T S : Type 0} (is_of : T → S → Type 0) (place : S → ℕ × ℕ) (knows : S → List Known) (published : S → ℕ) where
+module _ {T S : Type 0} (is_of : T → S → Type 0) (place : S → (ℕ × ℕ) × ℕ) (knows : S → List Known) (published : S → ℕ) where
   pub keeps_same : (table : T) (seat : S) → is_of table seat → Keeps is_of place knows published table table seat seat
   keeps_same table seat of = record { of = of; stays = refl; others = λ other o ne. o; grows = λ t n e. e; publishes = publishes_same (published seat) (knows seat) }
 

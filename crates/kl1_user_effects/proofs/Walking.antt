@@ -1,7 +1,8 @@
 -- Paths, charges and ends of shoens as they are kept, and as the definitions have them.
-use Rattle.kl1_user_effects.proofs.Words.{◌≡◌, ℕ, ◌-◌, ◌==◌, not, ◌&&◌, false, if◌then◌else◌, List, [], ◌∷◌, map, refl, ap, ap₂, ◌∙◌, inl, inr, option_map, unwrap_or, find, count_by, list_any, Terminated, is_among, State, is_living, parents_of, path_within, path, charged_of, has_living_child, lives, ends_now, ended_at, ending_of, has_reached, newly_exhausted, CellName, Held, is_goal_of, Shoen, has_number, changed, parents_in, path_in, charged_in, is_living_child_of, lives_in, has_reached_in, Numbered, Reading, Means, meaning, shoen_with, Made, worked, IsMadeIn, Turns, ended_each, terminated, ends_in, ending_in, ended_in, reached_in, cases_Bool, map-map, Bool, EndsLives, EndsOne, Goal, Tree, append-nil, append_assoc, sym, true, ◌++◌}
+use Rattle.kl1_user_effects.proofs.Words.{◌≡◌, ℕ, ◌-◌, ◌==◌, not, ◌&&◌, false, if◌then◌else◌, List, [], ◌∷◌, map, refl, ap, ap₂, ◌∙◌, inl, inr, option_map, unwrap_or, find, count_by, list_any, Terminated, is_among, State, is_living, parents_of, path_within, path, charged_of, has_living_child, lives, ends_now, ending_of, has_reached, newly_exhausted, CellName, Held, is_goal_of, Shoen, has_number, changed, parents_in, path_in, charged_in, is_living_child_of, lives_in, has_reached_in, Numbered, Reading, Means, meaning, shoen_with, Made, worked, IsMadeIn, Turns, ended_each, life_at, terminated, ends_in, ending_in, ended_in, reached_in, cases_Bool, map-map, Bool, EndsLives, EndsOne, Goal, Tree, append-nil, append_assoc, sym, true, ◌++◌}
 use Rattle.kl1_model.specs.State as model
 use Rattle.kl1_model.specs.Tree as model_tree
+use Rattle.kl1_user_effects.proofs.Lives.{ending_lives, ending_is_lives}
 use Rattle.kl1_user_effects.proofs.Works.{with_changed, changes, turns_then, changed_turns, turns_none}
 use Rattle.kl1_user_effects.proofs.Goals.{has_goal_read}
 use Rattle.kl1_user_effects.proofs.Lists.{maps_as, any_by, found_by}
@@ -45,15 +46,18 @@ ends_read f s h w n =
     ap₂ (λ b c. b && not c && not (has_living_child n (worked f s h w))) (lives_read f s h w n) (has_goal_read (meaning f h) n w.goals)
     ∙ ap (λ b. lives_in w.shoens n && not (list_any (is_goal_of n) w.goals) && not b) (any_by (shoen_with (meaning f h)) (model_tree.is_living_child n) (is_living_child_of n) (λ x. refl) w.shoens)
 
-pub ended_read : (f : Reading) (s : State) (h : Held CellName) (w : Made) (n : ℕ) → ended_at n (worked f s h w) ≡ worked f s h (with_changed n terminated w)
+pub ended_read : (f : Reading) (s : State) (h : Held CellName) (w : Made) (n : ℕ) → life_at n (worked f s h w) ≡ worked f s h (with_changed n terminated w)
 ended_read f s h w n = changes s (meaning f h) (h.variables - 1) w n terminated (λ x. record x { life = Terminated }) (λ x. refl)
+
+lives_end : (f : Reading) (s : State) (h : Held CellName) (ns : List ℕ) (w : Made) → ending_lives ns (worked f s h w) ≡ ending_in w.goals ns w.shoens
+lives_end f s h [] w = refl
+lives_end f s h (n ∷ ns) w =
+    ap (λ b. if b then n ∷ ending_lives ns (life_at n (worked f s h w)) else ending_lives ns (worked f s h w)) (ends_read f s h w n)
+    ∙ ap₂ (λ (xs ys : List ℕ). if ends_in w.goals w.shoens n then n ∷ xs else ys) (ap (ending_lives ns) (ended_read f s h w n) ∙ lives_end f s h ns (with_changed n terminated w)) (lives_end f s h ns w)
 
 -- those that terminate are those of the definitions
 pub ending_read : (f : Reading) (s : State) (h : Held CellName) (ns : List ℕ) (w : Made) → ending_of ns (worked f s h w) ≡ ending_in w.goals ns w.shoens
-ending_read f s h [] w = refl
-ending_read f s h (n ∷ ns) w =
-    ap (λ b. if b then n ∷ ending_of ns (ended_at n (worked f s h w)) else ending_of ns (worked f s h w)) (ends_read f s h w n)
-    ∙ ap₂ (λ (xs ys : List ℕ). if ends_in w.goals w.shoens n then n ∷ xs else ys) (ap (ending_of ns) (ended_read f s h w n) ∙ ending_read f s h ns (with_changed n terminated w)) (ending_read f s h ns w)
+ending_read f s h ns w = ending_is_lives ns (worked f s h w) ∙ lives_end f s h ns w
 
 -- what is made with these shoens terminated
 abbrev pub with_ended : List ℕ → Made → Made
@@ -63,7 +67,7 @@ pub ends_turn : (ms : List Numbered) (h : Held CellName) (ns : List ℕ) (w : Ma
 ends_turn ms h [] w i = turns_none ms (λ f s. s) h w i (λ f knows s. refl)
 ends_turn ms h (n ∷ ns) w i =
     let first = changed_turns ms h w n terminated (λ x. record x { life = Terminated }) i (λ s a. record { control = a.control; tail = a.tail; origin = a.origin; low = a.low; high = a.high }) (λ f s. refl) in
-    turns_then ms (λ f. ended_at n) (λ f. ended_each ns) h h h w (with_changed n terminated w) (with_ended (n ∷ ns) w) first (ends_turn ms h ns (with_changed n terminated w) first.inside)
+    turns_then ms (λ f. life_at n) (λ f. ended_each ns) h h h w (with_changed n terminated w) (with_ended (n ∷ ns) w) first (ends_turn ms h ns (with_changed n terminated w) first.inside)
 
 -- ---- who has reached its allowance
 

@@ -32,7 +32,7 @@ pub use Rattle.kl1_model.specs.Nodes.{goals_nodes}
 pub use Rattle.kl1_model.specs.Reduction.{committed, equation, goals_from, grown, has_room_for, raised, replaced_by, substituted_by, unified}
 pub use Rattle.kl1_model.specs.Report.{broken_at, close, closed_at, exception, exception_with, exhausted_report, failure, has_made_last, is_reported, report, report_each, report_tail, reported_at, reported_on, resumed_report, stopped_report, terminated_report}
 pub use Rattle.kl1_model.specs.Sending.{is_message, send_living, send_to, sent_on}
-pub use Rattle.kl1_model.specs.State.{State, change_shoen, has_substitutes, is_living, limits_of, monitor, names_of_module, reduces, replace_all, replace_in_goal, replace_in_origin, replace_in_shoen, replace_in_state, replace_in_task, shoen_at, substitutes, with_name, with_names}
+pub use Rattle.kl1_model.specs.State.{State, change_shoen, has_forgetting, has_substitutes, is_living, limits_of, monitor, names_of_module, reduces, replace_all, replace_in_goal, replace_in_origin, replace_in_shoen, replace_in_state, replace_in_task, shoen_at, substitutes, with_name, with_names}
 pub use Rattle.kl1_model.specs.Step.{step}
 pub use Rattle.kl1_model.specs.Term.{Replacement, Term, Terms, atom, integer, more, none, occurs, replace, replace_each, structure, variable}
 pub use Rattle.kl1_model.specs.Text.{is_built_in, text_of}
@@ -42,10 +42,10 @@ pub use Rattle.kl1_model.specs.Unify.{mgu}
 pub use Rattle.kl1_model.specs.code.Steps.{clipped, close_of, is_reported_at, is_reported_of, priority_of, report_of, resumed_of, stopped_of}
 pub use Rattle.kl1_model.specs.code.Unifying.{replaced}
 pub use Rattle.kl1_model.specs.declared.built_in.BuiltIn.{BuiltIn}
-pub use Rattle.kl1_model.specs.declared.built_in.BuiltIn.TheVariants.{Colon}
+pub use Rattle.kl1_model.specs.declared.built_in.BuiltIn.TheVariants.{Colon, EmptyList}
 pub use Rattle.kl1_model.specs.declared.life.Life.TheVariants.{Aborted, Living, Terminated}
 pub use Rattle.kl1_model.specs.declared.limits.Limits.{Limits}
-pub use Rattle.kl1_model.specs.declared.limits.TheConstants.{MONITOR_PRIORITY, MOST_NAMES}
+pub use Rattle.kl1_model.specs.declared.limits.TheConstants.{MONITOR_PRIORITY}
 pub use Rattle.kl1_model.specs.declared.message.Message.{Message}
 pub use Rattle.kl1_model.specs.declared.rules.Rules.{Rules}
 pub use Rattle.kl1_text.proofs.BuiltInLaws.{of_text, place-below, place_found}
@@ -97,7 +97,7 @@ pub use Rattle.kl1_stream.specs.Exceptions.{IsException, IsExceptionWith}
 pub use Rattle.kl1_stream.specs.Reports.{Breaks, ClosedAs, EndsAt, HasSent, ToldAs}
 pub use Rattle.kl1_stream.specs.declared.told.Told.{Told}
 pub use Rattle.kl1_stream.specs.declared.told.Told.TheVariants.{Broken, Dropped, Sent}
-pub use Rattle.kl1_shoen.specs.Shoens.{AreBelow, AreNumbered, Tree, aborted_below_in, changed, charged_in, has_number, has_reached_in, is_living_child_of, is_on_path_in, lives_in, parents_in, path_in, shoen_in}
+pub use Rattle.kl1_shoen.specs.Shoens.{AreBelow, AreNumbered, Tree, aborted_below_in, changed, charged_in, control_left, has_number, has_reached_in, is_living_child_of, is_on_path_in, lives_in, parents_in, path_in, shoen_in}
 pub use Rattle.kl1_goals_moves.specs.Bodies.{AreNeeds, IsBody}
 pub use Rattle.kl1_goals_moves.specs.Kinds.{IsKind}
 pub use Rattle.kl1_goals_moves.specs.Orders.{IsOrder}
@@ -108,7 +108,7 @@ pub use Rattle.kl1_user_events.specs.declared.refusal.Refusal.TheVariants.{Ended
 pub use Rattle.kl1_user_effects.specs.Account.{Means, aim, aim_with, goal_with, meaning, origin_with, shoen_with, state_with, task_with, texts_of, told_in}
 pub use Rattle.kl1_user_effects.specs.Calling.{keeps_names, spare}
 pub use Rattle.kl1_user_effects.specs.Drafts.{goals_for, is_of_any, one_for}
-pub use Rattle.kl1_user_effects.specs.Endings.{ended_each}
+pub use Rattle.kl1_user_effects.specs.Endings.{ended_each, left_at, life_at}
 pub use Rattle.kl1_user_effects.specs.Exchanging.{AreSpared, IsRowOf, IsSpared, exchanged, held_exchanged, pair_of, read_exchanged, swapped, swapped_all, swapped_one, touched}
 pub use Rattle.kl1_user_effects.specs.Fitting.{Fits, Reading, built, marked_fits, marked_reading, reading_fits, reading_of}
 pub use Rattle.kl1_user_effects.specs.Frames.{IsCalm, KeepsBy, plain}
@@ -118,7 +118,7 @@ pub use Rattle.kl1_user_effects.specs.Messages.{AllowsMessage, Counts, RefusesMe
 pub use Rattle.kl1_user_effects.specs.Moving.{priorities_by}
 pub use Rattle.kl1_user_effects.specs.Naming.{AreNumbersOf, AreSmall, Grows, Keeps, ReadsDraft}
 pub use Rattle.kl1_user_effects.specs.Outlines.{KeepsOthers, KeepsOutlines, outline}
-pub use Rattle.kl1_user_effects.specs.Reports.{unheard}
+pub use Rattle.kl1_user_effects.specs.Reports.{leaving, left_by, torn, unheard}
 pub use Rattle.kl1_user_effects.specs.Settled.{AreSettled, IsSettled, TaskDoes, awaited_by_task, control_with, task_clause}
 pub use Rattle.kl1_user_effects.specs.Shelving.{AreKnown, known_of}
 pub use Rattle.kl1_user_effects.specs.Walks.{EndsLives, EndsOne, ended_in, ending_in, ends_in, reached_in, terminated}

@@ -1,6 +1,7 @@
 -- What is made of an account, one change after another.
-use Rattle.kl1_user_effects.proofs.Words.{◌≡◌, ℕ, suc, ◌-◌, not, Bool, true, if◌then◌else◌, List, length, map, refl, sym, ap, ◌∙◌, arith, subst, nat_lt, find, Option, Some, None, option_map, Rules, Term, variable, replace, occurs, cell, State, limits_of, shoen_at, change_shoen, replace_in_state, has_made_last, reported_on, report, reported_at, broken_at, report_of, Reads, CellName, Cell, Variable, Held, IsIn, Grown, Told, Dropped, Broken, Sent, Breaks, ToldAs, Shoen, has_number, changed, Numbered, Reading, built, Means, meaning, shoen_with, state_with, AreOwned, IsShoenIn, Made, worked, IsMadeIn, Knows, Turns, or_from, cases_Bool, false, inl, inr, is_reported, is_reported_at, is_reported_of, unheard, ◌||◌}
+use Rattle.kl1_user_effects.proofs.Words.{◌≡◌, ℕ, suc, ◌-◌, not, Bool, true, if◌then◌else◌, List, length, map, refl, sym, ap, ◌∙◌, arith, subst, nat_lt, find, Option, Some, None, option_map, Rules, Term, variable, replace, occurs, cell, State, limits_of, shoen_at, change_shoen, replace_in_state, has_made_last, reported_on, report, reported_at, broken_at, report_of, Reads, CellName, Cell, Variable, Held, IsIn, Grown, Told, Dropped, Broken, Sent, Breaks, ToldAs, Shoen, has_number, changed, Numbered, Reading, built, Means, meaning, shoen_with, state_with, AreOwned, IsShoenIn, Made, worked, IsMadeIn, Knows, Turns, or_from, cases_Bool, false, inl, inr, is_reported, is_reported_at, is_reported_of, unheard, torn, Atom, EmptyList, nil, ◌||◌}
 use Rattle.kl1_model.specs.State as model
+use Rattle.kl1_user_effects.proofs.Leaving.{left_means, broken_as, torn_read, torn_in}
 use Rattle.kl1_user_effects.proofs.States.{Agree, same_state, replaced_state, found_in, changed_in, changed_count, in_grown, goals_in_by, shoens_in_by, shoens_changed}
 use Rattle.std.specs.Prelude.{is_some}
 
@@ -53,12 +54,16 @@ pub grown_made : (h k : Held CellName) (w : Made) → Grown h k → IsMadeIn h w
 grown_made h k w g i = let a = i.some in let b = g.variables in record { some = omega arith; goals = goals_in_by h k (in_grown h k g) w.goals i.goals; shoens = shoens_in_by h k (in_grown h k g) w.shoens i.shoens; owned = i.owned }
 
 -- a change of a shoen turns the state as the definitions' does
+pub changed_turns_by : (ms : List Numbered) (h : Held CellName) (w : Made) (n : ℕ) (f : Shoen CellName → Shoen CellName) (g : model.Shoen → model.Shoen) → IsMadeIn h w → ((s : Shoen CellName) → IsShoenIn h s → IsShoenIn h (f s)) →
+    ((r : Reading) → Reads built r → (s : Shoen CellName) → g (shoen_with (meaning r h) s) ≡ shoen_with (meaning r h) (f s)) → Turns ms (λ r. change_shoen n g) h h w (with_changed n f w)
+changed_turns_by ms h w n f g i inside same = record {
+  inside = changed_made h w n f inside i;
+  states = λ r knows s. changes s (meaning r h) (h.variables - 1) w n f g (same r knows.reads);
+}
+
 pub changed_turns : (ms : List Numbered) (h : Held CellName) (w : Made) (n : ℕ) (f : Shoen CellName → Shoen CellName) (g : model.Shoen → model.Shoen) → IsMadeIn h w → ((s : Shoen CellName) → IsShoenIn h s → IsShoenIn h (f s)) →
     ((r : Reading) → (s : Shoen CellName) → g (shoen_with (meaning r h) s) ≡ shoen_with (meaning r h) (f s)) → Turns ms (λ r. change_shoen n g) h h w (with_changed n f w)
-changed_turns ms h w n f g i inside same = record {
-  inside = changed_made h w n f inside i;
-  states = λ r knows s. changes s (meaning r h) (h.variables - 1) w n f g (same r);
-}
+changed_turns ms h w n f g i inside same = changed_turns_by ms h w n f g i inside (λ r reads. same r)
 
 -- one way of reading cells in place of another
 pub rereads : (s : State) (t u : Means) (last : ℕ) (h : Held CellName) (w : Made) → Agree h t u → IsMadeIn h w → read_as s t last w ≡ read_as s u last w
@@ -75,17 +80,14 @@ pub broken_by : (n : ℕ) (t m : Term) (s : State) → Breaks (has_made_last s) 
 broken_by n (variable v) m s e = ap (λ b. reported_on n m (if b then None else Some v) s) e
 broken_by n _ m s e = refl
 
--- a shoen whose stream is broken, and one whose stream goes on with this tail
-abbrev pub torn : Shoen CellName → Shoen CellName
-torn h = record h { is_broken = true }
-
+-- a shoen whose stream goes on with this tail
 abbrev pub tailed : ℕ → Shoen CellName → Shoen CellName
 tailed next h = record h { tail = Variable next }
 
 -- what is made after a report of a shoen
 abbrev pub after_report : ℕ → Made → Told → Made
 after_report n w Dropped = w
-after_report n w Broken = with_changed n torn w
+after_report n w Broken = with_changed n (torn w.rules) w
 after_report n w (Sent next) = record (with_changed n (tailed next) w) { reports = suc w.reports }
 
 reports_as : (s : State) (t : Means) (last : ℕ) (w : Made) (n : ℕ) (sh : Shoen CellName) (m : Term) → find (has_number n) w.shoens ≡ Some sh →
@@ -107,7 +109,7 @@ report_states h k w n sh m Broken i e d f reads = λ s.
     reports_as s (meaning f h) (h.variables - 1) w n sh (meaning f h m) e
     ∙ ap (λ b. if b then S else reported_at n (meaning f h m) (meaning f h sh.tail) S) d.whole
     ∙ broken_by n (meaning f h sh.tail) (meaning f h m) S (d.breaks f reads)
-    ∙ changes s (meaning f h) (h.variables - 1) w n torn (λ x. record x { is_broken = true }) (λ x. refl)
+    ∙ changes s (meaning f h) (h.variables - 1) w n (torn w.rules) (broken_as w.rules) (torn_read (meaning f h) (left_means f h reads) w.rules)
     ∙ ap (λ (x : Held CellName). worked f s x (after_report n w Broken)) (sym d.same)
 report_states h k w n sh m (Sent next) i e d f reads = λ s.
     let S = read_as s (meaning f h) (h.variables - 1) w in
@@ -140,7 +142,7 @@ report_turns ms h k w n sh m told g i e d = record {
 
     by_case : (r : Told) → ToldAs built h k sh.tail sh.is_broken (last_made w.rules w.reports) m r → IsMadeIn k (after_report n w r)
     by_case Dropped x = j
-    by_case Broken x = changed_made k w n torn (λ s a. record { control = a.control; tail = a.tail; origin = a.origin; low = a.low; high = a.high }) j
+    by_case Broken x = changed_made k w n (torn w.rules) (torn_in w.rules k) j
     by_case (Sent next) x =
         let c = changed_made k w n (tailed next) (λ s a. record { control = a.control; tail = next_in h k next x.sent.next_is x.sent.variables; origin = a.origin; low = a.low; high = a.high }) j in
         record { some = c.some; goals = c.goals; shoens = c.shoens; owned = c.owned }
@@ -162,24 +164,24 @@ none_breaks m _ last e = tt
 
 -- what is made by a report of shoen `n`, which may be there, that isn't made
 abbrev pub with_unheard : ℕ → Option (Shoen CellName) → Made → Made
-with_unheard n o w = record w { shoens = unheard n o w.shoens }
+with_unheard n o w = record w { shoens = unheard w.rules n o w.shoens }
 
 unheard_made : (h : Held CellName) (w : Made) (n : ℕ) (o : Option (Shoen CellName)) → IsMadeIn h w → IsMadeIn h (with_unheard n o w)
 unheard_made h w n None i = i
 unheard_made h w n (Some sh) i = elim (cases_Bool sh.is_broken) [
   | inl p ↦ rw p i
-  | inr p ↦ rw p (changed_made h w n torn (λ s a. record { control = a.control; tail = a.tail; origin = a.origin; low = a.low; high = a.high }) i)
+  | inr p ↦ rw p (changed_made h w n (torn w.rules) (torn_in w.rules h) i)
 ]
 
 -- by what is found of the shoen
-unmade_state : (s : State) (t : Means) (last : ℕ) (w : Made) (n : ℕ) (m : Term) (o : Option (Shoen CellName)) → is_reported_of (option_map (shoen_with t) o) m (last_made w.rules w.reports) ≡ false →
+unmade_state : (s : State) (t : Means) (last : ℕ) (w : Made) (n : ℕ) (m : Term) (o : Option (Shoen CellName)) → t (Atom (built EmptyList)) ≡ nil → is_reported_of (option_map (shoen_with t) o) m (last_made w.rules w.reports) ≡ false →
     report_of (option_map (shoen_with t) o) n m (read_as s t last w) ≡ read_as s t last (with_unheard n o w)
-unmade_state s t last w n m None unmade = refl
-unmade_state s t last w n m (Some sh) unmade = elim (cases_Bool sh.is_broken) [
+unmade_state s t last w n m None is unmade = refl
+unmade_state s t last w n m (Some sh) is unmade = elim (cases_Bool sh.is_broken) [
   | inl p ↦ rw p
   | inr p ↦
       let none : is_reported_at (last_made w.rules w.reports) m (t sh.tail) ≡ false = rw p at unmade in
-      rw p (broken_by n (t sh.tail) m (read_as s t last w) (none_breaks m (t sh.tail) (last_made w.rules w.reports) none) ∙ changes s t last w n torn (λ x. record x { is_broken = true }) (λ x. refl))
+      rw p (broken_by n (t sh.tail) m (read_as s t last w) (none_breaks m (t sh.tail) (last_made w.rules w.reports) none) ∙ changes s t last w n (torn w.rules) (broken_as w.rules) (torn_read t is w.rules))
 ]
 
 -- a report that isn't made turns the state as the definitions' does
@@ -191,5 +193,5 @@ unmade_turns ms h w n m i unmade = record {
       let t = meaning f h in
       let o = find (has_number n) w.shoens in
       ap (λ (p : Option model.Shoen). report_of p n (m f) (worked f s h w)) (found_in t n w.shoens)
-      ∙ unmade_state s t (h.variables - 1) w n (m f) o (sym (ap (λ (p : Option model.Shoen). is_reported_of p (m f) (last_made w.rules w.reports)) (found_in t n w.shoens)) ∙ unmade f knows s);
+      ∙ unmade_state s t (h.variables - 1) w n (m f) o (left_means f h knows.reads) (sym (ap (λ (p : Option model.Shoen). is_reported_of p (m f) (last_made w.rules w.reports)) (found_in t n w.shoens)) ∙ unmade f knows s);
 }

@@ -84,7 +84,7 @@ goal_with t g = record { number = g.number; task = task_with t g.task; shoen = g
 
 -- what the console keeps, if cells mean this
 abbrev pub origin_with : Means → Origin CellName → model.Origin
-origin_with t o = record { goal = t o.goal; reports = t o.reports; control = t o.control }
+origin_with t o = record { goal = t o.goal; forgotten = o.forgotten; reports = t o.reports; control = t o.control }
 
 -- a shoen, if cells mean this
 abbrev pub shoen_with : Means → Shoen CellName → model.Shoen

@@ -13,7 +13,7 @@ use Rattle.kl1_shoen_paths.specs.declared.shoen.Shoen as kept
 use Rattle.kl1_shoen.specs.Shoens.{has_number}
 use Rattle.kl1_user_effects.specs.Fitting.{Reading, built}
 use Rattle.kl1_user_effects.specs.Account.{meaning, shoen_with}
-use Rattle.kl1_user_effects.specs.Endings.{ended_each}
+use Rattle.kl1_user_effects.specs.Endings.{left_at, ended_each}
 
 -- whether a term is variable `v`
 abbrev pub is_variable : ℕ → Term → Bool
@@ -47,7 +47,7 @@ close_late v n s = if is_late_tail v (shoen_at n s.shoens) then s else close n s
 
 -- what is left of a termination after the shoen's life has ended, where a variable may become a name at the end
 abbrev pub finished_late : Option ℕ → ℕ → State → State
-finished_late v n s = close_late v n (report_late v n terminated_report (without_monitor n s))
+finished_late v n s = close_late v n (report_late v n terminated_report (left_at n (without_monitor n s)))
 
 -- what is left of the terminations of these shoens, in order
 abbrev pub finished_each_late : Option ℕ → List ℕ → State → State

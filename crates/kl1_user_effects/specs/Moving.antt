@@ -14,12 +14,12 @@ abbrev pub priorities_by : Option (Shoen CellName) → ℕ → List (Option ℕ)
 priorities_by None own ps = map (priority_of None own) ps
 priorities_by (Some h) own ps = map (λ (p : Option ℕ). unwrap_or (option_map (clipped h.low h.high) p) own) ps
 
--- the name that is drafted by a move, if this text stands for a name
-abbrev pub name_for : Move CellName → List Known → List ℕ → Option (List ℕ)
-name_for (move.Commits place) known text = None
-name_for (move.Raises b) known text = None
-name_for (move.Unifies a b) known text = None
-name_for (move.Names a) known text = name_of (number_by known text) (keeps_names known text) text
-name_for (move.Opens s) known text = None
-name_for move.Goes known text = None
-name_for move.GivesWay known text = None
+-- the name that is drafted by a move, if this text stands for a name, and the account may use so many at most
+abbrev pub name_for : ℕ → Move CellName → List Known → List ℕ → Option (List ℕ)
+name_for most (move.Commits place) known text = None
+name_for most (move.Raises b) known text = None
+name_for most (move.Unifies a b) known text = None
+name_for most (move.Names a) known text = name_of (number_by known text) (keeps_names most known text) text
+name_for most (move.Opens s) known text = None
+name_for most move.Goes known text = None
+name_for most move.GivesWay known text = None

@@ -31,7 +31,7 @@ Grows old new = (t : List ℕ) (n : ℕ) → number_by old t ≡ Some n → numb
 
 -- what a call leaves of a table of names and of an account's seat: what the seat knows only grows, it publishes names only while that
 -- grows, and other seats stay seats
-pub record Keeps {T S : Type 0} (is_of : T → S → Type 0) (place : S → ℕ × ℕ) (knows : S → List Known) (published : S → ℕ) (old new : T) (before after : S) : Type 0 where
+pub record Keeps {T S : Type 0} (is_of : T → S → Type 0) (place : S → (ℕ × ℕ) × ℕ) (knows : S → List Known) (published : S → ℕ) (old new : T) (before after : S) : Type 0 where
   pub of : is_of new after
   pub stays : place after ≡ place before
   pub others : (other : S) → is_of old other → (place other ≡ place before → ⊥) → is_of new other

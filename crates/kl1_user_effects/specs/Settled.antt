@@ -7,8 +7,7 @@ use Rattle.kl1_model.specs.Module.{Module}
 use Rattle.kl1_model.specs.State as model
 use Rattle.kl1_model.specs.State.{monitor, reduces, substitutes}
 use Rattle.kl1_model.specs.Control.{Control, awaits_message, tells, tells_other, ends, breaks_off, control_of}
-use Rattle.kl1_model.specs.code.Awaited.{awaited_by_control}
-use Rattle.kl1_model.specs.code.Waits.{term_clause, awaited_by_term, substitute_clause, awaited_by_substitute}
+use Rattle.kl1_model.specs.code.Waits.{awaited_by_control, term_clause, awaited_by_term, substitute_clause, awaited_by_substitute}
 use Rattle.kl1_text.specs.declared.cell_name.CellName.{CellName}
 use Rattle.kl1_store.specs.declared.cell.Cell.{Cell}
 use Rattle.kl1_store.specs.Hooks.{Hook}

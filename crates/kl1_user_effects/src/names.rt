@@ -1,7 +1,6 @@
 // The names that an account uses, with their numbers.
 
 ghost use Rattle.std.specs.Prelude.{◌≡◌, ℕ, ◌+◌, ◌≤◌, ◌<◌, List, [], map, length, nat_lt, option_map, OnOk, vec_capacity};
-ghost use Rattle.kl1_model.specs.declared.limits.TheConstants.{MOST_NAMES};
 ghost use Rattle.kl1_text.specs.declared.cell_name.CellName.{CellName};
 ghost use Rattle.kl1_atoms.specs.Names.{number_by, added};
 ghost use Rattle.kl1_clause.specs.NameList.{with_texts, IsNameList};
@@ -12,7 +11,6 @@ ghost use Rattle.kl1_user_effects.specs.Naming.{AreSmall, AreNumbersOf, Keeps};
 
 use indexmap::IndexMap;
 use kl1_atoms::AtomSource;
-use kl1_model::limits::MOST_NAMES;
 use kl1_text::{AtomNo, AtomText, CellName, NameValue};
 use std::alloc::{AllocError, Global};
 use std::marker::Model;
@@ -98,14 +96,14 @@ impl AccountNames {
         }
     }
 
-    /// Whether there would be too many with these.
-    pub fn are_too_many(&self, texts: &[AtomText]) -> bool
+    /// Whether there would be more than `most` with these.
+    pub fn are_too_many(&self, texts: &[AtomText], most: usize) -> bool
         requires { IsNameList texts.now }
-        ensures { result ≡ nat_lt MOST_NAMES (length (with_texts (texts_of self.now.names) texts.now)) }
+        ensures { result ≡ nat_lt most (length (with_texts (texts_of self.now.names) texts.now)) }
     {
         match self.len().checked_add(self.count_new(texts)) {
             None => true,
-            Some(count) => MOST_NAMES < count,
+            Some(count) => most < count,
         }
     }
 
@@ -124,13 +122,13 @@ impl AccountNames {
     }
 }
 
-/// Whether an account with these names may use a text as a name: one that is used or built in is no name more.
-pub fn has_room(names: &AccountNames, text: &AtomText) -> bool
-    ensures { result ≡ keeps_names names.now.names text.now }
+/// Whether an account with these names, which may use `most`, may use a text as a name: one that is used or built in is no name more.
+pub fn has_room(names: &AccountNames, text: &AtomText, most: usize) -> bool
+    ensures { result ≡ keeps_names most names.now.names text.now }
 {
     match names.number_of(text) {
-        Some(_) => names.len() <= MOST_NAMES,
-        None => names.len() < MOST_NAMES,
+        Some(_) => names.len() <= most,
+        None => names.len() < most,
     }
 }
 
@@ -145,7 +143,7 @@ pub fn publish<A: AtomSource>(
 )
     requires of { A.is_of names.old seat.old }
     requires knows { A.knows seat.old ≡ known.old.names }
-    requires few { length (with_texts (texts_of known.old.names) texts.now) ≤ MOST_NAMES }
+    requires few { length (with_texts (texts_of known.old.names) texts.now) ≤ (A.place seat.old).0.1 }
     requires list { IsNameList texts.now }
     requires small { AreSmall known.old.names }
     requires room { length texts.now ≤ known.old.room }

@@ -3,7 +3,8 @@ use Rattle.std.specs.Prelude.{◌≡◌, ◌<◌, ◌↔◌, ℕ, zero, suc, ◌
 use Rattle.std.proofs.Common.{inl, inr}
 use Rattle.std.specs.List.{list_any}
 use Rattle.std.specs.List.Sorted.{IsStrictlyIncreasing}
-use Rattle.kl1_model.specs.declared.limits.TheConstants.{MOST_NAMES}
+use Rattle.kl1_model.specs.declared.life.Life.{Life}
+use Rattle.kl1_model.specs.declared.life.Life.TheVariants.{Living, Terminated, Aborted, Forgotten}
 use Rattle.kl1_model.specs.declared.limits.Limits.{Limits}
 use Rattle.kl1_model.specs.Term.{Term, occurs}
 use Rattle.kl1_model.specs.Print.{print, cut_text, cut_print}
@@ -12,9 +13,8 @@ use Rattle.kl1_model.specs.State.{Task, monitor, reduces, substitutes, Goal, Ori
 use Rattle.kl1_model.specs.Tree.{charged_of, goals_alive}
 use Rattle.kl1_model.specs.Asking.{condition_of, origin_at}
 use Rattle.kl1_model.specs.Choice.{can_step}
-use Rattle.kl1_model.specs.code.Awaited.{awaited_by_control}
+use Rattle.kl1_model.specs.code.Waits.{awaited_by_control, awaited_by_term, awaited_by_substitute}
 use Rattle.kl1_model.specs.code.TermCode.{NodeCode, nodes_of}
-use Rattle.kl1_model.specs.code.Waits.{awaited_by_term, awaited_by_substitute}
 use Rattle.kl1_user_events.specs.declared.numbers.ShoenNo.{ShoenNo}
 use Rattle.kl1_user_events.specs.declared.shoen_view.ShoenView.{ShoenView}
 use Rattle.kl1_user_events.specs.declared.goal_view.TaskKind.{TaskKind}
@@ -51,9 +51,16 @@ shoen_view s h = record {
   alive = goals_in s h.number;
 }
 
--- what is shown of the shoens with numbers from this one on, of the first `count` of them
+-- whether a shoen wasn't let go
+abbrev pub is_kept : Life → Bool
+is_kept Living = true
+is_kept Terminated = true
+is_kept Aborted = true
+is_kept Forgotten = false
+
+-- what is shown of the shoens with numbers from this one on that weren't let go, of the first `count` of them
 abbrev pub shoen_page : State → ℕ → ℕ → List ShoenView
-shoen_page s from count = map (shoen_view s) (take count (filter (λ h. nat_le from h.number) s.shoens))
+shoen_page s from count = map (shoen_view s) (take count (filter (λ h. nat_le from h.number && is_kept h.life) s.shoens))
 
 -- what a goal does
 abbrev pub kind_of : Task → TaskKind
@@ -162,7 +169,7 @@ used count most = record { count = count; most = most }
 abbrev pub usage_by : Limits → State → Usage
 usage_by limits s = record {
   goals = used (goals_alive s) limits.goals;
-  names = used (length s.names) MOST_NAMES;
+  names = used (length s.names) limits.names;
   shoens = used s.last_shoen limits.shoens;
   variables = used s.variables limits.variables;
   structures = used s.nodes limits.nodes;

@@ -32,6 +32,7 @@ event_of event.Login = model.login
 event_of event.Logout = model.logout
 event_of event.Reset = model.reset
 event_of (event.Answer n report goal) = model.answer n.0 report goal
+event_of (event.Forget n count) = model.forget n.0 count
 
 -- whether an event closes a session
 abbrev pub is_logout : Event → Bool
@@ -44,6 +45,7 @@ is_logout event.Login = false
 is_logout event.Logout = true
 is_logout event.Reset = false
 is_logout (event.Answer n report goal) = false
+is_logout (event.Forget n count) = false
 
 -- the refusal that this one is
 abbrev pub refusal_of : Refusal → model.Refusal
@@ -73,6 +75,7 @@ reply_of (reply.Quiet b) = model.quiet_is b
 reply_of (reply.Welcome name) = model.welcome name
 reply_of reply.Bye = model.bye
 reply_of reply.Reset = model.was_reset
+reply_of reply.Forgotten = model.forgot
 reply_of (reply.Refused r) = model.refused (refusal_of r)
 
 -- the texts that a reply lists
@@ -89,6 +92,7 @@ listed_in (model.quiet_is b) = []
 listed_in (model.welcome name) = []
 listed_in model.bye = []
 listed_in model.was_reset = []
+listed_in model.forgot = []
 listed_in (model.refused r) = []
 
 -- the reply to a reduction that is refused for this reason, or done if there is none

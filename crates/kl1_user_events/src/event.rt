@@ -11,7 +11,7 @@ pub enum Query {
     Value(ShoenNo),
     /// The state of a shoen, with what it was charged, its allowance and its goals alive.
     Status(ShoenNo),
-    /// The reports of a shoen from one on, the first being 1.
+    /// The reports of a shoen from one on, the first being 1; refused if that one was let go.
     Reports { shoen: ShoenNo, from: u64 },
     /// The modules, in order of loading.
     Modules,
@@ -53,12 +53,19 @@ pub enum Event {
     Logout,
     /// The account is made fresh again; its names, its sessions and its rules stay.
     Reset,
-    /// A goal, its variables numbered from 1 by first occurrence, is given to the substitute of which a report of a shoen tells that the
-    /// console started; the first report is 1.
+    /// A goal is given to the substitute of which a report of a shoen tells that the console started; the first report is 1. By rules
+    /// by which answers tell variables, variable n below 2^62 is variable n of the account, if it stands in the goal of that report, and
+    /// the others are numbered from 2^62 by first occurrence; else all are, from 1.
     Answer {
         shoen: ShoenNo,
         report: u64,
         goal: Term,
+    },
+    /// The first `count` reports of a shoen that the console started are let go, or the shoen itself, which has ended, with all below it
+    /// that have, if `count` is 0.
+    Forget {
+        shoen: ShoenNo,
+        count: u64,
     },
 }
 
@@ -85,6 +92,7 @@ impl Drop for Event {
                 report: _,
                 goal: _,
             } => {}
+            Event::Forget { shoen: _, count: _ } => {}
         }
     }
 }

@@ -23,6 +23,7 @@ pub enum Refusal {
     Journal,
     /// A session more than may be open, or one fewer than none.
     Sessions,
-    /// There is no such report, or no substitute waits by it.
+    /// There is no such report, no substitute waits by it, or an answer tells a variable that doesn't stand in its goal; or what is to be
+    /// let go can't be.
     Answer,
 }

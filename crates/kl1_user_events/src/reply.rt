@@ -42,6 +42,8 @@ pub enum Reply {
     Bye,
     /// The account is fresh again.
     Reset,
+    /// Reports or a shoen are let go.
+    Forgotten,
     /// The event is refused, and the account is as it was.
     Refused(Refusal),
 }
@@ -52,7 +54,7 @@ impl Drop for Reply {
         match self {
             Reply::Loaded(_) | Reply::Welcome(_) => {}
             Reply::Opened(_) => {}
-            Reply::Sent | Reply::Reduced | Reply::Bye | Reply::Reset => {}
+            Reply::Sent | Reply::Reduced | Reply::Bye | Reply::Reset | Reply::Forgotten => {}
             Reply::Ran(_) => {}
             Reply::Shown(_) => {}
             Reply::Status {
@@ -91,6 +93,7 @@ impl Reply {
             Reply::Welcome(_) => Listed::new(alloc),
             Reply::Bye => Listed::new(alloc),
             Reply::Reset => Listed::new(alloc),
+            Reply::Forgotten => Listed::new(alloc),
             Reply::Refused(_) => Listed::new(alloc),
         }
     }

@@ -5,6 +5,7 @@ use Rattle.std.proofs.lemmas.Option.{same_Some, none-some}
 use Rattle.std.proofs.lemmas.List.{length-append, length-map, map-append}
 use Rattle.std.proofs.lemmas.Bool.{cases_lt}
 use Rattle.kl1_model.specs.declared.rules.Rules.{Rules}
+use Rattle.kl1_model.specs.Rules.{limits_of}
 use Rattle.kl1_atoms.specs.declared.known.Known.{Known}
 use Rattle.kl1_codes.specs.Numbered.{ArePlaced}
 use Rattle.kl1_model_server.specs.Journal.{fresh_kept}
@@ -14,18 +15,18 @@ use Rattle.kl1_world.specs.Worlds.{account_in}
 use Rattle.kl1_world.proofs.Seated.{accounts_of}
 
 -- seats that are left, of which the first stands at this place
-abbrev pub AreSeatsFrom : {T S : Type 0} → (T → S → Type 0) → (S → ℕ × ℕ) → (S → List Known) → T → ℕ → List S → Type 0
-AreSeatsFrom {T} {S} is_of place knows names n seats = (k : ℕ) (x : S) → slice_get seats k ≡ Some x → is_of names x × ((place x).1 ≡ n + k) × (knows x ≡ [])
+abbrev pub AreSeatsFrom : {T S : Type 0} → (T → S → Type 0) → (S → (ℕ × ℕ) × ℕ) → (S → List Known) → Rules → T → ℕ → List S → Type 0
+AreSeatsFrom {T} {S} is_of place knows rules names n seats = (k : ℕ) (x : S) → slice_get seats k ≡ Some x → is_of names x × ((place x).1 ≡ n + k) × (knows x ≡ []) × ((limits_of rules).names ≤ (place x).0.1)
 
 -- the accounts made so far are fresh
 abbrev pub AreFreshSo : Rules → List Held → List (List ℕ) → Type 0
 AreFreshSo rules accounts names = (u : ℕ) (f : Reading) → u < length accounts → kept_of f (account_in accounts u) ≡ fresh_kept rules (get_or names u [])
 
-pub seats_from : {T S : Type 0} (is_of : T → S → Type 0) (place : S → ℕ × ℕ) (knows : S → List Known) (names : T) (seats : List S) → AreNewSeats is_of place knows names seats → AreSeatsFrom is_of place knows names 0 seats
-seats_from is_of place knows names seats h k x e = let a = h k x e in (a.0, a.1 ∙ omega arith, a.2)
+pub seats_from : {T S : Type 0} (is_of : T → S → Type 0) (place : S → (ℕ × ℕ) × ℕ) (knows : S → List Known) (rules : Rules) (names : T) (seats : List S) → AreNewSeats is_of place knows rules names seats → AreSeatsFrom is_of place knows rules names 0 seats
+seats_from is_of place knows rules names seats h k x e = let a = h k x e in (a.0, a.1 ∙ omega arith, a.2, a.3)
 
-pub seats_left : {T S : Type 0} (is_of : T → S → Type 0) (place : S → ℕ × ℕ) (knows : S → List Known) (names : T) (n : ℕ) (s : S) (seats : List S) → AreSeatsFrom is_of place knows names n (s ∷ seats) → AreSeatsFrom is_of place knows names (n + 1) seats
-seats_left is_of place knows names n s seats h k x e = let a = h (suc k) x e in (a.0, a.1 ∙ omega arith, a.2)
+pub seats_left : {T S : Type 0} (is_of : T → S → Type 0) (place : S → (ℕ × ℕ) × ℕ) (knows : S → List Known) (rules : Rules) (names : T) (n : ℕ) (s : S) (seats : List S) → AreSeatsFrom is_of place knows rules names n (s ∷ seats) → AreSeatsFrom is_of place knows rules names (n + 1) seats
+seats_left is_of place knows rules names n s seats h k x e = let a = h (suc k) x e in (a.0, a.1 ∙ omega arith, a.2, a.3)
 
 push_front : {X : Type 0} (xs : List X) (x : X) (k : ℕ) → k < length xs → slice_get (xs ++ x ∷ []) k ≡ slice_get xs k
 push_front [] x k less = absurd (omega (arith, less))
@@ -39,13 +40,13 @@ push_last (z ∷ zs) x y zero less e = absurd (omega (arith, less))
 push_last (z ∷ zs) x y (suc k) less e = let h = push_last zs x y k (omega (arith, less)) e in (ap suc h.0, h.1)
 
 -- one account more, with the next seat
-pub seated_more : {T S : Type 0} (is_of : T → S → Type 0) (place : S → ℕ × ℕ) (has : ℕ × ℕ → Type 0) (names : T) (xs : List (S × Held)) (x : S × Held) →
-    AreSeated is_of place has names xs → is_of names x.0 → (place x.0).1 ≡ length xs → ArePlaced has x.1.0.modules → AreSeated is_of place has names (xs ++ x ∷ [])
-seated_more is_of place has names xs x h of at placed k y e = elim (cases_lt k (length xs)) [
+pub seated_more : {T S : Type 0} (is_of : T → S → Type 0) (place : S → (ℕ × ℕ) × ℕ) (has : ℕ × ℕ → Type 0) (names : T) (xs : List (S × Held)) (x : S × Held) →
+    AreSeated is_of place has names xs → is_of names x.0 → (place x.0).1 ≡ length xs → ArePlaced has x.1.0.modules → (limits_of x.1.0.rules).names ≤ (place x.0).0.1 → AreSeated is_of place has names (xs ++ x ∷ [])
+seated_more is_of place has names xs x h of at placed room k y e = elim (cases_lt k (length xs)) [
   | inl less ↦ h k y (sym (push_front xs x k less) ∙ e)
   | inr more ↦
       let last = push_last xs x y k more e in
-      subst (λ z. is_of names z.0 × ((place z.0).1 ≡ k) × ArePlaced has z.1.0.modules) last.1 (of, at ∙ sym last.0, placed)
+      subst (λ z. is_of names z.0 × ((place z.0).1 ≡ k) × ArePlaced has z.1.0.modules × ((limits_of z.1.0.rules).names ≤ (place z.0).0.1)) last.1 (of, at ∙ sym last.0, placed, room)
 ]
 
 get_front : (us : List Held) (a : Held) (u : ℕ) → u < length us → account_in (us ++ a ∷ []) u ≡ account_in us u
@@ -69,15 +70,15 @@ fresh_more rules us a names h is u f less = elim (cases_lt u (length us)) [
 ]
 
 -- no account is made yet
-pub seated_none : {T S : Type 0} (is_of : T → S → Type 0) (place : S → ℕ × ℕ) (has : ℕ × ℕ → Type 0) (names : T) (xs : List (S × Held)) → xs ≡ [] → AreSeated is_of place has names xs
+pub seated_none : {T S : Type 0} (is_of : T → S → Type 0) (place : S → (ℕ × ℕ) × ℕ) (has : ℕ × ℕ → Type 0) (names : T) (xs : List (S × Held)) → xs ≡ [] → AreSeated is_of place has names xs
 seated_none {T} {S} is_of place has names xs none = subst (λ (zs : List (S × Held)). AreSeated is_of place has names zs) (sym none) (λ k x e. absurd (none-some x e))
 
 pub fresh_none : {S : Type 0} (rules : Rules) (xs : List (S × Held)) (names : List (List ℕ)) → xs ≡ [] → AreFreshSo rules (accounts_of xs) names
 fresh_none {S} rules xs names none = subst (λ (zs : List (S × Held)). AreFreshSo rules (accounts_of zs) names) (sym none) (λ u f less. absurd (omega (arith, less)))
 
-pub seats_all : {T S : Type 0} (is_of : T → S → Type 0) (place : S → ℕ × ℕ) (knows : S → List Known) (names : T) (n : ℕ) (seats rest : List S) → n ≡ 0 → rest ≡ seats → AreNewSeats is_of place knows names seats → AreSeatsFrom is_of place knows names n rest
-seats_all {T} {S} is_of place knows names n seats rest zero_is same h =
-    subst (λ m. AreSeatsFrom is_of place knows names m rest) (sym zero_is) (subst (λ (zs : List S). AreSeatsFrom is_of place knows names 0 zs) (sym same) (seats_from is_of place knows names seats h))
+pub seats_all : {T S : Type 0} (is_of : T → S → Type 0) (place : S → (ℕ × ℕ) × ℕ) (knows : S → List Known) (rules : Rules) (names : T) (n : ℕ) (seats rest : List S) → n ≡ 0 → rest ≡ seats → AreNewSeats is_of place knows rules names seats → AreSeatsFrom is_of place knows rules names n rest
+seats_all {T} {S} is_of place knows rules names n seats rest zero_is same h =
+    subst (λ m. AreSeatsFrom is_of place knows rules names m rest) (sym zero_is) (subst (λ (zs : List S). AreSeatsFrom is_of place knows rules names 0 zs) (sym same) (seats_from is_of place knows rules names seats h))
 
 -- one account more
 pub fresh_next : {S : Type 0} (rules : Rules) (xs ys : List (S × Held)) (x : S × Held) (names : List (List ℕ)) (name : List ℕ) → ys ≡ xs ++ x ∷ [] → AreFreshSo rules (accounts_of xs) names → ((f : Reading) → kept_of f x.1 ≡ fresh_kept rules name) → name ≡ get_or names (length xs) [] → AreFreshSo rules (accounts_of ys) names

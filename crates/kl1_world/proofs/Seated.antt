@@ -1,9 +1,10 @@
 -- Accounts in one table of names, when one of them changes.
-use Rattle.std.proofs.Common.{◌≡◌, ◌≢◌, ℕ, zero, suc, ◌<◌, List, [], ◌∷◌, refl, sym, ap, ◌∙◌, subst, length, get_or, inl, inr, arith, map}
+use Rattle.std.proofs.Common.{◌≡◌, ◌≢◌, ℕ, zero, suc, ◌<◌, ◌≤◌, List, [], ◌∷◌, refl, sym, ap, ◌∙◌, subst, length, get_or, inl, inr, arith, map}
 use Rattle.std.specs.Prelude.{slice_get, slice_set, Some, ◌↔◌}
 use Rattle.std.proofs.lemmas.List.{length-map, map-set}
 use Rattle.std.proofs.lemmas.Option.{slice_get_within, slice_get_read, same_Some, none-some}
 use Rattle.std.proofs.lemmas.Bool.{cases_eq}
+use Rattle.kl1_model.specs.Rules.{limits_of}
 use Rattle.kl1_codes.specs.Numbered.{ArePlaced}
 use Rattle.kl1_codes.proofs.Placing.{placed_still}
 use Rattle.kl1_journal.specs.Keeping.{Held, nobody}
@@ -42,18 +43,19 @@ get_set_other (x ∷ xs) (suc n) zero y apart = refl
 get_set_other (x ∷ xs) (suc n) (suc k) y apart = get_set_other xs n k y (λ e. apart (ap suc e))
 
 -- one of them changed, and the others are seated still
-pub seated_set : {T S : Type 0} (is_of : T → S → Type 0) (place : S → ℕ × ℕ) (has after : ℕ × ℕ → Type 0) (old new : T) (xs : List (S × Held)) (n : ℕ) (x y : S × Held) →
+pub seated_set : {T S : Type 0} (is_of : T → S → Type 0) (place : S → (ℕ × ℕ) × ℕ) (has after : ℕ × ℕ → Type 0) (old new : T) (xs : List (S × Held)) (n : ℕ) (x y : S × Held) →
     AreSeated is_of place has old xs → slice_get xs n ≡ Some x → is_of new y.0 → place y.0 ≡ place x.0 →
-    ((other : S) → is_of old other → (place other ≡ place x.0 → ⊥) → is_of new other) → ArePlaced after y.1.0.modules → ((p : ℕ × ℕ) → has p ↔ after p) →
+    ((other : S) → is_of old other → (place other ≡ place x.0 → ⊥) → is_of new other) → ArePlaced after y.1.0.modules → ((p : ℕ × ℕ) → has p ↔ after p) → y.1.0.rules ≡ x.1.0.rules →
     AreSeated is_of place after new (slice_set xs n y)
-seated_set is_of place has after old new xs n x y seated at of same others placed still k z e = elim (cases_eq k n) [
+seated_set is_of place has after old new xs n x y seated at of same others placed still rules k z e = elim (cases_eq k n) [
   | inl here ↦
       let is : y ≡ z = same_Some y z (sym (get_set_same xs n y (slice_get_within xs n x at)) ∙ ap (slice_get (slice_set xs n y)) (sym here) ∙ e) in
-      subst (λ w. is_of new w.0 × ((place w.0).1 ≡ k) × ArePlaced after w.1.0.modules) is (of, ap (λ p. p.1) same ∙ (seated n x at).1 ∙ sym here, placed)
+      let room : (limits_of y.1.0.rules).names ≤ (place y.0).0.1 = subst (λ p. (limits_of y.1.0.rules).names ≤ p.0.1) (sym same) (subst (λ r. (limits_of r).names ≤ (place x.0).0.1) (sym rules) (seated n x at).3) in
+      subst (λ w. is_of new w.0 × ((place w.0).1 ≡ k) × ArePlaced after w.1.0.modules × ((limits_of w.1.0.rules).names ≤ (place w.0).0.1)) is (of, ap (λ p. p.1) same ∙ (seated n x at).1 ∙ sym here, placed, room)
   | inr apart ↦
       let was : slice_get xs k ≡ Some z = sym (get_set_other xs n k y apart) ∙ e in
       let h = seated k z was in
-      (others z.0 h.0 (λ p. apart (sym h.1 ∙ ap (λ q. q.1) p ∙ (seated n x at).1)), h.1, placed_still has after still z.1.0.modules h.2)
+      (others z.0 h.0 (λ p. apart (sym h.1 ∙ ap (λ q. q.1) p ∙ (seated n x at).1)), h.1, placed_still has after still z.1.0.modules h.2, h.3)
 ]
 
 -- the account that has changed

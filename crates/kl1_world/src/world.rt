@@ -64,7 +64,7 @@ impl<A: AtomSource + Drop, C: CodeSource + Drop> World<A, C> {
     ) -> Result<Self, AllocError>
         requires some { 0 < length accounts.now }
         requires count { length seats.items ≡ length accounts.now }
-        requires seats { AreNewSeats A.is_of A.place A.knows names seats.items }
+        requires seats { AreNewSeats A.is_of A.place A.knows rules names seats.items }
         ensures many { IfOk result (λ w. length w.0 ≡ length accounts.now) }
         ensures fresh { IfOk result (λ w. AreFresh rules w.0 accounts.now) }
         ensures at { IfOk result (λ w. w.1 ≡ 0) }

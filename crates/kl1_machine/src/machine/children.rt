@@ -5,7 +5,8 @@ ghost use Rattle.kl1_model.specs.declared.limits.TheConstants.{MONITOR_PRIORITY}
 ghost use Rattle.kl1_model.specs.Rules.{limits_of};
 ghost use Rattle.kl1_store.specs.Held.{IsIn, arguments_of};
 ghost use Rattle.kl1_shoen.specs.Shoens.{path_in};
-ghost use Rattle.kl1_user_effects.specs.Fitting.{Reading};
+ghost use Rattle.kl1_text.specs.Reading.{Reads};
+ghost use Rattle.kl1_user_effects.specs.Fitting.{Reading, built};
 ghost use Rattle.kl1_user_effects.specs.Kept.{IsOwned, IsShoenIn};
 ghost use Rattle.kl1_machine.specs.declared.machine.Machine.{Machine};
 ghost use Rattle.kl1_machine.specs.Machines.{IsMachine, Keeps};
@@ -58,7 +59,7 @@ impl Machine {
         requires shoen { IsShoenIn self.old.store.held shoen }
         requires goal { IsIn self.old.store.held goal }
         ensures ok { OnOk result (OpensAs shoen goal self.old self.new) }
-        ensures plain { (f g : Reading) → IsPlainShoen f g shoen → IsPlain f g goal → ArePlain f g self.old → OnOk result (ArePlain f g self.new) }
+        ensures plain { (f g : Reading) → Reads built f → Reads built g → IsPlainShoen f g shoen → IsPlain f g goal → ArePlain f g self.old → OnOk result (ArePlain f g self.new) }
         ensures since { (b : Machine) → Since b self.old → StillSince result b self.new }
     {
         self.join(shoen, goal)?;

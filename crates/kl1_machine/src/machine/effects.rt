@@ -9,19 +9,20 @@ ghost use Rattle.kl1_goals.specs.Lists.{is_other, is_in, is_monitor_task, is_mon
 ghost use Rattle.kl1_shoen.specs.Shoens.{changed, aborted_below_in};
 ghost use Rattle.kl1_shoen.specs.Changes.{with_control};
 ghost use Rattle.kl1_user_effects.specs.Kept.{IsTaskIn, IsOwned, IsShoenIn};
+ghost use Rattle.kl1_user_effects.specs.Reports.{left_by, leaving, torn};
 ghost use Rattle.kl1_user_effects.specs.Walks.{terminated};
 ghost use Rattle.kl1_machine.specs.declared.machine.Machine.{Machine};
 ghost use Rattle.kl1_machine.specs.Machines.{IsMachine, Keeps};
-ghost use Rattle.kl1_machine.specs.Since.{Since, IsOnlyMonitor, StillSince};
+ghost use Rattle.kl1_machine.specs.Since.{Since, AreElsewhere, HasNoMonitor, IsOnlyMonitor, StillSince};
 ghost use Rattle.kl1_user_effects.specs.Drafts.{goal_at};
 ghost use Rattle.kl1_machine.specs.Effects.{Puts, Becomes, Charges, any_reached, having_goals, having_shoens, shifting_shoens, with_shoen};
 
 use crate::machine::Machine;
 use kl1_goals::{Goal, Standing, Task};
-use kl1_model::Life;
+use kl1_model::{BuiltIn, Life};
 use kl1_shoen::Shoen;
 use kl1_store::Cell;
-use kl1_text::CellName;
+use kl1_text::{CellName, NameValue};
 use kl1_user_effects::last_of;
 use std::alloc::AllocError;
 
@@ -98,15 +99,26 @@ impl Machine {
         Ok(())
     }
 
+    /// What is left of a stream on which nothing is told any more, if anything is let go by the rules.
+    pub(crate) fn left(&self) -> Option<Cell<CellName>>
+        ensures { result ≡ left_by self.now.rules }
+    {
+        if !self.rules.has_forgetting() {
+            return None;
+        }
+        Some(Cell::Atom(CellName::of(BuiltIn::EmptyList)))
+    }
+
     /// Breaks a shoen's report stream.
     pub(crate) fn break_stream(&mut self, number: u64) -> Result<(), AllocError>
         requires machine { IsMachine self.old }
-        ensures ok { OnOk result (Becomes (having_shoens (changed number (λ h. record h { is_broken = true }) self.old.shoens.shoens) self.old) self.new) }
+        ensures ok { OnOk result (Becomes (having_shoens (changed number (torn self.old.rules) self.old.shoens.shoens) self.old) self.new) }
         ensures since { (b : Machine) → Since b self.old → StillSince result b self.new }
     {
         // Only for the proof: the shoens are numbered in order.
         let _numbered = self.shoens.len();
-        self.shoens.break_stream(number)
+        let left = self.left();
+        self.shoens.break_stream(number, left)
     }
 
     /// Sets the tail of the control stream that the console keeps, if the console started the shoen.
@@ -174,16 +186,33 @@ impl Machine {
         self.shoens.end(number, Life::Terminated)
     }
 
-    /// Ends a shoen and all below it that live, as aborted.
+    /// Leaves what is left of the control stream of a shoen that has ended, and has no monitor any more.
+    pub(crate) fn leave(&mut self, number: u64) -> Result<(), AllocError>
+        requires machine { IsMachine self.old }
+        requires monitor { HasNoMonitor number self.old.goals.goals }
+        ensures ok { OnOk result (Becomes (having_shoens (changed number (leaving self.old.rules) self.old.shoens.shoens) self.old) self.new) }
+        ensures since { (b : Machine) → Since b self.old → StillSince result b self.new }
+    {
+        // Only for the proof: the shoens are numbered in order.
+        let _numbered = self.shoens.len();
+        let Some(left) = self.left() else {
+            return Ok(());
+        };
+        self.shoens.leave(number, left)
+    }
+
+    /// Ends a shoen and all below it that live, as aborted. None of them may have a goal.
     pub(crate) fn abort_below(&mut self, number: u64) -> Result<(), AllocError>
         requires machine { IsMachine self.old }
-        ensures ok { OnOk result (Becomes (shifting_shoens (map (aborted_below_in self.old.shoens.shoens number) self.old.shoens.shoens) self.old) self.new) }
+        requires gone { AreElsewhere self.old.shoens.shoens number self.old.goals.goals }
+        ensures ok { OnOk result (Becomes (shifting_shoens (map (aborted_below_in (left_by self.old.rules) self.old.shoens.shoens number) self.old.shoens.shoens) self.old) self.new) }
         ensures since { (b : Machine) → Since b self.old → StillSince result b self.new }
     {
         // Only for the proof: the shoens are numbered in order.
         let _numbered = self.shoens.len();
         self.shifts = true;
-        self.shoens.abort(number)
+        let left = self.left();
+        self.shoens.abort(number, left)
     }
 
     /// Stops a shoen, or lets it go on.

@@ -125,8 +125,9 @@ impl Machine {
         Ok(())
     }
 
-    /// Does what is left of a termination after the shoen's life has ended: its monitor goes, it reports that it has terminated, and its
-    /// stream is closed, but for one whose tail is `late`, the variable that becomes a name at the end, if one does.
+    /// Does what is left of a termination after the shoen's life has ended: its monitor goes, of its control stream that
+    /// is left which the rules have, it reports that it has terminated, and its report stream is closed, but for one whose tail is `late`,
+    /// the variable that becomes a name at the end, if one does.
     fn finish(&mut self, number: u64, late: Option<u32>) -> Result<(), AllocError>
         requires machine { IsMachine self.old }
         requires within { HasLate late self.old.store.held }
@@ -134,6 +135,7 @@ impl Machine {
         ensures since { (b : Machine) → Since b self.old → StillSince result b self.new }
     {
         self.remove_monitor(number)?;
+        self.leave(number)?;
         self.report_late(number, late, BuiltIn::Terminated)?;
         if self.is_late(number, late) {
             return Ok(());

@@ -1,9 +1,9 @@
 // Names that goals make, and the number that a name gets when it is published.
 
-ghost use Rattle.std.specs.Prelude.{◌≡◌, ◌<◌, None, OnOk};
+ghost use Rattle.std.specs.Prelude.{◌≡◌, ◌<◌, ◌≤◌, None, OnOk};
 ghost use Rattle.kl1_user_effects.specs.Naming.{Keeps as KeepsTable};
 ghost use Rattle.kl1_machine.specs.declared.machine.Machine.{Machine};
-ghost use Rattle.kl1_machine.specs.Machines.{IsMachine};
+ghost use Rattle.kl1_machine.specs.Machines.{most_names, IsMachine};
 ghost use Rattle.kl1_machine.specs.Since.{Since, StillSince};
 ghost use Rattle.kl1_machine.specs.Naming.{NamesIn, UsesName, IsFree, SparesLast, CanPublish, Publishes};
 
@@ -39,7 +39,7 @@ impl Machine {
             return Named::Does(made);
         };
         let text = AtomText::of(trial.text.as_slice());
-        if !has_room(&self.names, &text) {
+        if !has_room(&self.names, &text, self.rules.limits().names) {
             return Named::Does(Move::Raises(BuiltIn::Exhaustion));
         }
         if let Some(name) = self.names.number_of(&text) {
@@ -76,6 +76,7 @@ impl Machine {
         requires of { A.is_of names.old seat.old }
         requires knows { A.knows seat.old ≡ self.old.names.names }
         requires can { CanPublish self.old }
+        requires names { most_names self.old ≤ (A.place seat.old).0.1 }
         ensures table { KeepsTable A.is_of A.place A.knows A.published names.old names.new seat.old seat.new }
         ensures knows { A.knows seat.new ≡ self.new.names.names }
         ensures published { Publishes self.old self.new }

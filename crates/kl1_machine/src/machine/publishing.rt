@@ -1,7 +1,6 @@
 // Names that an event brings, published when nothing can fail any more.
 
 ghost use Rattle.std.specs.Prelude.{◌≡◌, ◌*◌, ◌≤◌, [], length, vec_capacity};
-ghost use Rattle.kl1_model.specs.declared.limits.TheConstants.{MOST_NAMES};
 ghost use Rattle.kl1_clause.specs.NameList.{with_texts, IsNameList};
 ghost use Rattle.kl1_user_effects.specs.Account.{texts_of};
 ghost use Rattle.kl1_user_effects.specs.Naming.{AreSmall, Keeps as KeepsTable};
@@ -26,7 +25,7 @@ impl Machine {
     )
         requires of { A.is_of names.old seat.old }
         requires knows { A.knows seat.old ≡ self.old.names.names }
-        requires few { length (with_texts (texts_of self.old.names.names) texts.now) ≤ MOST_NAMES }
+        requires few { length (with_texts (texts_of self.old.names.names) texts.now) ≤ (A.place seat.old).0.1 }
         requires list { IsNameList texts.now }
         requires small { AreSmall self.old.names.names }
         requires room { length texts.now ≤ self.old.names.room }

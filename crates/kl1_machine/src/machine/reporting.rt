@@ -8,7 +8,8 @@ ghost use Rattle.kl1_model.specs.Report.{report, exception, close};
 ghost use Rattle.kl1_model.specs.Reduction.{raised};
 ghost use Rattle.kl1_model.specs.Text.{text_of};
 ghost use Rattle.kl1_store.specs.Held.{IsIn};
-ghost use Rattle.kl1_user_effects.specs.Fitting.{Reading};
+ghost use Rattle.kl1_text.specs.Reading.{Reads};
+ghost use Rattle.kl1_user_effects.specs.Fitting.{Reading, built};
 ghost use Rattle.kl1_user_effects.specs.Account.{meaning, goal_with, aim};
 ghost use Rattle.kl1_user_effects.specs.Kept.{IsOwned};
 ghost use Rattle.kl1_user_effects.specs.Late.{KeepsFree};
@@ -33,7 +34,7 @@ impl Machine {
         requires machine { IsMachine self.old }
         requires message { IsIn self.old.store.held message }
         ensures ok { IfOk result (Tells number message self.old self.new) }
-        ensures plain { (f g : Reading) → ArePlain f g self.old → OnOk result (ArePlain f g self.new) }
+        ensures plain { (f g : Reading) → Reads built f → Reads built g → ArePlain f g self.old → OnOk result (ArePlain f g self.new) }
         ensures since { (b : Machine) → Since b self.old → StillSince result b self.new }
     {
         // Only for the proof: the shoens are numbered in order.
@@ -51,7 +52,8 @@ impl Machine {
         )? {
             Told::Dropped => Ok(false),
             Told::Broken => {
-                self.shoens.break_stream(number)?;
+                let left = self.left();
+                self.shoens.break_stream(number, left)?;
                 Ok(false)
             }
             Told::Sent(next) => {
@@ -68,7 +70,7 @@ impl Machine {
         requires machine { IsMachine self.old }
         ensures ok { OnOk result (TurnsAs (λ f. report number (atom (text_of name))) self.old self.new) }
         ensures free { OnOk result (KeepsFree number self.old.shoens.shoens self.old.store.held self.new.store.held) }
-        ensures plain { (f g : Reading) → ArePlain f g self.old → OnOk result (ArePlain f g self.new) }
+        ensures plain { (f g : Reading) → Reads built f → Reads built g → ArePlain f g self.old → OnOk result (ArePlain f g self.new) }
         ensures since { (b : Machine) → Since b self.old → StillSince result b self.new }
     {
         self.tell(number, Cell::Atom(CellName::of(name)))?;

@@ -76,6 +76,7 @@ impl Machine {
         let reports = Cell::Variable(self.store.fresh()?);
         Ok(Origin {
             goal,
+            forgotten: 0,
             reports,
             control,
         })

@@ -4,7 +4,7 @@ use Rattle.kl1_model.specs.declared.rules.Rules.{Rules}
 use Rattle.kl1_model.specs.State.{State}
 use Rattle.kl1_model.specs.Event.{Event, Transition}
 use Rattle.kl1_model.specs.Step.{step}
-use Rattle.kl1_model_server.specs.Journal.{Entry, runs, entry_step, without_last, replay, Kept, done, fresh_kept}
+use Rattle.kl1_model_server.specs.Journal.{Entry, runs, entry_step, last_run_of, without_last, replay, Kept, done, fresh_kept}
 
 -- an account with another own name and another number of sessions
 abbrev pub beside : List ℕ → ℕ → State → State
@@ -20,7 +20,7 @@ StaysBeside = (name : List ℕ) (n : ℕ) (s : State) (e : Entry) → entry_step
 
 -- the last of entries is a run of this number of reductions, if that is at least 1
 abbrev pub EndsInRun : List Entry → ℕ → Type 0
-EndsInRun es n = (m : ℕ) → n ≡ suc m → without_last es ++ runs n ∷ [] ≡ es
+EndsInRun es n = (m : ℕ) → n ≡ suc m → (last_run_of es ≡ n) × (without_last es ++ runs n ∷ [] ≡ es)
 
 -- an account is the replay of its journal, has its rules and sessions, and counts the reductions of its last run
 pub record IsReplay (k : Kept) : Type 0 where

@@ -1,5 +1,6 @@
 -- What holds of the inputs of a stream: they don't depend on the pieces in which it comes.
 use Rattle.std.specs.Prelude.{◌≡◌, ℕ, List, [], ◌∷◌, ◌++◌}
+use Rattle.kl1_model.specs.declared.rules.Rules.{Rules}
 use Rattle.kl1_model_server.specs.Cut.{Cut, cut_of}
 use Rattle.kl1_model_server.specs.Inputs.{inputs, rest}
 
@@ -27,5 +28,5 @@ CutsInPieces = (pieces : List (List ℕ)) → cut_in_pieces (cut_of []) pieces �
 
 -- the inputs of a stream that comes in two pieces are those of the first, and then those of its rest with the second; and so is its rest
 pub record InputsCutAnywhere : Type 0 where
-  pub inputs_after : (p q : List ℕ) → inputs (p ++ q) ≡ inputs p ++ inputs (rest p ++ q)
+  pub inputs_after : (rules : Rules) (p q : List ℕ) → inputs rules (p ++ q) ≡ inputs rules p ++ inputs rules (rest p ++ q)
   pub rest_after : (p q : List ℕ) → rest (p ++ q) ≡ rest (rest p ++ q)

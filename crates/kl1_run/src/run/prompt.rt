@@ -159,7 +159,7 @@ impl Session<'_, '_> {
 
     /// Does what a line asks for. Answers whether the prompt goes on.
     fn do_text(&mut self, world: &mut OwnWorld, text: &[u8]) -> Result<bool, Fault> {
-        let line = parse_line(self.alloc, text, self.plan.steps)?;
+        let line = parse_line(self.alloc, self.asked.rules, text, self.plan.steps)?;
         match line {
             Line::Blank => {}
             Line::Quit => return Ok(false),

@@ -38,9 +38,9 @@ const OPTIONS: [OptionSpec; 19] = [
     },
     OptionSpec {
         name: "rules",
-        takes: Takes::Number(3, 4),
+        takes: Takes::Number(3, 5),
         value: "",
-        help: "Keep to the rules of version N, 3 or 4; 4 has the greater limits",
+        help: "Keep to the rules of version N, 3 to 5; 4 has greater limits than 3, and 5 those of memory alone",
         beside: OF_RUN,
         with: "",
     },
@@ -185,10 +185,10 @@ pub static RUN: Program = Program {
 };
 
 /// The most steps of a task. A script's `run` takes no more than its limit, and by the third rules a journal has no more entries; by
-/// the fourth rules a run ends at its allowance.
+/// later rules a run ends at its allowance.
 fn most_steps(task: Task, rules: Rules) -> u64 {
     match (task, rules) {
-        (Task::Check | Task::Run | Task::Prompt, Rules::Four) => MOST_ALLOWANCE,
+        (Task::Check | Task::Run | Task::Prompt, Rules::Four | Rules::Five) => MOST_ALLOWANCE,
         _ => MOST_STEPS,
     }
 }
@@ -223,7 +223,8 @@ pub fn asked_of<'a>(alloc: Global, asked: &kl1_words::Asked<'a>) -> Result<Asked
     let task = task_of(asked);
     let rules = match (task, asked.number("rules")) {
         (Task::Script, _) | (_, Some(3)) => Rules::Three,
-        _ => Rules::Four,
+        (_, Some(4)) => Rules::Four,
+        _ => Rules::Five,
     };
     let is_whole = asked.has("whole");
     let form = Form {

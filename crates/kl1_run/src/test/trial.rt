@@ -32,12 +32,12 @@ fn work_of(alloc: Global, files: &[SourceFile], test: &Test) -> Result<Work, All
     })
 }
 
-/// What is told of the goal of a test, on an account of its own by the fourth rules.
+/// What is told of the goal of a test, on an account of its own by the fifth rules.
 pub fn answers_for(alloc: Global, files: &[SourceFile], test: &Test) -> Result<Answers, Stop> {
     let Ok(work) = work_of(alloc, files, test) else {
         return Err(Stop::Memory);
     };
-    let Ok(mut world) = fresh_world(alloc, Rules::Four) else {
+    let Ok(mut world) = fresh_world(alloc, Rules::Five) else {
         return Err(Stop::Memory);
     };
     match do_work(alloc, &mut world, work, &mut NoWatch) {

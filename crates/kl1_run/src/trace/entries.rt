@@ -76,6 +76,16 @@ fn put_event(event: &Event, reply: &Reply, out: &mut Vec<u8>) -> Result<(), Allo
             out.extend_from_slice(b" of shoen ")?;
             put_decimal(out, shoen.0)
         }
+        (Event::Forget { shoen, count: 0 }, _) => {
+            out.extend_from_slice(b"* forget shoen ")?;
+            put_decimal(out, shoen.0)
+        }
+        (Event::Forget { shoen, count }, _) => {
+            out.extend_from_slice(b"* forget ")?;
+            put_decimal(out, *count)?;
+            out.extend_from_slice(b" reports of shoen ")?;
+            put_decimal(out, shoen.0)
+        }
         _ => out.extend_from_slice(b"*"),
     }
 }
@@ -167,7 +177,7 @@ impl<W: Write + Drop> Player<'_, W> {
         host: &mut H,
         line: &[u8],
     ) -> Result<Done, AllocError> {
-        match entry_of(self.alloc, line)? {
+        match entry_of(self.alloc, self.rules, line)? {
             None => Ok(Done::Refused),
             Some(Deed::Event(event)) => self.apply(host, &event),
             Some(Deed::Run(steps)) => {

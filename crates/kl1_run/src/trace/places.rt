@@ -1,6 +1,7 @@
 // Where the clauses of the modules that a journal loads stand.
 
 use kl1_journal_entries::{Deed, entry_of, next_line};
+use kl1_model::Rules;
 use kl1_run_work::SourceFile;
 use kl1_steps::{ClausePlace, put_clauses};
 use kl1_user_events::Event;
@@ -61,7 +62,12 @@ pub fn places_in(alloc: Global, text: &[u8], sources: &[SourceFile]) -> Result<P
             break;
         };
         if line.starts_with(b"load ") {
-            if let Some(Deed::Event(Event::Load { source })) = &entry_of(alloc, line)? {
+            // A load has the same line by all rules.
+            if let Some(Deed::Event(Event::Load { source })) = &entry_of(
+                alloc,
+                Rules::Three,
+                line,
+            )? {
                 places.take(alloc, sources, source.as_slice())?;
             }
         }

@@ -1,10 +1,10 @@
 // Changes of shoens.
 
-ghost use Rattle.std.specs.Prelude.{◌≡◌, ◌<◌, ◌≤◌, ◌+◌, map, option_map, true, OnOk, OnErr};
+ghost use Rattle.std.specs.Prelude.{◌≡◌, ◌<◌, ◌≤◌, ◌+◌, map, option_map, unwrap_or, true, Some, OnOk, OnErr};
 ghost use Rattle.kl1_model.specs.Reduction.{grown};
 ghost use Rattle.kl1_shoen_paths.specs.Below.{AreLinked};
-ghost use Rattle.kl1_shoen.specs.Shoens.{has_number, changed, aborted_below_in, parents_in, AreNumbered, AreLower};
-ghost use Rattle.kl1_shoen.specs.Changes.{changed_by, with_control};
+ghost use Rattle.kl1_shoen.specs.Shoens.{has_number, changed, control_left, aborted_below_in, emptied_below, parents_in, AreNumbered, AreLower};
+ghost use Rattle.kl1_shoen.specs.Changes.{changed_by, changed_below, reports_left, with_control, IsOnce};
 
 use crate::change::{Change, changed};
 use crate::counted::CountedShoens;
@@ -49,12 +49,12 @@ impl<N: NameValue> ShoenTree<N> {
         self.change(number, Change::OriginControl(control))
     }
 
-    /// Breaks a shoen's report stream.
-    pub fn break_stream(&mut self, number: u64) -> Result<(), AllocError>
-        ensures ok { OnOk result (self.new ≡ record self.old { shoens = changed number (λ h. record h { is_broken = true }) self.old.shoens }) }
+    /// Breaks a shoen's report stream, which has the tail `tail` then, if one is told.
+    pub fn break_stream(&mut self, number: u64, tail: Option<Cell<N>>) -> Result<(), AllocError>
+        ensures ok { OnOk result (self.new ≡ record self.old { shoens = changed number (λ h. record h { is_broken = true; tail = unwrap_or tail h.tail }) self.old.shoens }) }
         ensures err { OnErr result (self.new ≡ self.old) }
     {
-        self.change(number, Change::Breaks)
+        self.change(number, Change::Breaks(tail))
     }
 
     /// Stops a shoen, or lets it go on.
@@ -81,12 +81,57 @@ impl<N: NameValue> ShoenTree<N> {
         self.change(number, Change::Ends(life))
     }
 
-    /// Ends a shoen and all below it that live, as aborted.
-    pub fn abort(&mut self, number: u64) -> Result<(), AllocError>
-        ensures ok { OnOk result (self.new ≡ record self.old { shoens = map (aborted_below_in self.old.shoens number) self.old.shoens }) }
+    /// Leaves this of a shoen's control stream, unless the console keeps the stream.
+    pub fn leave(&mut self, number: u64, left: Cell<N>) -> Result<(), AllocError>
+        ensures ok { OnOk result (self.new ≡ record self.old { shoens = changed number (λ h. record h { control = control_left (Some left) h.origin h.control }) self.old.shoens }) }
         ensures err { OnErr result (self.new ≡ self.old) }
     {
-        abort_all(&mut self.shoens, &self.links, number, &mut self.below)?;
+        self.change(number, Change::Leaves(left))
+    }
+
+    /// Ends a shoen and all below it that live, as aborted. `left` is left of the control stream of each, if it is told and the console
+    /// doesn't keep the stream.
+    pub fn abort(&mut self, number: u64, left: Option<Cell<N>>) -> Result<(), AllocError>
+        ensures ok { OnOk result (self.new ≡ record self.old { shoens = map (aborted_below_in left self.old.shoens number) self.old.shoens }) }
+        ensures err { OnErr result (self.new ≡ self.old) }
+    {
+        self.change_below(number, Change::Aborts(left))
+    }
+
+    /// Keeps of the reports of a shoen, if the console started it, what is left after its first `count`.
+    pub fn forget_reports(
+        &mut self,
+        number: u64,
+        count: u64,
+        left: Cell<N>,
+    ) -> Result<(), AllocError>
+        ensures ok { OnOk result (self.new ≡ record self.old { shoens = changed number (λ h. record h { origin = option_map (reports_left count left) h.origin }) self.old.shoens }) }
+        ensures err { OnErr result (self.new ≡ self.old) }
+    {
+        self.change(number, Change::Forgets(count, left))
+    }
+
+    /// Lets a shoen go, and all below it, that have ended: their places stay, with this in place of their streams.
+    pub fn forget(&mut self, number: u64, none: Cell<N>) -> Result<(), AllocError>
+        ensures ok { OnOk result (self.new ≡ record self.old { shoens = map (emptied_below none self.old.shoens number) self.old.shoens }) }
+        ensures err { OnErr result (self.new ≡ self.old) }
+    {
+        self.change_below(number, Change::Empties(none))
+    }
+
+    /// Changes a shoen and all below it.
+    fn change_below(&mut self, number: u64, change: Change<N>) -> Result<(), AllocError>
+        requires once { IsOnce change }
+        ensures ok { OnOk result (self.new ≡ record self.old { shoens = map (changed_below change self.old.shoens number) self.old.shoens }) }
+        ensures err { OnErr result (self.new ≡ self.old) }
+    {
+        change_all(
+            &mut self.shoens,
+            &self.links,
+            number,
+            change,
+            &mut self.below,
+        )?;
         Ok(())
     }
 }
@@ -127,17 +172,19 @@ fn change_reserved<N: NameValue>(shoens: &mut CountedShoens<N>, number: u64, cha
     shoens.put((number - 1) as usize, changed(shoen, change));
 }
 
-/// Ends a shoen and all below it that live, as aborted, with a list that it may write.
-fn abort_all<N: NameValue>(
+/// Changes a shoen and all below it, with a list that it may write.
+fn change_all<N: NameValue>(
     shoens: &mut CountedShoens<N>,
     links: &ChildLists,
     number: u64,
+    change: Change<N>,
     below: &mut Vec<u64>,
 ) -> Result<(), AllocError>
+    requires once { IsOnce change }
     requires numbered { AreNumbered 0 shoens.old.now }
     requires lower { AreLower shoens.old.now }
     requires linked { AreLinked (parents_in shoens.old.now) links.now.first links.now.next }
-    ensures ok { OnOk result (shoens.new.now ≡ map (aborted_below_in shoens.old.now number) shoens.old.now) }
+    ensures ok { OnOk result (shoens.new.now ≡ map (changed_below change shoens.old.now number) shoens.old.now) }
     ensures err { OnErr result (shoens.new.now ≡ shoens.old.now) }
     ensures kept { shoens.new.kept ≡ shoens.old.kept }
     ensures room { shoens.new.room ≡ shoens.old.room }
@@ -147,7 +194,7 @@ fn abort_all<N: NameValue>(
     links.below(shoens.items(), number, below)?;
     shoens.reserve_changes(below.len())?;
     while let Some(last) = below.pop() {
-        change_reserved(shoens, last, Change::Aborts);
+        change_reserved(shoens, last, change);
     }
     Ok(())
 }

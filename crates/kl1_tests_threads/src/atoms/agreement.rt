@@ -1,7 +1,7 @@
 // That seats of several accounts find one number for each name, also when two threads look the same names up at once.
 
 ghost use Rattle.std.specs.Prelude.{◌≡◌, ℕ, ◌+◌, ◌<◌, ◌≤◌, [], Some, length, slice_get, vec_len};
-ghost use Rattle.kl1_model.specs.declared.limits.TheConstants.{MOST_ACCOUNTS, MOST_NAMES};
+ghost use Rattle.kl1_model.specs.declared.limits.TheConstants.{MOST_ACCOUNTS, MOST_NAMES_BEFORE};
 ghost use Rattle.kl1_atoms.specs.declared.atom_seat.AtomSeat.{AtomSeat};
 ghost use Rattle.kl1_atoms.specs.Seats.{IsSharedSeat, IsNewSharedSeat, face_in};
 
@@ -16,7 +16,7 @@ use std::thread::{Threads, join};
 #[tactic(auto, using(kl1_atoms::specs::Knowing::few_more))]
 fn learned(table: &AtomTable, mut seat: AtomSeat, names: &[AtomText]) -> (u64, AtomSeat)
     requires of { IsSharedSeat table.now.table.shared.table_id seat.badge.table_id table.now.accounts (face_in seat.badge.views) seat.account }
-    requires room { length (face_in seat.badge.views).knows + length names.now ≤ MOST_NAMES }
+    requires room { length (face_in seat.badge.views).knows + length names.now ≤ (face_in seat.badge.views).room }
     ensures { IsSharedSeat table.now.table.shared.table_id result.1.badge.table_id table.now.accounts (face_in result.1.badge.views) result.1.account }
 {
     let mut row = 0u64;
@@ -52,7 +52,8 @@ fn others_agree(
 ) -> bool
     requires of { IsSharedSeat table.now.table.shared.table_id seat.old.badge.table_id table.now.accounts (face_in seat.old.badge.views) seat.old.account }
     requires seats { (k : ℕ) (seat : AtomSeat) → slice_get seats.old.items k ≡ Some seat → IsNewSharedSeat table.now.table.shared.table_id seat.badge.table_id table.now.accounts (face_in seat.badge.views) seat.account k }
-    requires few { length names.now ≤ MOST_NAMES }
+    requires rooms { (k : ℕ) (seat : AtomSeat) → slice_get seats.old.items k ≡ Some seat → (face_in seat.badge.views).room ≡ MOST_NAMES_BEFORE }
+    requires few { length names.now ≤ MOST_NAMES_BEFORE }
 {
     for _other in 0..seats.len() {
         let (_, mut other) = learned(table, next_seat(table, seats), names);
@@ -73,7 +74,8 @@ fn agree_at_once<R: Threads + Sync>(
 ) -> bool
     requires seats { (k : ℕ) (seat : AtomSeat) → slice_get seats.old.items k ≡ Some seat → IsNewSharedSeat table.now.table.shared.table_id seat.badge.table_id table.now.accounts (face_in seat.badge.views) seat.account k }
     requires two { 1 < vec_len seats.old }
-    requires few { length names.now ≤ MOST_NAMES }
+    requires rooms { (k : ℕ) (seat : AtomSeat) → slice_get seats.old.items k ≡ Some seat → (face_in seat.badge.views).room ≡ MOST_NAMES_BEFORE }
+    requires few { length names.now ≤ MOST_NAMES_BEFORE }
 {
     let a = next_seat(table, seats);
     let b = next_seat(table, seats);
@@ -108,26 +110,39 @@ pub fn agree_on_one_bucket<R: Threads + Sync>(rt: &R, alloc: Global) -> Result<b
     Ok((found == 50) & agree)
 }
 
-/// Whether seats that know nothing agree on the built-in names and on no other, and on a name that one looks up from then on.
-fn agree_on_what_is_known(table: &AtomTable, alice: &mut AtomSeat, bob: &mut AtomSeat) -> bool
+/// Whether seats that know nothing agree on the built-in names and on no other, and with one that looked a name up on that name, whose number
+/// one more finds.
+fn agree_on_what_is_known(
+    table: &AtomTable,
+    alice: &mut AtomSeat,
+    bob: &mut AtomSeat,
+    carol: &mut AtomSeat,
+    dave: &mut AtomSeat,
+) -> bool
     requires alice { IsSharedSeat table.now.table.shared.table_id alice.old.badge.table_id table.now.accounts (face_in alice.old.badge.views) alice.old.account }
     requires bob { IsSharedSeat table.now.table.shared.table_id bob.old.badge.table_id table.now.accounts (face_in bob.old.badge.views) bob.old.account }
-    requires nothing { ((face_in alice.old.badge.views).knows ≡ []) × ((face_in bob.old.badge.views).knows ≡ []) }
+    requires carol { IsSharedSeat table.now.table.shared.table_id carol.old.badge.table_id table.now.accounts (face_in carol.old.badge.views) carol.old.account }
+    requires dave { IsSharedSeat table.now.table.shared.table_id dave.old.badge.table_id table.now.accounts (face_in dave.old.badge.views) dave.old.account }
+    requires nothing { ((face_in carol.old.badge.views).knows ≡ []) × ((face_in dave.old.badge.views).knows ≡ []) }
+    requires rooms { ((face_in carol.old.badge.views).room ≡ MOST_NAMES_BEFORE) × ((face_in dave.old.badge.views).room ≡ MOST_NAMES_BEFORE) }
 {
     let append = AtomText::of(b"append");
     let built_in = table.agree(alice, bob, AtomText::of(b"[]"));
     let early = table.agree(alice, bob, append);
-    let number = table.intern(bob, append, &mut Turns::new());
-    let late = table.agree(alice, bob, append);
-    let other = table.agree(bob, alice, AtomText::of(b"appen"));
-    let its = table.intern(alice, append, &mut Turns::new());
+    let number = table.intern(carol, append, &mut Turns::new());
+    let late = table.agree(alice, carol, append);
+    let other = table.agree(carol, alice, AtomText::of(b"appen"));
+    let its = table.intern(dave, append, &mut Turns::new());
     built_in & !early & late & !other & (number.number == 64 + 1024) & (its.number == 64 + 1024)
 }
 
-/// Whether two seats of a new table agree on the built-in names and on no other, and on a name that one looks up from then on.
+/// Whether seats of a new table agree on the built-in names and on no other, and with one that looked a name up on that name.
 pub fn agree_on_what_one_knows(alloc: Global) -> Result<bool, AllocError> {
-    let (table, mut seats) = AtomTable::new(alloc, 2)?;
-    let mut bob = next_seat(&table, &mut seats);
+    let (table, mut seats) = AtomTable::new(alloc, 4)?;
     let mut alice = next_seat(&table, &mut seats);
-    Ok(agree_on_what_is_known(&table, &mut alice, &mut bob))
+    let mut bob = next_seat(&table, &mut seats);
+    // The row of the account with number 1 begins after 1,024 names.
+    let mut carol = next_seat(&table, &mut seats);
+    let mut dave = next_seat(&table, &mut seats);
+    Ok(agree_on_what_is_known(&table, &mut alice, &mut bob, &mut carol, &mut dave))
 }

@@ -1,7 +1,7 @@
 // Look-ups of names that seats know, from one thread and from several at once.
 
 ghost use Rattle.std.specs.Prelude.{◌≡◌, ℕ, ◌+◌, ◌<◌, ◌≤◌, All, IfOk, OnOk, Some, length, slice_get, vec_len};
-ghost use Rattle.kl1_model.specs.declared.limits.TheConstants.{MOST_NAMES};
+ghost use Rattle.kl1_model.specs.declared.limits.TheConstants.{MOST_NAMES_BEFORE};
 ghost use Rattle.kl1_atoms.specs.Seats.{IsSharedSeat, IsNewSharedSeat, face_in};
 ghost use Rattle.kl1_atoms.specs.declared.atom_seat.AtomSeat.{AtomSeat};
 ghost use Rattle.kl1_atoms.specs.Knowing.{KnowsFirst};
@@ -18,7 +18,7 @@ use std::thread::{Threads, map_vec};
 #[tactic(auto, using(kl1_atoms::specs::Knowing::few_more))]
 fn learn(table: &AtomTable, mut seat: AtomSeat, texts: &[AtomText]) -> AtomSeat
     requires of { IsSharedSeat table.now.table.shared.table_id seat.badge.table_id table.now.accounts (face_in seat.badge.views) seat.account }
-    requires room { length (face_in seat.badge.views).knows + length texts.now ≤ MOST_NAMES }
+    requires room { length (face_in seat.badge.views).knows + length texts.now ≤ (face_in seat.badge.views).room }
     ensures of { IsSharedSeat table.now.table.shared.table_id result.badge.table_id table.now.accounts (face_in result.badge.views) result.account }
     ensures known { KnowsFirst (face_in result.badge.views).knows texts.now (length texts.now) }
 {
@@ -36,9 +36,11 @@ fn next_seats(
     count: usize,
 ) -> Result<Vec<AtomSeat>, AllocError>
     requires seats { (k : ℕ) (seat : AtomSeat) → slice_get seats.old.items k ≡ Some seat → IsNewSharedSeat table.now.table.shared.table_id seat.badge.table_id table.now.accounts (face_in seat.badge.views) seat.account k }
+    requires rooms { (k : ℕ) (seat : AtomSeat) → slice_get seats.old.items k ≡ Some seat → (face_in seat.badge.views).room ≡ MOST_NAMES_BEFORE }
     requires some { count ≤ vec_len seats.old }
     requires few { length texts.now ≤ 1000 }
     ensures seats { OnOk result ((k : ℕ) (seat : AtomSeat) → slice_get seats.new.items k ≡ Some seat → IsNewSharedSeat table.now.table.shared.table_id seat.badge.table_id table.now.accounts (face_in seat.badge.views) seat.account k) }
+    ensures rooms { OnOk result ((k : ℕ) (seat : AtomSeat) → slice_get seats.new.items k ≡ Some seat → (face_in seat.badge.views).room ≡ MOST_NAMES_BEFORE) }
     ensures fewer { OnOk result (vec_len seats.new + count ≡ vec_len seats.old) }
     ensures known { IfOk result (λ next. All (λ seat. IsSharedSeat table.now.table.shared.table_id seat.badge.table_id table.now.accounts (face_in seat.badge.views) seat.account × KnowsFirst (face_in seat.badge.views).knows texts.now (length texts.now)) next.items) }
 {
@@ -83,9 +85,11 @@ pub fn found_by<R: Threads + Clock + Sync>(
     count: usize,
 ) -> Result<(u64, u128), AllocError>
     requires seats { (k : ℕ) (seat : AtomSeat) → slice_get seats.old.items k ≡ Some seat → IsNewSharedSeat table.now.table.shared.table_id seat.badge.table_id table.now.accounts (face_in seat.badge.views) seat.account k }
+    requires rooms { (k : ℕ) (seat : AtomSeat) → slice_get seats.old.items k ≡ Some seat → (face_in seat.badge.views).room ≡ MOST_NAMES_BEFORE }
     requires some { count ≤ vec_len seats.old }
     requires few { length texts.now ≤ 1000 }
     ensures seats { OnOk result ((k : ℕ) (seat : AtomSeat) → slice_get seats.new.items k ≡ Some seat → IsNewSharedSeat table.now.table.shared.table_id seat.badge.table_id table.now.accounts (face_in seat.badge.views) seat.account k) }
+    ensures rooms { OnOk result ((k : ℕ) (seat : AtomSeat) → slice_get seats.new.items k ≡ Some seat → (face_in seat.badge.views).room ≡ MOST_NAMES_BEFORE) }
     ensures fewer { OnOk result (vec_len seats.new + count ≡ vec_len seats.old) }
 {
     let next = next_seats(table, seats, texts, count)?;

@@ -1,6 +1,7 @@
 // How long look-ups take: in a map on one thread, and in the shared table from one, two and four threads at once.
 
 ghost use Rattle.std.specs.Prelude.{◌≡◌, ℕ, ◌≤◌, Some, length, slice_get, vec_len};
+ghost use Rattle.kl1_model.specs.declared.limits.TheConstants.{MOST_NAMES_BEFORE};
 ghost use Rattle.kl1_atoms.specs.Seats.{IsNewSharedSeat, face_in};
 ghost use Rattle.kl1_atoms.specs.declared.atom_seat.AtomSeat.{AtomSeat};
 
@@ -68,6 +69,7 @@ fn times_in<R: Threads + Clock + Sync>(
     rounds: usize,
 ) -> Result<Times, AllocError>
     requires seats { (k : ℕ) (seat : AtomSeat) → slice_get seats.old.items k ≡ Some seat → IsNewSharedSeat table.now.table.shared.table_id seat.badge.table_id table.now.accounts (face_in seat.badge.views) seat.account k }
+    requires rooms { (k : ℕ) (seat : AtomSeat) → slice_get seats.old.items k ≡ Some seat → (face_in seat.badge.views).room ≡ MOST_NAMES_BEFORE }
     requires seven { 7 ≤ vec_len seats.old }
     requires few { length texts.now ≤ 1000 }
 {

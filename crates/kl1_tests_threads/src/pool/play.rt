@@ -7,6 +7,7 @@ use crate::report::Text;
 use crate::rows::{cut, number_of};
 use kl1_command::{Parsed, command_in, put_reply};
 use kl1_lines::{NextRecord, Record, Request, next_record};
+use kl1_model::Rules;
 use kl1_pool::{Command, Performed, Pool, PoolIds, Share};
 use kl1_user_events::{Event, Query, Reply};
 use std::sync::Wait;
@@ -72,7 +73,7 @@ pub fn put_answer<'t, R: Wait, K: PoolIds>(
     share: &mut Share<K>,
     out: &mut Text,
 ) {
-    match command_in(out.alloc, request) {
+    match command_in(out.alloc, Rules::Four, request) {
         Ok(Parsed::Command(command)) => {
             match answered_again(rt, pool, account, &command, share) {
                 Performed::Whole(reply) => {

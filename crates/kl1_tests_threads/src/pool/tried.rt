@@ -86,7 +86,8 @@ pub fn tried<J: Job + Sync, R: Threads + Wait + Clock + Sync>(
 {
     let alloc = out.alloc;
     let names = names_of(alloc, accounts.min(setup.named))?;
-    let (table, seats) = AtomTable::new(alloc, accounts)?;
+    let room = setup.rules.limits().names;
+    let (table, seats) = AtomTable::with_room(alloc, accounts, room)?;
     let codes = CodeTable::new(alloc)?;
     let parts = PoolParts::new(
         alloc,

@@ -1,6 +1,7 @@
 // Answers from the console to exceptions.
 
-ghost use Rattle.std.specs.Prelude.{◌≡◌, IfOk, OnErr};
+ghost use Rattle.std.specs.Prelude.{◌≡◌, ◌≤◌, IfOk, OnErr};
+ghost use Rattle.kl1_model.specs.Rules.{limits_of};
 ghost use Rattle.kl1_model.specs.Step.{step};
 ghost use Rattle.kl1_model.specs.Event.{answer as answer_event};
 ghost use Rattle.kl1_user_effects.specs.Fitting.{Reading, Fits};
@@ -12,7 +13,6 @@ ghost use Rattle.kl1_codes.specs.Numbered.{ArePlaced};
 use crate::account::Account;
 use crate::answerable::{Answering, code_of_answer};
 use kl1_atoms::AtomSource;
-use kl1_clause::structures_of;
 use kl1_codes::CodeSource;
 use kl1_machine::{Answer, Brought};
 use kl1_term::Term;
@@ -33,6 +33,7 @@ impl<C: CodeSource> Account<C> {
     ) -> Result<Reply, AllocError>
         requires of { A.is_of names.old seat.old }
         requires knows { A.knows seat.old ≡ self.old.names }
+        requires room { (limits_of self.old.rules).names ≤ (A.place seat.old).0.1 }
         requires placed { ArePlaced (C.has codes.now) self.old.modules }
         ensures step { IfOk result (λ reply. (f : Reading) → Fits self.new.names f → step (state_of f self.old) (answer_event number report goal.now) ≡ record { state = state_of f self.new; reply = reply_of reply }) }
         ensures err { OnErr result (self.new ≡ self.old) }
@@ -41,19 +42,20 @@ impl<C: CodeSource> Account<C> {
         ensures modules { self.new.modules ≡ self.old.modules }
     {
         let counted = self.counted();
-        let machine = &self.machine;
+        let machine = &mut self.machine;
         let answering = code_of_answer(self.alloc, machine, counted, number, report, goal)?;
-        let (code, variable) = match answering {
+        let (given, nodes, variable) = match answering {
             Answering::Refused(refusal) => return Ok(Reply::Refused(refusal)),
-            Answering::Coded(code, variable) => (code, variable),
+            Answering::Coded(given, nodes, variable) => (given, nodes, variable),
         };
         let answer = Brought::Answers(Answer {
-            code: &code,
-            variables: goal.highest(),
-            nodes: structures_of(goal),
+            code: &given.code,
+            told: given.told.as_slice(),
+            new: given.new,
+            nodes,
             variable,
         });
-        self.bring(names, seat, codes, code.names(), &answer)?;
+        self.bring(names, seat, codes, given.code.names(), &answer)?;
         Ok(Reply::Sent)
     }
 }

@@ -10,7 +10,7 @@ ghost use Rattle.kl1_user_events.specs.Views.{reply_of};
 ghost use Rattle.kl1_codes.specs.Numbered.{ArePlaced};
 
 use crate::account::Account;
-use crate::asking::{alive_in, list_cells, modules_of};
+use crate::asking::{alive_in, is_forgotten, list_cells, modules_of};
 use crate::viewing::shoens::view_of;
 use kl1_atoms::AtomSource;
 use kl1_codes::{CodeSource, CodedModules};
@@ -21,7 +21,8 @@ use kl1_user_events::{Extent, Refusal, Reply};
 use std::alloc::AllocError;
 
 impl<C: CodeSource> Account<C> {
-    /// The state of shoen `number`, with what it was charged, its allowance, and how many goals there are in it and below it.
+    /// The state of shoen `number`, if it wasn't let go, with what it was charged, its allowance, and how many goals there are in it and
+    /// below it.
     pub fn status(&self, number: u64) -> Result<Reply, AllocError>
         ensures step { IfOk result (λ reply. (f : Reading) → Fits self.now.names f → step (state_of f self.now) (read (status number)) ≡ record { state = state_of f self.now; reply = reply_of reply }) }
     {
@@ -31,6 +32,9 @@ impl<C: CodeSource> Account<C> {
         let Some(shoen) = self.machine.shoens.lend(number) else {
             return Ok(Reply::Refused(Refusal::NoShoen));
         };
+        if is_forgotten(shoen.life) {
+            return Ok(Reply::Refused(Refusal::NoShoen));
+        }
         let shown = view_of(&self.machine.shoens, &self.machine.goals, shoen);
         let mut below = Vec::new(self.alloc);
         self.machine.shoens.below(number, &mut below)?;
@@ -42,7 +46,8 @@ impl<C: CodeSource> Account<C> {
         })
     }
 
-    /// The reports of shoen `number`, which the console started, from one on, the first being 1: at most 64, each printed and cut.
+    /// The reports of shoen `number`, which the console started, from one on, the first being 1: at most 64, each printed and cut. Refused if
+    /// that one was let go.
     pub fn reports<A: AtomSource>(
         &self,
         names: &mut A,
@@ -65,8 +70,11 @@ impl<C: CodeSource> Account<C> {
         let Some(origin) = self.machine.shoens.origin_at(number) else {
             return Ok(Reply::Refused(Refusal::NoShoen));
         };
+        if from <= origin.forgotten {
+            return Ok(Reply::Refused(Refusal::Answer));
+        }
         let store = &self.machine.store;
-        let first = nth_cell(store, origin.reports, from - 1);
+        let first = nth_cell(store, origin.reports, from - 1 - origin.forgotten);
         let listed = list_cells(self.alloc, names, seat, store, first, MOST_LISTED)?;
         Ok(Reply::Listed(listed))
     }

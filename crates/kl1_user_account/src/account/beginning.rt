@@ -2,7 +2,6 @@
 
 ghost use Rattle.std.specs.Prelude.{◌≡◌, ◌≤◌, [], length, IfOk, OnOk, OnErr};
 ghost use Rattle.kl1_model.specs.Event.{reset, was_reset};
-ghost use Rattle.kl1_model.specs.declared.limits.TheConstants.{MOST_NAMES};
 ghost use Rattle.kl1_model.specs.State.{fresh, fresh_with};
 ghost use Rattle.kl1_model.specs.Step.{step};
 ghost use Rattle.kl1_store.specs.Held.{nothing_held, with_variable};
@@ -51,7 +50,7 @@ impl<C: CodeSource> Account<C> {
         requires of { A.is_of names.old seat.old }
         requires knows { A.knows seat.old ≡ [] }
         requires list { IsNameList texts.now }
-        requires few { length texts.now ≤ MOST_NAMES }
+        requires few { length texts.now ≤ (A.place seat.old).0.1 }
         ensures fresh { IfOk result (λ account. (f : Reading) → state_of f account ≡ fresh_with rules name texts.now sessions) }
         ensures knows { IfOk result (λ account. A.knows seat.new ≡ account.names) }
         ensures modules { IfOk result (λ account. account.modules ≡ []) }

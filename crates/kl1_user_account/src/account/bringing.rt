@@ -1,6 +1,7 @@
 // Goals that the console brings to an account.
 
-ghost use Rattle.std.specs.Prelude.{◌≡◌, OnOk, OnErr};
+ghost use Rattle.std.specs.Prelude.{◌≡◌, ◌≤◌, OnOk, OnErr};
+ghost use Rattle.kl1_model.specs.Rules.{limits_of};
 ghost use Rattle.kl1_model.specs.Event.{with_entry};
 ghost use Rattle.kl1_codes.specs.Numbered.{ArePlaced};
 ghost use Rattle.kl1_user_effects.specs.Fitting.{Reading, Fits};
@@ -30,6 +31,7 @@ impl<C: CodeSource> Account<C> {
     ) -> Result<(), AllocError>
         requires of { A.is_of names.old seat.old }
         requires knows { A.knows seat.old ≡ self.old.names }
+        requires room { (limits_of self.old.rules).names ≤ (A.place seat.old).0.1 }
         requires placed { ArePlaced (C.has codes.now) self.old.modules }
         requires may { MayBring self.old texts.now brought.now }
         ensures brings { OnOk result ((f : Reading) → Fits self.new.names f → with_entry (change_of brought.now (state_of f self.old)) ≡ state_of f self.new) }

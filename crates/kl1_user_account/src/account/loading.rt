@@ -1,6 +1,7 @@
 // Modules that are loaded.
 
-ghost use Rattle.std.specs.Prelude.{◌≡◌, ◌↔◌, ℕ, IfOk, OnErr};
+ghost use Rattle.std.specs.Prelude.{◌≡◌, ◌≤◌, ◌↔◌, ℕ, IfOk, OnErr};
+ghost use Rattle.kl1_model.specs.Rules.{limits_of};
 ghost use Rattle.kl1_model.specs.Step.{step};
 ghost use Rattle.kl1_model.specs.Event.{load as load_event};
 ghost use Rattle.kl1_user_effects.specs.Fitting.{Reading, Fits};
@@ -29,6 +30,7 @@ impl<C: CodeSource> Account<C> {
     ) -> Result<Reply, AllocError>
         requires of { A.is_of names.old seat.old }
         requires knows { A.knows seat.old ≡ self.old.names }
+        requires room { (limits_of self.old.rules).names ≤ (A.place seat.old).0.1 }
         requires placed { ArePlaced (C.has codes.old) self.old.modules }
         ensures step { IfOk result (λ reply. (f : Reading) → Fits self.new.names f → step (state_of f self.old) (load_event source.now) ≡ record { state = state_of f self.new; reply = reply_of reply }) }
         ensures err { OnErr result (self.new ≡ self.old) }
@@ -39,7 +41,16 @@ impl<C: CodeSource> Account<C> {
     {
         let is_full = self.is_full();
         let taken = &self.machine.names;
-        let draft = match draft_module(self.alloc, &self.modules, taken, codes, is_full, source)? {
+        let most = self.machine.rules.limits().names;
+        let draft = match draft_module(
+            self.alloc,
+            &self.modules,
+            taken,
+            codes,
+            most,
+            is_full,
+            source,
+        )? {
             Loading::Refused(refusal) => return Ok(Reply::Refused(refusal)),
             Loading::Drafted(draft) => draft,
         };

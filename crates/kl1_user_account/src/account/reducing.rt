@@ -1,6 +1,7 @@
 // Reductions of an account's goals.
 
-ghost use Rattle.std.specs.Prelude.{◌≡◌, IfOk, OnErr};
+ghost use Rattle.std.specs.Prelude.{◌≡◌, ◌≤◌, IfOk, OnErr};
+ghost use Rattle.kl1_model.specs.Rules.{limits_of};
 ghost use Rattle.kl1_model.specs.Step.{step};
 ghost use Rattle.kl1_model.specs.Event.{reduce};
 ghost use Rattle.kl1_user_effects.specs.Fitting.{Reading, Fits};
@@ -28,6 +29,7 @@ impl<C: CodeSource> Account<C> {
     ) -> Result<Option<Refusal>, AllocError>
         requires of { A.is_of names.old seat.old }
         requires knows { A.knows seat.old ≡ self.old.names }
+        requires room { (limits_of self.old.rules).names ≤ (A.place seat.old).0.1 }
         requires placed { ArePlaced (C.has codes.now) self.old.modules }
         ensures step { IfOk result (λ refused. (f : Reading) → Fits self.new.names f → step (state_of f self.old) (reduce number clause) ≡ record { state = state_of f self.new; reply = reduced_or refused }) }
         ensures err { OnErr result (self.new ≡ self.old) }

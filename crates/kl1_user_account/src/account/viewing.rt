@@ -16,7 +16,6 @@ use crate::viewing::shoens::shoens_from;
 use crate::viewing::texts::{most_of, print_task};
 use kl1_atoms::AtomSource;
 use kl1_codes::{CodeSource, CodedModules};
-use kl1_model::limits::MOST_NAMES;
 use kl1_user_events::{Extent, GoalView, Presence, ShoenView, Usage, Used};
 use std::alloc::AllocError;
 
@@ -149,7 +148,7 @@ impl<C: CodeSource> Account<C> {
         let most = self.machine.rules.limits();
         Usage {
             goals: used(self.machine.goals.alive(), most.goals),
-            names: used(self.machine.names.len() as u64, MOST_NAMES as u64),
+            names: used(self.machine.names.len() as u64, most.names as u64),
             shoens: used(self.machine.shoens.len(), most.shoens),
             variables: used(self.machine.counts.variables, most.variables),
             structures: used(self.machine.counts.nodes, most.nodes),

@@ -1,10 +1,10 @@
 // What is shown of shoens.
 
-ghost use Rattle.std.specs.Prelude.{◌≡◌, ◌-◌, map, take, drop, IfOk};
+ghost use Rattle.std.specs.Prelude.{◌≡◌, ◌-◌, map, filter, take, drop, IfOk};
 ghost use Rattle.kl1_user_events.specs.Viewing.{parent_shown};
-ghost use Rattle.kl1_user_account.specs.Viewed.{shoen_shown};
+ghost use Rattle.kl1_user_account.specs.Viewed.{shoen_shown, is_kept_shoen};
 
-use crate::asking::condition_of;
+use crate::asking::{condition_of, is_forgotten};
 use kl1_goals::GoalTable;
 use kl1_shoen::{Shoen, ShoenTree};
 use kl1_text::CellName;
@@ -40,7 +40,7 @@ pub(crate) fn view_of(
     }
 }
 
-/// What is shown of the shoens with numbers from one on, of the first `count` of them.
+/// What is shown of the shoens with numbers from one on that weren't let go, of the first `count` of them.
 pub(crate) fn shoens_from(
     alloc: Global,
     shoens: &ShoenTree<CellName>,
@@ -48,7 +48,7 @@ pub(crate) fn shoens_from(
     from: u64,
     count: usize,
 ) -> Result<Vec<ShoenView>, AllocError>
-    ensures { IfOk result (λ views. views.items ≡ map (shoen_shown shoens.now.shoens shoens.now.work goals.now.goals) (take count (drop (from - 1) shoens.now.shoens))) }
+    ensures { IfOk result (λ views. views.items ≡ map (shoen_shown shoens.now.shoens shoens.now.work goals.now.goals) (take count (filter is_kept_shoen (drop (from - 1) shoens.now.shoens)))) }
 {
     let mut views = Vec::new(alloc);
     let mut before = from.saturating_sub(1);
@@ -57,8 +57,11 @@ pub(crate) fn shoens_from(
         let Some(shoen) = shoens.lend(before + 1) else {
             return Ok(views);
         };
-        views.push(view_of(shoens, goals, shoen))?;
         before += 1;
+        if is_forgotten(shoen.life) {
+            continue;
+        }
+        views.push(view_of(shoens, goals, shoen))?;
         left -= 1;
     }
     Ok(views)

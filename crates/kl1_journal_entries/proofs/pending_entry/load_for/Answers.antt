@@ -11,6 +11,7 @@ invariant_of-result c =
     let bs = c.args.source.now in
     let few : 5 + 2 * length bs ≤ MOST_LINE_BYTES = omega arith in
     record {
-      line = subst (λ (xs : List ℕ). HasLine (loads xs)) (sym c.in_ok-source.ensures.items) (load_line bs (le-leb (5 + 2 * length bs) MOST_LINE_BYTES few) (bytes_fit bs c.type_inv.source));
+      line = subst (λ (xs : List ℕ). HasLine c.args.rules (loads xs)) (sym c.in_ok-source.ensures.items) (load_line c.args.rules bs (le-leb (5 + 2 * length bs) MOST_LINE_BYTES few) (bytes_fit bs c.type_inv.source));
       printed = tt;
+      told = tt;
     }

@@ -1,7 +1,7 @@
 use Rattle.std.proofs.Common.{List, ap, sym, refl, subst, ◌∙◌}
 use Rattle.std.proofs.lemmas.Bool.{false≢true}
 use Rattle.kl1_model.specs.Term.{structure}
-use Rattle.kl1_model.specs.code.Outcome.{match_term}
+use Rattle.kl1_model.specs.Match.{match_pattern}
 use Rattle.kl1_match.proofs.Cells.{at_variable, at_integer, at_atom, opened, name_clashes, count_clashes, put_before, AreSpans-push}
 use Rattle.kl1_match.specs.declared.span.Span.{Span}
 use Rattle.kl1_match.specs.Spans.{AreSpans, cells_left}
@@ -10,19 +10,19 @@ use Rattle.kl1_match.proofs.meets.meet_structure.Goals as goal
 pub returns-in-Variable-clause-meets : goal.returns-in-Variable-clause-meets
 returns-in-Variable-clause-meets g c = record {
   cells_are = refl;
-  matched = λ f reads ps counted. ap (match_term (structure (f c.args.name) ps)) (at_variable f c.args.store.now.held c.args.cell c.in-Variable.variable c.in-Variable.is c.requires.walked);
+  matched = λ f reads ps counted. ap (match_pattern (structure (f c.args.name) ps)) (at_variable f c.args.store.now.held c.args.cell c.in-Variable.variable c.in-Variable.is c.requires.walked);
 }
 
 pub returns-in-Integer-clause-meets : goal.returns-in-Integer-clause-meets
 returns-in-Integer-clause-meets g c = record {
   cells_are = refl;
-  matched = λ f reads ps counted. ap (match_term (structure (f c.args.name) ps)) (at_integer f c.args.store.now.held c.args.cell c.in-Integer.field-0 c.in-Integer.is);
+  matched = λ f reads ps counted. ap (match_pattern (structure (f c.args.name) ps)) (at_integer f c.args.store.now.held c.args.cell c.in-Integer.field-0 c.in-Integer.is);
 }
 
 pub returns-in-Atom-clause-meets : goal.returns-in-Atom-clause-meets
 returns-in-Atom-clause-meets g c = record {
   cells_are = refl;
-  matched = λ f reads ps counted. ap (match_term (structure (f c.args.name) ps)) (at_atom f c.args.store.now.held c.args.cell c.in-Atom.field-0 c.in-Atom.is);
+  matched = λ f reads ps counted. ap (match_pattern (structure (f c.args.name) ps)) (at_atom f c.args.store.now.held c.args.cell c.in-Atom.field-0 c.in-Atom.is);
 }
 
 pub returns-then-head-count-clause-meets : goal.returns-then-head-count-clause-meets

@@ -1,6 +1,6 @@
 use Rattle.std.proofs.Common.{◌≡◌, Bool, true, false, List, ◌++◌, map, sym, ap, ◌∙◌, subst, arith}
 use Rattle.std.specs.List.{All}
-use Rattle.kl1_model.specs.code.Outcome.{own_variables}
+use Rattle.kl1_model.specs.Match.{own_variables}
 use Rattle.kl1_match_guard.specs.declared.pair.Pair.{Pair}
 use Rattle.kl1_match_guard.specs.Alike.{IsPairOf, PartsAs}
 use Rattle.kl1_match.specs.declared.test_view.TestAt.{TestAt}

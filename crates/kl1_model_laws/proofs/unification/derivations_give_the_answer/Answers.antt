@@ -1,4 +1,4 @@
-use Rattle.kl1_model_laws.proofs.UnifyDerivation.{solved_by_derivation, derivations_agree}
+use Rattle.kl1_model.proofs.UnifyDerivation.{solved_by_derivation, derivations_agree}
 use Rattle.kl1_model_laws.proofs.unification.derivations_give_the_answer.Goals as goal
 
 pub returns-clause-solved : goal.returns-clause-solved

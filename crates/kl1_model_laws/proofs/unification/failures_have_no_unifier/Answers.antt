@@ -1,5 +1,5 @@
-use Rattle.kl1_model_laws.proofs.UnifyFails.{failure_leaves_none, failure_leaves_no_replacements}
-use Rattle.kl1_model_laws.proofs.UnifySolution.{none_where_none_unify}
+use Rattle.kl1_model.proofs.UnifyFails.{failure_leaves_none, failure_leaves_no_replacements}
+use Rattle.kl1_model.proofs.UnifySolution.{none_where_none_unify}
 use Rattle.kl1_model_laws.proofs.unification.failures_have_no_unifier.Goals as goal
 
 pub returns-clause-substitutions : goal.returns-clause-substitutions

@@ -1,4 +1,4 @@
-use Rattle.kl1_model_laws.proofs.UnifySolution.{replaced_by_lower, replaced_once, replaced_are_gone, solutions_keep_numbers}
+use Rattle.kl1_model.proofs.UnifySolution.{replaced_by_lower, replaced_once, replaced_are_gone, solutions_keep_numbers}
 use Rattle.kl1_model_laws.proofs.unification.replacements_are_orderly.Goals as goal
 
 pub returns-clause-lower : goal.returns-clause-lower

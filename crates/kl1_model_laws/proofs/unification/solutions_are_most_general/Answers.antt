@@ -1,4 +1,4 @@
-use Rattle.kl1_model_laws.proofs.UnifySolution.{solutions_are_most_general, none_more_general}
+use Rattle.kl1_model.proofs.UnifySolution.{solutions_are_most_general, none_more_general}
 use Rattle.kl1_model_laws.proofs.unification.solutions_are_most_general.Goals as goal
 
 pub returns-clause-substitutions : goal.returns-clause-substitutions

@@ -12,7 +12,7 @@ loop-book-preserved g c =
     let seats : length c.loop-book.seats.items ≡ length c.last_of-seat.new.list.items + 1 = ap length c.last_of-seat.ensures ∙ length-append c.last_of-seat.new.list.items (c.last_of-seat.result ∷ []) in
     let shown : length c.loop-book.shown.items ≡ length c.last_of-history.new.list.items + 1 = ap length c.last_of-history.ensures ∙ length-append c.last_of-history.new.list.items (c.last_of-history.result ∷ []) in
     record {
-      seats = but_last (IsFreshSeat g.C.Vacant.table g.C.Vacant.seats) c.loop-book.seats.items c.last_of-seat.new.list.items c.last_of-seat.result c.last_of-seat.ensures c.loop-book.invariant.seats;
+      seats = but_last (IsFreshSeat g.C.Vacant.table g.C.Vacant.seats g.C.Vacant.keeps_to) c.loop-book.seats.items c.last_of-seat.new.list.items c.last_of-seat.result c.last_of-seat.ensures c.loop-book.invariant.seats;
       books = (All-pop (IsNewBook g.C.Vacant.tally) c.loop-book.books.items c.pop.new.self.items c.pop.result c.pop.ensures.items c.loop-book.invariant.books).0;
       as_many = omega (arith, books, seats, c.loop-book.invariant.as_many);
       unshown = (unshown_last g.C.Vacant.histories c.loop-book.books.items c.pop.new.self.items c.in-Some.book c.loop-book.shown.items c.last_of-history.new.list.items c.last_of-history.result c.in-Some.ensures.items c.last_of-history.ensures c.loop-book.invariant.unshown).0;

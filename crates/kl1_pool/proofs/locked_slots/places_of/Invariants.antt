@@ -7,7 +7,7 @@ use Rattle.kl1_pool.proofs.locked_slots.places_of.Given as goal
 -- the books that aren't left have accounts, and as many seats and histories are left as books
 abbrev pub invariant-loop-book : goal.invariant-loop-book
 invariant-loop-book g l = record {
-  seats : AreFreshSeats g.C.Vacant.table g.C.Vacant.seats l.seats.items;
+  seats : AreFreshSeats g.C.Vacant.table g.C.Vacant.seats g.C.Vacant.keeps_to l.seats.items;
   books : All (IsNewBook g.C.Vacant.tally) l.books.items;
   as_many : length l.seats.items ≡ length l.books.items;
   unshown : AreUnshown g.C.Vacant.histories l.books.items l.shown.items;

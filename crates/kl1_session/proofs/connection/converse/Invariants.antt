@@ -17,6 +17,6 @@ invariant-loop g l =
       opens : g.K.Door.opens l.door ≡ g.K.Door.opens l.fn.door;
       visitor : IsVisitor (g.K.Door.accounts l.door) l.state.account;
       room : length l.buffer ≡ length l.fn.buffer;
-      quiet : inputs l.session ≡ [];
-      talk : GoesOn (g.K.Door.opens l.fn.door) [] l.session (remaining l.fn.source) (remaining l.source) (standing (contents l.fn.sink) (done l.fn.handler) l.fn.state) (standing (contents l.sink) (done l.handler) l.state);
+      quiet : inputs l.rules l.session ≡ [];
+      talk : GoesOn l.rules (g.K.Door.opens l.fn.door) [] l.session (remaining l.fn.source) (remaining l.source) (standing (contents l.fn.sink) (done l.fn.handler) l.fn.state) (standing (contents l.sink) (done l.handler) l.state);
     }

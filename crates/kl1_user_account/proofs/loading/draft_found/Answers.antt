@@ -16,4 +16,4 @@ returns-in_ok-new-in-None-clause-loads g c =
     let d : Numbered = record { content = code; row = row; place = place } in
     let read = c.requires.module ∙ ap good (sym c.code-code.ensures) in
     let same = same_parts c.in_ok-new-in-None.field-0 (g.C.CodeSource.meaning c.args.found) code c.in_ok-row.row.items row place c.in_ok-new-in-None.ensures c.code-code.ensures c.deref.ensures.value in
-    drafted_is c.args.modules.now.loaded c.args.names.now.names c.args.is_full c.args.source.now c.in_ok-new-in-None.field-0 d c.requires.few read same (c.in-None.ensures place)
+    drafted_is c.args.modules.now.loaded c.args.names.now.names c.args.most c.args.is_full c.args.source.now c.in_ok-new-in-None.field-0 d c.requires.few read same (c.in-None.ensures place)

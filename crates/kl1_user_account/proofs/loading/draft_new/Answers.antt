@@ -14,4 +14,4 @@ returns-in_ok-new-in-None-clause-loads g c =
     let place = g.C.CodeSource.place pushed in
     let d : Numbered = record { content = code; row = row; place = place } in
     let same = same_parts c.in_ok-new-in-None.field-0 (g.C.CodeSource.meaning pushed) code c.in_ok-row.row.items row place c.in_ok-new-in-None.ensures (sym c.in_ok-pushed-in-None.ensures.is) c.deref.ensures.value in
-    drafted_is c.args.modules.now.loaded c.args.names.now.names c.args.is_full c.args.source.now c.in_ok-new-in-None.field-0 d c.requires.few c.in-Ok.ensures.module same (c.in-None.ensures place)
+    drafted_is c.args.modules.now.loaded c.args.names.now.names c.args.most c.args.is_full c.args.source.now c.in_ok-new-in-None.field-0 d c.requires.few c.in-Ok.ensures.module same (c.in-None.ensures place)

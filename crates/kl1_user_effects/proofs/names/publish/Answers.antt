@@ -17,8 +17,10 @@ loop-text-init g c = record {
 pub intern-number-requires-clause-room : goal.intern-number-requires-clause-room
 intern-number-requires-clause-room g c =
     let i = c.loop-text.invariant in
-    subst (λ (ks : List Known). HasRoom ks c.text-item.result) (sym i.knows)
-    (has_room c.args.known.now.names c.args.texts.now c.loop-text.text-index c.loop-text.known.names c.loop-text.row.items c.text-item.result c.loop-text-test.true c.text-item.is c.requires.few i.published)
+    let place = g.A.AtomSource.place in
+    subst (λ (p : (ℕ × ℕ) × ℕ). HasRoom p.0.1 (g.A.AtomSource.knows c.loop-text.seat) c.text-item.result) (sym i.keeps.stays)
+    (subst (λ (ks : List Known). HasRoom (place c.args.seat.now).0.1 ks c.text-item.result) (sym i.knows)
+    (has_room (place c.args.seat.now).0.1 c.args.known.now.names c.args.texts.now c.loop-text.text-index c.loop-text.known.names c.loop-text.row.items c.text-item.result c.loop-text-test.true c.text-item.is c.requires.few i.published))
 
 pub loop-text-preserved : goal.loop-text-preserved
 loop-text-preserved g c =

@@ -17,7 +17,7 @@ loop-word-preserved c =
       same = c.read.ensures.same ∙ c.loop-word.invariant.same;
       words = λ h is e name k below. elim (cases_eq k w) [
         | inl here ↦
-            let read = seen_word c.args.seat.now.me c.loop-word.seat.me c.args.text.now h c.args.self.now.accounts c.args.entry w c.read.result c.loop-word.invariant.same c.requires.accounts c.read.ensures.tells is e
+            let read = seen_word c.args.seat.now.me c.loop-word.seat.me c.args.text.now h c.args.self.now.entries c.args.entry w c.read.result c.loop-word.invariant.same c.requires.entries c.read.ensures.tells is e
             c.words-words.ensures.name name (c.loop-word.invariant.words h is e name) within in
             rw here (sym read ∙ same ∙ text_word ws c.args.text.now w c.words-words.ensures.value (omega arith))
         | inr other ↦ c.loop-word.invariant.words h is e name k (omega arith)
@@ -33,7 +33,7 @@ returns-then-read-words-clause-is c = λ h is e name. (
       let ws = c.words-words.result.now in
       let count = as_many ws c.args.text.now c.words-words.ensures.value in
       let within : w < word_count c.args.text.now = omega arith in
-      let read = seen_word c.args.seat.now.me c.loop-word.seat.me c.args.text.now h c.args.self.now.accounts c.args.entry w c.read.result c.loop-word.invariant.same c.requires.accounts c.read.ensures.tells is e
+      let read = seen_word c.args.seat.now.me c.loop-word.seat.me c.args.text.now h c.args.self.now.entries c.args.entry w c.read.result c.loop-word.invariant.same c.requires.entries c.read.ensures.tells is e
       c.words-words.ensures.name name (c.loop-word.invariant.words h is e name) within in
       let agrees : c.read.result ≡ slice_index ws w = read ∙ ap (λ t. word_at t w) same ∙ sym (text_word ws c.args.text.now w c.words-words.ensures.value (omega arith)) in
       absurd (omega arith)),

@@ -14,5 +14,5 @@ load-requires c =
       c.requires.of,
       place,
       subst (λ k. Allows (Kept k) z c.args.seat.now.id me c.args.bucket (λ m. m) (LearnsAt (step z c.args.bucket 0 0 none) me)) (sym c.args.self.now.key)
-          (allows_learn c.args.self.now.accounts z c.args.seat.now.id c.args.bucket me.0 me.1 c.requires.seen.0 c.requires.first c.requires.seen.1 c.requires.seen.2),
+          (allows_learn c.args.self.now.entries z c.args.seat.now.id c.args.bucket me.0 me.1 c.requires.seen.0 c.requires.first c.requires.seen.1 c.requires.seen.2),
     )

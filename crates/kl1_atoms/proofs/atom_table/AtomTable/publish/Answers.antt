@@ -17,6 +17,6 @@ compare_exchange-requires c =
       c.requires.of,
       place,
       subst (λ k. Allows (Kept k) z c.args.seat.now.id me i (λ m. either (eqb m 0) (e + 1) m) (PublishesAt (step z i 0 (e + 1) none) me)) (sym c.args.self.now.key)
-          (subst (λ x. Allows (Kept c.args.self.now.accounts) z c.args.seat.now.id me i (λ m. either (eqb m 0) x m) (PublishesAt (step z i 0 x none) me)) (sym (add-one e))
-          (allows_publish c.args.self.now.accounts z c.args.seat.now.id i e me.0 me.1 c.requires.ready.0 c.requires.ready.1 c.requires.first c.requires.ready.2 c.requires.entry c.requires.bucket)),
+          (subst (λ x. Allows (Kept c.args.self.now.entries) z c.args.seat.now.id me i (λ m. either (eqb m 0) x m) (PublishesAt (step z i 0 x none) me)) (sym (add-one e))
+          (allows_publish c.args.self.now.entries z c.args.seat.now.id i e me.0 me.1 c.requires.ready.0 c.requires.ready.1 c.requires.first c.requires.ready.2 c.requires.entry c.requires.bucket)),
     )

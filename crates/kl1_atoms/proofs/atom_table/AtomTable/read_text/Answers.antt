@@ -1,4 +1,4 @@
-use Rattle.std.proofs.Common.{◌≡◌, ◌+◌, ◌*◌, ◌<◌, ◌≤◌, ◌^◌, length, ◌∙◌, arith}
+use Rattle.std.proofs.Common.{◌+◌, ◌*◌, ◌<◌, ◌≤◌, ◌^◌, length, ◌∙◌, arith}
 use Rattle.std.proofs.lemmas.List.{length-set}
 use Rattle.kl1_model.specs.declared.limits.TheConstants.{MOST_NAME_BYTES}
 use Rattle.kl1_text.specs.Words.{word_at}
@@ -21,7 +21,7 @@ loop-word-preserved c =
       words = λ t e.
           let name = known_name before now t c.args.entry _ c.read-value.result same c.read-value.ensures.tells e in
           let words = c.loop-word.invariant.words t e in
-          let read = known_word before now t c.args.self.now.accounts c.args.entry w c.read-value.result same c.requires.accounts c.read-value.ensures.tells e words.0 in
+          let read = known_word before now t c.args.self.now.entries c.args.entry w c.read-value.result same c.requires.entries c.read-value.ensures.tells e words.0 in
           let full : 256 ^ 7 ≤ word_at t w = omega arith in
           ((let l = full_word t w name full in omega arith), words_put c.loop-word.words t w c.read-value.result inside read words.1);
       left = zeros_left c.loop-word.words w c.read-value.result c.loop-word.invariant.left;
@@ -37,7 +37,7 @@ returns-then-value-lt-FULL_WORD-clause-words c = λ t e.
     let inside : w < length c.loop-word.words = omega (arith, c.loop-word.invariant.size) in
     let name = known_name before now t c.args.entry _ c.read-value.result same c.read-value.ensures.tells e in
     let words = c.loop-word.invariant.words t e in
-    let read = known_word before now t c.args.self.now.accounts c.args.entry w c.read-value.result same c.requires.accounts c.read-value.ensures.tells e words.0 in
+    let read = known_word before now t c.args.self.now.entries c.args.entry w c.read-value.result same c.requires.entries c.read-value.ensures.tells e words.0 in
     let less : word_at t w < 256 ^ 7 = omega arith in
     let short : length t < 8 * w + 8 = short_word t w name less in
     whole_name _ t (w + 1) (length-set c.loop-word.words w c.read-value.result ∙ c.loop-word.invariant.size) (omega arith)

@@ -1,4 +1,4 @@
-use Rattle.std.proofs.Common.{true}
+use Rattle.std.proofs.Common.{true, arith}
 use Rattle.kl1_text.specs.Words.{words_to_end}
 use Rattle.kl1_atoms.specs.Rounds.{Compares, Gives, Drafts}
 use Rattle.kl1_atoms.specs.declared.round.Round.TheVariants.{Made}
@@ -13,23 +13,23 @@ compare-requires-clause-walks c =
 
 pub publish-value-requires-clause-ready : goal.publish-value-requires-clause-ready
 publish-value-requires-clause-ready c =
-    let w = drafted_walks (own c.args.seat.now.me.0) (own c.look-value.new.seat.me.0) (own c.have_draft.new.seat.me.0) c.args.self.now.accounts c.args.bucket c.look-value.result c.args.text.now c.args.passed c.args.drafted
-    c.look-value.ensures.tells.tells c.if-value-gt0.false c.requires.walks c.requires.accounts c.requires.way c.have_draft.ensures.tells.tells in
-    (c.args.text.now, c.args.passed, is_ready (own c.have_draft.new.seat.me.0) c.args.text.now c.args.self.now.accounts c.args.passed c.args.bucket w.0 w.1 c.requires.within c.requires.way)
+    let w = drafted_walks (own c.args.seat.now.me.0) (own c.look-value.new.seat.me.0) (own c.have_draft.new.seat.me.0) c.args.self.now.entries c.args.bucket c.look-value.result c.args.text.now c.args.passed c.args.drafted
+    c.look-value.ensures.tells.tells c.if-value-gt0.false c.requires.walks c.requires.entries c.requires.way c.have_draft.ensures.tells.tells in
+    (c.args.text.now, c.args.passed, is_ready (own c.have_draft.new.seat.me.0) c.args.text.now c.args.self.now.entries c.args.passed c.args.bucket w.0 w.1 c.requires.within c.requires.way)
 
 pub returns-then-value-eq0-clause-gives : goal.returns-then-value-eq0-clause-gives
 returns-then-value-eq0-clause-gives c =
     three_steps c.args.seat.now.me c.look-value.new.seat.me c.have_draft.new.seat.me c.publish-value.new.seat.me (λ f g. Looks f g c.args.bucket c.look-value.result)
     (λ f g. Drafts f g (words_to_end c.args.text.now)) (λ f g. Publishes f g c.args.bucket c.publish-value.result) (λ f g. Gives f g c.args.text.now c.args.passed Made)
     c.look-value.ensures.tells c.have_draft.ensures.tells c.publish-value.ensures.tells
-    (published_walks (own c.args.seat.now.me.0) (own c.look-value.new.seat.me.0) (own c.have_draft.new.seat.me.0) (own c.publish-value.new.seat.me.0) c.args.self.now.accounts c.args.bucket c.look-value.result
-    c.publish-value.result c.args.text.now c.args.passed c.args.drafted c.look-value.ensures.tells.tells c.if-value-gt0.false c.requires.walks c.requires.accounts c.requires.way
-    c.have_draft.ensures.tells.tells c.publish-value.ensures.tells.tells c.if-value-eq0.true)
+    (published_walks (own c.args.seat.now.me.0) (own c.look-value.new.seat.me.0) (own c.have_draft.new.seat.me.0) (own c.publish-value.new.seat.me.0) c.args.self.now.entries c.args.bucket c.look-value.result
+    c.publish-value.result c.args.text.now c.args.passed c.args.drafted c.look-value.ensures.tells.tells c.if-value-gt0.false c.requires.walks c.requires.entries c.requires.way
+    c.have_draft.ensures.tells.tells c.publish-value.ensures.tells.tells c.if-value-eq0.true (let f = c.requires.few in omega arith))
 
 pub compare-requires-2-clause-walks : goal.compare-requires-2-clause-walks
 compare-requires-2-clause-walks c =
-    let w = drafted_walks (own c.args.seat.now.me.0) (own c.look-value.new.seat.me.0) (own c.have_draft.new.seat.me.0) c.args.self.now.accounts c.args.bucket c.look-value.result c.args.text.now c.args.passed c.args.drafted
-    c.look-value.ensures.tells.tells c.if-value-gt0.false c.requires.walks c.requires.accounts c.requires.way c.have_draft.ensures.tells.tells in
+    let w = drafted_walks (own c.args.seat.now.me.0) (own c.look-value.new.seat.me.0) (own c.have_draft.new.seat.me.0) c.args.self.now.entries c.args.bucket c.look-value.result c.args.text.now c.args.passed c.args.drafted
+    c.look-value.ensures.tells.tells c.if-value-gt0.false c.requires.walks c.requires.entries c.requires.way c.have_draft.ensures.tells.tells in
     walks_seen (own c.have_draft.new.seat.me.0) (own c.publish-value.new.seat.me.0) c.args.bucket c.publish-value.result c.args.text.now c.args.passed _ w.0
     (published_else (own c.have_draft.new.seat.me.0) (own c.publish-value.new.seat.me.0) c.args.bucket c.publish-value.result c.publish-value.ensures.tells.tells c.if-value-eq0.false)
 
@@ -43,8 +43,8 @@ returns-then-value-gt0-clause-gives c =
 
 pub returns-clause-gives : goal.returns-clause-gives
 returns-clause-gives c =
-    let kin = kin_drafted (own c.args.seat.now.me.0) (own c.look-value.new.seat.me.0) (own c.have_draft.new.seat.me.0) (own c.publish-value.new.seat.me.0) c.args.self.now.accounts c.args.bucket c.look-value.result c.publish-value.result
-    c.args.text.now c.args.passed c.args.drafted c.look-value.ensures.tells.tells c.if-value-gt0.false c.requires.walks c.requires.accounts c.requires.way c.have_draft.ensures.tells.tells
+    let kin = kin_drafted (own c.args.seat.now.me.0) (own c.look-value.new.seat.me.0) (own c.have_draft.new.seat.me.0) (own c.publish-value.new.seat.me.0) c.args.self.now.entries c.args.bucket c.look-value.result c.publish-value.result
+    c.args.text.now c.args.passed c.args.drafted c.look-value.ensures.tells.tells c.if-value-gt0.false c.requires.walks c.requires.entries c.requires.way c.have_draft.ensures.tells.tells
     (published_else (own c.have_draft.new.seat.me.0) (own c.publish-value.new.seat.me.0) c.args.bucket c.publish-value.result c.publish-value.ensures.tells.tells c.if-value-eq0.false) in
     three_steps c.args.seat.now.me c.have_draft.new.seat.me c.publish-value.new.seat.me c.compare-2.new.seat.me (λ f g. Unit {0}) (λ f g. Publishes f g c.args.bucket c.publish-value.result)
     (λ f g. Compares f g c.args.text.now c.args.passed true c.compare-2.result) (λ f g. Gives f g c.args.text.now c.args.passed c.compare-2.result)

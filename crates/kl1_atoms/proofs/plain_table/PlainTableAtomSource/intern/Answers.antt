@@ -9,7 +9,7 @@ use Rattle.kl1_atoms.proofs.Rows.{seat_after, other_seat_after, held_publishes}
 use Rattle.kl1_atoms.proofs.plain_table.PlainTableAtomSource.intern.Goals as goal
 
 -- there is room for a text that isn't known
-some_room : (ks : List Known) (t : List ℕ) → built_in_of t ≡ None → number_in ks t ≡ None → HasRoom ks t → length ks < MOST_NAMES
+some_room : (ks : List Known) (t : List ℕ) → built_in_of t ≡ None → number_in ks t ≡ None → HasRoom MOST_NAMES ks t → length ks < MOST_NAMES
 some_room ks t own new room = elim room [ inl known ↦ absurd (false≢true (rw (own, new) at known)) | inr few ↦ few ]
 
 -- the text isn't built in
@@ -23,6 +23,10 @@ not_known c = sym (rw (c.in_default-number_in.is, c.as_slice.ensures.value) at c
 -- so there is room
 room_left : (c : goal.After-learn) → length c.args.seat.now.known.items < MOST_NAMES
 room_left c = some_room c.args.seat.now.known.items c.args.text (not_built_in c) (not_known c) c.requires.room
+
+-- where the seat of an account is
+abbrev in_table : ℕ → (ℕ × ℕ) × ℕ
+in_table account = ((0, MOST_NAMES), account)
 
 -- the pair that is learned
 pair : (c : goal.After-learn) → Known
@@ -44,7 +48,7 @@ pub returns-clause-others : goal.returns-clause-others
 returns-clause-others c = λ other its differ.
     other_seat_after c.args.self.now.places.items c.place_of-place.new.self.places.items c.args.seat.now.account c.args.seat.now.used c.place_of-place.new.seat.used c.place_of-place.result
     c.args.text c.args.seat.now.known.items c.requires.of (room_left c) c.place_of-place.ensures.name (not_built_in c) c.place_of-place.ensures.held other.account other.used other.known.items
-    (λ same. differ (ap (λ account. (0, account)) same)) its
+    (λ same. differ (ap in_table same)) its
 
 pub returns-clause-adds : goal.returns-clause-adds
 unfolding pair

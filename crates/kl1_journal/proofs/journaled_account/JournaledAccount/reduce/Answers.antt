@@ -9,7 +9,7 @@ use Rattle.kl1_journal_entries.specs.Lined.{with_reduction}
 use Rattle.kl1_user_events.specs.Views.{reduced_or}
 use Rattle.kl1_journal.specs.Keeping.{kept_of}
 use Rattle.kl1_user.specs.Readings.{reading_of, fits_before, grows_as}
-use Rattle.kl1_journal.proofs.Keeps.{done_step, kept_step}
+use Rattle.kl1_journal.proofs.Keeps.{done_step, kept_step, rules_same}
 use Rattle.kl1_journal.proofs.journaled_account.JournaledAccount.reduce.Goals as goal
 
 pub invariant_of-self-2 : goal.invariant_of-self-2
@@ -42,3 +42,8 @@ returns-clause-step g c = λ f fits.
     let k_is : k ≡ (if is_some o then j else with_reduction j goal_no clause_no new.run) = c.note_step.ensures ∙ ap (λ (i : Journal). if is_some o then i else with_reduction i goal_no clause_no c.run.result) c.reserve.ensures.same ∙ ap (λ n. if is_some o then j else with_reduction j goal_no clause_no n) (c.run.ensures (reading_of new.names)) in
     subst (λ (p : Account × Journal). done (kept_of f p) (model.reduce goal_no clause_no) ≡ record { kept = kept_of f (new, k); reply = reduced_or o }) (ap (λ x. x.1) c.self.view_is)
     (done_step f old new j k goal_no clause_no o (c.in_ok-refused.ensures.step f fits) k_is)
+
+pub returns-clause-rules : goal.returns-clause-rules
+returns-clause-rules g c =
+    let names = subst AreNames c.reduce.ensures.knows (g.met.A.AtomSource.one_to_one c.reduce.new.names c.reduce.new.seat c.reduce.ensures.keeps.of) in
+    rules_same c.self.inside.user c.reduce.new.self (model.reduce c.args.goal.0 c.args.clause.0) (reduced_or c.in_ok-refused.refused) names c.in_ok-refused.ensures.step ∙ ap (λ x. x.1.0.rules) c.self.view_is

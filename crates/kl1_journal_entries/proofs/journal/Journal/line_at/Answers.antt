@@ -6,6 +6,7 @@ use Rattle.kl1_journal_entries.specs.declared.long_entry.LongEntry.{LongEntry}
 use Rattle.kl1_journal_entries.specs.Lined.{Rows}
 use Rattle.kl1_journal_entries.specs.Slots.{entry_at}
 use Rattle.kl1_journal_entries.specs.Shown.{entry_shown}
+use Rattle.kl1_journal_entries.proofs.Rows.{printed_all}
 use Rattle.kl1_journal_entries.proofs.Pages.{name_place, entry_place, get_entry, get_is, lines_count}
 use Rattle.kl1_journal_entries.proofs.journal.Journal.line_at.Goals as goal
 
@@ -17,6 +18,10 @@ returns-then-place-len c =
     let text : c.put_name.new.out.items ≡ name_line c.index.result.now = c.in_ok-put_name.ensures ∙ ap (λ bs. bs ++ name_line c.index.result.now) c.new-line.ensures.items in
     name_place c.args.self.now.journal c.args.place k c.index.result.now (omega arith) (ap (λ (r : Rows). slice_get r.journal.names k) (sym c.self.view_is) ∙ found)
     ∙ ap (λ (t : List ℕ). Some t) (sym text)
+
+-- the goals of what is kept whole are prints
+pub shown_at-requires-clause-printed : goal.shown_at-requires-clause-printed
+shown_at-requires-clause-printed c = rw c.as_slice.ensures.value (printed_all c.self.inside.rules c.self.inside.wholes.items c.self.invariant.sound)
 
 pub returns : goal.returns
 returns c =

@@ -1,22 +1,23 @@
-use Rattle.std.proofs.Common.{◌≡◌, ◌-◌, [], ◌∷◌, ◌++◌, ap, ◌∙◌, List, length, map, arith}
-use Rattle.std.specs.Prelude.{vec_len}
-use Rattle.kl1_model_server.specs.Journal.{Entry, Journal, runs, without_last}
+use Rattle.std.proofs.Common.{◌≡◌, List, length, map, ap, ◌∙◌, arith}
+use Rattle.std.specs.List.{AllByRecursion}
+use Rattle.kl1_model_server.specs.Journal.{last_run_of}
 use Rattle.kl1_journal_entries.specs.declared.packed_entry.PackedEntry.{PackedEntry}
-use Rattle.kl1_journal_entries.specs.declared.packed_entry.PackedEntry.TheVariants as slot
-use Rattle.kl1_journal_entries.specs.Lined.{Rows}
-use Rattle.kl1_journal_entries.specs.Slots.{entry_at}
-use Rattle.kl1_journal_entries.proofs.Rows.{run_last, run_goes_on}
+use Rattle.kl1_journal_entries.specs.Lined.{Rows, if_longer}
+use Rattle.kl1_journal_entries.specs.Slots.{entry_at, IsPlace}
+use Rattle.kl1_journal_entries.proofs.Rows.{run_begins, run_goes_on}
 use Rattle.kl1_journal_entries.proofs.journal.Journal.put_reduction.Goals as goal
 
+-- a run begins
+pub returns-then-run-eq1 : goal.returns-then-run-eq1
+returns-then-run-eq1 c = c.put_run.ensures ∙ run_begins c.args.self.now.journal c.args.goal c.args.clause c.args.run c.if-run-eq1.true
+
+-- the last run goes on, if it may
 pub returns-else-run-eq1 : goal.returns-else-run-eq1
 returns-else-run-eq1 c =
+    let rules = c.self.inside.rules in
     let ws = c.self.inside.wholes.items in
-    let ss = c.self.inside.slots.items in
-    let n = vec_len c.self.inside.slots - 1 in
-    let J : List Entry → Journal = λ es. record { rules = c.self.inside.rules; sessions = c.self.inside.sessions; names = c.self.inside.names.items; entries = es } in
-    let last : n ≡ length ss - 1 = (let o = c.self.inside.slots.ok in omega (arith, o)) in
-    ap (λ (ts : List PackedEntry). J (map (entry_at ws) ts)) c.push_reserved-else-run-eq1.ensures.items
-    ∙ ap (λ (ts : List PackedEntry). J (map (entry_at ws) (ts ++ slot.Run c.args.run ∷ []))) c.pop.ensures.rest
-    ∙ ap J (run_last ws ss c.args.run n last)
-    ∙ ap (λ (r : Rows). let j : Journal = record r.journal { entries = without_last r.journal.entries ++ runs c.args.run ∷ [] } in j) c.self.view_is
-    ∙ run_goes_on c.args.self.now.journal c.args.goal c.args.clause c.args.run (omega arith)
+    let slots = c.as_slice.ensures.value in
+    let places : AllByRecursion (IsPlace (length ws)) c.as_slice.result.now = rw slots c.self.invariant.places in
+    let k : c.last_run-before.result ≡ if_longer (last_run_of c.args.self.now.journal.entries) =
+    c.last_run-before.ensures.run rules ws places c.self.invariant.sound ∙ ap (λ (ss : List PackedEntry). if_longer (last_run_of (map (entry_at ws) ss))) slots ∙ ap (λ (r : Rows). if_longer (last_run_of r.journal.entries)) c.self.view_is in
+    c.put_run-else-run-eq1.ensures ∙ run_goes_on c.args.self.now.journal c.args.goal c.args.clause c.args.run c.last_run-before.result (omega arith) k

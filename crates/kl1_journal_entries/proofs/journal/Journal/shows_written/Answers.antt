@@ -1,4 +1,4 @@
-use Rattle.std.proofs.Common.{subst}
+use Rattle.std.proofs.Common.{refl, subst}
 use Rattle.kl1_model_server.specs.laws.TextLaws.{IsWritten}
 use Rattle.kl1_journal_entries.specs.Lined.{Rows}
 use Rattle.kl1_journal_entries.proofs.Sound.{row_lines}
@@ -10,5 +10,6 @@ returns c =
     (record {
       sessions = c.self.invariant.few_sessions;
       names = c.self.invariant.are_names;
-      entries = row_lines c.self.inside.wholes.items c.self.inside.slots.items c.self.invariant.places c.self.invariant.sound;
+      image = refl;
+      entries = row_lines c.self.inside.rules c.self.inside.wholes.items c.self.inside.slots.items c.self.invariant.places c.self.invariant.sound;
     })

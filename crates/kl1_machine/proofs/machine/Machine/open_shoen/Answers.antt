@@ -19,4 +19,4 @@ returns-clause-ok c =
     c.report_name-2.ensures.ok
 
 pub returns-then-shoen-ne0-clause-plain : goal.returns-then-shoen-ne0-clause-plain
-returns-then-shoen-ne0-clause-plain c f g shoen cell p = c.in_ok-report_name.ensures.plain f g (c.in_ok-join.ensures.plain f g shoen cell p)
+returns-then-shoen-ne0-clause-plain c f g one two shoen cell p = c.in_ok-report_name.ensures.plain f g one two (c.in_ok-join.ensures.plain f g shoen cell p)

@@ -1,4 +1,4 @@
-use Rattle.kl1_machine.proofs.Words.{refl, sym, subst, arith, Option, Some, Known, still_known, HasRoom, Spelled, keeps_same, adds_to, IsBoundLast, Patches, IsNewName}
+use Rattle.kl1_machine.proofs.Words.{refl, sym, subst, arith, Option, Some, Known, still_known, HasRoom, Spelled, keeps_same, adds_to, IsBoundLast, Patches, IsNewName, most_names}
 use Rattle.std.specs.Prelude.{List}
 use Rattle.kl1_machine.proofs.Publishing.{IsNumbered, room_for_name, named_one, published_none, published_one}
 use Rattle.kl1_machine.proofs.machine.Machine.publish_name.Given as given
@@ -14,8 +14,9 @@ returns-in_default-clause-published g c = published_none c.args.self.now c.in_de
 pub intern-number-requires-clause-room : goal.intern-number-requires-clause-room
 intern-number-requires-clause-room g c =
     let m = c.args.self.now in
-    let new : IsNewName m.names.names (Some c.in-Some.text) = rw c.in-Some.is at c.requires.can.name in
-    subst (λ (ks : List Known). HasRoom ks c.in-Some.text) (sym c.requires.knows) (room_for_name m.names.names c.in-Some.text new.1.0 new.1.1)
+    let new : IsNewName (most_names m) m.names.names (Some c.in-Some.text) = rw c.in-Some.is at c.requires.can.name in
+    let room = (g.A.AtomSource.place c.args.seat.now).0.1 in
+    subst (λ (ks : List Known). HasRoom room ks c.in-Some.text) (sym c.requires.knows) (room_for_name (most_names m) room m.names.names c.in-Some.text new.1.0 new.1.1 c.requires.names)
 
 pub rebind_constant-requires-clause-bound : goal.rebind_constant-requires-clause-bound
 rebind_constant-requires-clause-bound g c = subst (λ (o : Option Spelled). IsBoundLast o c.args.self.now.store.held) c.in-Some-spelled.is c.requires.can.last
@@ -32,7 +33,7 @@ numbered g c =
     let known = c.args.self.now.names.names in
     let t = c.in-Some.text in
     let a = c.intern-number.result in
-    let new : IsNewName known (Some t) = rw c.in-Some.is at c.requires.can.name in
+    let new : IsNewName (most_names c.args.self.now) known (Some t) = rw c.in-Some.is at c.requires.can.name in
     let adds = adds_to g.A.AtomSource.knows c.args.seat.now c.intern-number.new.seat known c.learn.new.self.names t a c.requires.knows c.learn.ensures.names c.intern-number.ensures.adds in
     named_one known c.learn.new.self.names t a c.of_number.result new.1.0 c.requires.can.small (omega arith) c.of_number.ensures adds.1
 

@@ -1,4 +1,4 @@
-use Rattle.kl1_machine.proofs.Words.{◌≡◌, true, length, refl, sym, ap, ◌∙◌, arith, subst, Some, None, MoveIn, taken_places, Plan, plan_reads, plan_moves, IsTaskIn, Machine, Trail, made, Since}
+use Rattle.kl1_machine.proofs.Words.{◌≡◌, length, refl, sym, ap, ◌∙◌, arith, subst, Some, None, MoveIn, taken_places, Plan, plan_reads, plan_moves, IsTaskIn, Machine, Trail, made, Since}
 use Rattle.kl1_machine.proofs.Keeping.{keeps_then}
 use Rattle.kl1_machine.proofs.Planned.{MayStep, found_holds, nothing_refused, full_refused}
 use Rattle.kl1_machine.proofs.Reduced.{IsHeard, only_monitor, heard_reduces, charged_by}
@@ -154,9 +154,10 @@ returns-in_ok-reschedule-in-Moves g c =
     let steps = rw c.in_ok-remove-in-Moves.ensures.ok.is at c.in_ok-step_goal-in-Moves.ensures.ok in
     let again = c.in_ok-reschedule-in-Moves.ensures in
     let names : u.names ≡ m.names = ap (λ (x : Trail). x.names) since.keeps.trail in
+    let ruled : u.rules ≡ m.rules = ap (λ (x : Trail). x.rules) since.keeps.trail in
     record {
       ok = moved_reduces program m u v c.args.number c.args.clause p steps again.ok;
-      rested = λ none. (again.rested m c.requires.begun since c.requires.rested, stepped_publishes program m u v c.args.number c.args.clause p c.requires.small c.requires.room names steps again.ok);
+      rested = λ none. (again.rested m c.requires.begun since c.requires.rested, stepped_publishes program m u v c.args.number c.args.clause p c.requires.small c.requires.room names ruled steps again.ok);
       room = λ none. c.if-is_full.false;
       charged = charged_by m u v since again.ok;
       keeps = keeps_then m u v since.keeps c.reschedule.ensures.keeps;

@@ -37,11 +37,12 @@ returns-in_ok-break_stream-in-Broken c =
       grows = record { grown = a.grown; hooks = a.hooks };
       told_as = rw c.limits.ensures.value at (rw c.in-Broken.is at a.told);
     } in
+    let is = rw c.left-left.ensures at c.in_ok-break_stream-in-Broken.ensures.ok in
     record {
-      ok = tells_by m k c.args.number c.args.message c.in-Some.shoen Broken c.break_stream.new.self c.in_ok-break_stream-in-Broken.ensures.ok h;
-      plain = λ f g. reported_plain f g m k c.break_stream.new.self c.args.number m.counts.reports torn c.in_ok-break_stream-in-Broken.ensures.ok (torn_plain f g);
+      ok = tells_by m k c.args.number c.args.message c.in-Some.shoen Broken c.break_stream.new.self is h;
+      plain = λ f g one two. reported_plain f g m k c.break_stream.new.self c.args.number m.counts.reports (torn m.rules) is (torn_plain m.rules f g one two);
       since = λ b.
-          since_heard b m k c.args.number c.args.message c.in-Some.shoen Broken c.break_stream.new.self c.in_ok-break_stream-in-Broken.ensures.ok h
+          since_heard b m k c.args.number c.args.message c.in-Some.shoen Broken c.break_stream.new.self is h
           (record { numbered = e.numbered; lower = e.lower; worked = e.worked });
     }
 
@@ -61,7 +62,7 @@ returns-in_ok-set_tail-in-Sent c =
       ok =
           rw (add-one m.counts.reports)
           (tells_by m k c.args.number c.args.message c.in-Some.shoen (Sent c.in-Sent.next) c.set_tail.new.self c.in_ok-set_tail-in-Sent.ensures.ok h);
-      plain = λ f g. reported_plain f g m k c.set_tail.new.self c.args.number (m.counts.reports + 1) (tailed c.in-Sent.next) c.in_ok-set_tail-in-Sent.ensures.ok (tailed_plain f g c.in-Sent.next);
+      plain = λ f g one two. reported_plain f g m k c.set_tail.new.self c.args.number (m.counts.reports + 1) (tailed c.in-Sent.next) c.in_ok-set_tail-in-Sent.ensures.ok (tailed_plain f g c.in-Sent.next);
       since = λ b s.
           rw (add-one m.counts.reports)
           (since_heard b m k c.args.number c.args.message c.in-Some.shoen (Sent c.in-Sent.next) c.set_tail.new.self c.in_ok-set_tail-in-Sent.ensures.ok h (record { numbered = e.numbered; lower = e.lower; worked = e.worked }) s);

@@ -1,4 +1,7 @@
-use Rattle.std.proofs.Common.{[], ◌∙◌, ap, sym}
+use Rattle.std.proofs.Common.{[], ◌∙◌, ap, sym, subst}
+use Rattle.kl1_model.specs.declared.rules.Rules.{Rules}
+use Rattle.kl1_model_server.specs.laws.TextLaws.{AreNames as MayBeNames}
+use Rattle.kl1_pool.specs.Parts.{HasRoomFor}
 use Rattle.kl1_tally.specs.Seats.{Book}
 use Rattle.kl1_journal.specs.Keeping.{Held}
 use Rattle.kl1_pool.proofs.Calling.{called_there}
@@ -10,6 +13,14 @@ with_names-requires-clause-of g c = (some_is _ _ _ c.in-Some.is c.self.invariant
 
 pub with_names-requires-clause-nothing : goal.with_names-requires-clause-nothing
 with_names-requires-clause-nothing g c = (some_is _ _ _ c.in-Some.is c.self.invariant.1).1.1
+
+pub with_names-requires-clause-names : goal.with_names-requires-clause-names
+with_names-requires-clause-names g c = subst (λ (of : Rules). MayBeNames of c.args.texts.now) (sym (some_is _ _ _ c.in-Some.is c.self.invariant.1).0) c.requires.texts
+
+pub with_names-requires-clause-room : goal.with_names-requires-clause-room
+with_names-requires-clause-room g c =
+    let is = some_is _ _ _ c.in-Some.is c.self.invariant.1 in
+    subst (λ (of : Rules). HasRoomFor of c.in-Some.field-0.seat) (sym is.0) is.1.0.1
 
 pub new-requires-clause-entries : goal.new-requires-clause-entries
 new-requires-clause-entries g c = ap (λ k. k.journal.entries) (c.in-Ok.ensures.fresh (λ n. []))

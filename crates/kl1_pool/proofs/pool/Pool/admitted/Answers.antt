@@ -1,7 +1,9 @@
-use Rattle.std.proofs.Common.{◌≡◌, ℕ, ◌∙◌, sym, ap, subst}
-use Rattle.std.specs.Prelude.{Some, slice_get}
+use Rattle.std.proofs.Common.{◌≡◌, ℕ, List, [], ◌∙◌, sym, ap, subst, arith}
+use Rattle.std.specs.Prelude.{Some, slice_get, IsTrue}
+use Rattle.kl1_model.specs.Rules.{limits_of}
+use Rattle.kl1_model.specs.declared.limits.Limits.{Limits}
 use Rattle.kl1_journal_entries.specs.Lined.{Rows}
-use Rattle.kl1_model_server.specs.laws.TextLaws.{AreNames}
+use Rattle.kl1_model_server.specs.laws.TextLaws.{are_new_names}
 use Rattle.kl1_pool.proofs.Calling.{called_there}
 use Rattle.kl1_pool.proofs.Coming.{comer_restored, comer_counted}
 use Rattle.kl1_pool.proofs.pool.Pool.admitted.Goals as goal
@@ -10,11 +12,17 @@ pub settle-requires-clause-name : goal.settle-requires-clause-name
 settle-requires-clause-name g c = called_there g.K.Names.names c.args.account c.args.place c.args.name (sym (sym c.account.ensures ∙ c.if-account.false)) c.requires.name
 
 pub settle-requires-clause-texts : goal.settle-requires-clause-texts
-settle-requires-clause-texts g c = subst AreNames (sym c.names.ensures) c.shows_written.ensures.names
+settle-requires-clause-texts g c =
+    let few = ap (λ (l : Limits). l.names) (c.limits-limits.ensures.value ∙ ap limits_of c.args.self.now.ruled) in
+    let names = c.shows_written.ensures.names in
+    record {
+      few = omega (arith, few, c.if-names-limits.false);
+      new = subst (λ (ts : List (List ℕ)). IsTrue (are_new_names [] ts)) (sym c.names-names.ensures) names.new;
+    }
 
 pub restore_counted-restored-requires-clause-names : goal.restore_counted-restored-requires-clause-names
 restore_counted-restored-requires-clause-names g c =
-    c.in-Ok.ensures.used ∙ c.names.ensures ∙ ap (λ (r : Rows). r.journal.names) (c.journal-journal.ensures ∙ sym c.journal.ensures)
+    c.in-Ok.ensures.used ∙ c.names-names.ensures ∙ ap (λ (r : Rows). r.journal.names) (c.journal-journal.ensures ∙ sym c.journal.ensures)
 
 -- it is at the place to which it was to come
 pub welcome-stays-requires : goal.welcome-stays-requires

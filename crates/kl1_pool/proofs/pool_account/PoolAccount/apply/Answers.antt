@@ -1,8 +1,10 @@
-use Rattle.std.proofs.Common.{◌≡◌, ◌∙◌, ap, subst}
+use Rattle.std.proofs.Common.{◌≡◌, ◌∙◌, ap, sym, subst}
 use Rattle.kl1_model_server.specs.Journal.{done}
 use Rattle.kl1_user_events.specs.Views.{event_of, reply_of}
 use Rattle.kl1_tally.specs.declared.amounts.TheConstants.{MOST_ACCOUNTS}
 use Rattle.kl1_journal.specs.Keeping.{Held, kept_of}
+use Rattle.kl1_model.specs.declared.rules.Rules.{Rules}
+use Rattle.kl1_pool.specs.Parts.{HasRoomFor}
 use Rattle.kl1_pool.specs.PoolAccounts.{StandsIn, PoolAccountValue}
 use Rattle.kl1_command.specs.Told.{events_by, steps_by}
 use Rattle.std.specs.Prelude.{slice_get}
@@ -12,13 +14,17 @@ use Rattle.kl1_pool.proofs.Tells.{ended_is}
 use Rattle.kl1_pool.proofs.PoolAccounts.{held_counts, kept_counts, of_tally, within, placed_in, held_stays, named_still}
 use Rattle.kl1_pool.proofs.pool_account.PoolAccount.apply.Goals as goal
 
+-- the seat has room for the names of the account's rules
+pub apply-requires-clause-room : goal.apply-requires-clause-room
+apply-requires-clause-room g c = subst (λ (of : Rules). HasRoomFor of c.self.inside.kept.0) (sym c.self.invariant.5) c.self.invariant.0.1
+
 pub count-requires-clause-one : goal.count-requires-clause-one
 count-requires-clause-one g c =
-    (held_counts c.self.inside.past c.self.inside.book c.self.inside.kept.1 c.apply.new.self.1 (event_of c.args.event.now) (reply_of c.in_ok-reply.reply) c.shows_replay.ensures.names c.shows_replay.ensures.kept c.shows_replay-2.ensures.names c.in_ok-reply.ensures.step c.self.invariant.4 (c.is_full.ensures.room c.if-is_full.false)).1
+    (held_counts c.self.inside.past c.self.inside.book c.self.inside.kept.1 c.apply.new.self.1 (event_of c.args.event.now) (reply_of c.in_ok-reply.reply) c.shows_replay-2.ensures.names c.in_ok-reply.ensures.step c.self.invariant.4 (c.is_full.ensures.room c.if-is_full.false)).1
 
 pub count-requires-clause-room : goal.count-requires-clause-room
 count-requires-clause-room g c =
-    (held_counts c.self.inside.past c.self.inside.book c.self.inside.kept.1 c.apply.new.self.1 (event_of c.args.event.now) (reply_of c.in_ok-reply.reply) c.shows_replay.ensures.names c.shows_replay.ensures.kept c.shows_replay-2.ensures.names c.in_ok-reply.ensures.step c.self.invariant.4 (c.is_full.ensures.room c.if-is_full.false)).0.few
+    (held_counts c.self.inside.past c.self.inside.book c.self.inside.kept.1 c.apply.new.self.1 (event_of c.args.event.now) (reply_of c.in_ok-reply.reply) c.shows_replay-2.ensures.names c.in_ok-reply.ensures.step c.self.invariant.4 (c.is_full.ensures.room c.if-is_full.false)).0.few
 
 pub invariant_of-self-2 : goal.invariant_of-self-2
 invariant_of-self-2 g c =
@@ -27,7 +33,7 @@ invariant_of-self-2 g c =
     let old = c.self.inside.kept.1 in
     let new = c.apply.new.self.1 in
     let r = reply_of c.in_ok-reply.reply in
-    let counts = held_counts p b old new (event_of c.args.event.now) r c.shows_replay.ensures.names c.shows_replay.ensures.kept c.shows_replay-2.ensures.names c.in_ok-reply.ensures.step c.self.invariant.4 (c.is_full.ensures.room c.if-is_full.false) in
+    let counts = held_counts p b old new (event_of c.args.event.now) r c.shows_replay-2.ensures.names c.in_ok-reply.ensures.step c.self.invariant.4 (c.is_full.ensures.room c.if-is_full.false) in
     let stays = held_stays old new (event_of c.args.event.now) r c.shows_replay-2.ensures.names c.in_ok-reply.ensures.step in (
       c.apply.ensures.of,
       placed_in c.args.codes.now.table.now g.K.PoolIds.codes (StandsIn c.apply.new.codes.table.now) new.0.modules c.requires.codes c.apply.ensures.same c.apply.ensures.placed,

@@ -5,11 +5,17 @@ use Rattle.kl1_user_events.specs.Views.{reduced_or}
 use Rattle.kl1_tally.specs.declared.amounts.TheConstants.{MOST_ACCOUNTS}
 use Rattle.std.specs.Prelude.{slice_get}
 use Rattle.kl1_tally.specs.Seats.{Book}
+use Rattle.kl1_model.specs.declared.rules.Rules.{Rules}
+use Rattle.kl1_pool.specs.Parts.{HasRoomFor}
 use Rattle.kl1_pool.specs.PoolAccounts.{StandsIn, PoolAccountValue}
 use Rattle.kl1_command.specs.Told.{events_by, steps_by}
 use Rattle.kl1_pool.proofs.Shown.{held_follows}
 use Rattle.kl1_pool.proofs.PoolAccounts.{held_counts, kept_counts, of_tally, within, step_past, step_ended, held_stays, named_still}
 use Rattle.kl1_pool.proofs.pool_account.PoolAccount.reduce.Goals as goal
+
+-- the seat has room for the names of the account's rules
+pub reduce-requires-clause-room : goal.reduce-requires-clause-room
+reduce-requires-clause-room g c = subst (λ (of : Rules). HasRoomFor of c.self.inside.kept.0) (sym c.self.invariant.5) c.self.invariant.0.1
 
 pub invariant_of-self-2 : goal.invariant_of-self-2
 invariant_of-self-2 g c =
@@ -19,7 +25,7 @@ invariant_of-self-2 g c =
     let new = c.reduce.new.self.1 in
     let r = reduced_or c.in_ok-refused.refused in
     let room = subst (λ (x : Book). x.events < 2 ^ 63) (sym (ap (λ (x : PoolAccountValue). x.book) c.self.view_is)) c.requires.room in
-    let counts = held_counts p b old new (reduce_event c.args.goal.0 c.args.clause.0) r c.shows_replay.ensures.names c.shows_replay.ensures.kept c.shows_replay-2.ensures.names c.in_ok-refused.ensures.step c.self.invariant.4 (λ entry. room) in
+    let counts = held_counts p b old new (reduce_event c.args.goal.0 c.args.clause.0) r c.shows_replay-2.ensures.names c.in_ok-refused.ensures.step c.self.invariant.4 (λ entry. room) in
     let stays = held_stays old new (reduce_event c.args.goal.0 c.args.clause.0) r c.shows_replay-2.ensures.names c.in_ok-refused.ensures.step in (
       c.reduce.ensures.of,
       subst (λ (ms : List Numbered). ArePlaced (StandsIn g.K.PoolIds.codes) ms) (sym c.reduce.ensures.modules) c.self.invariant.1,

@@ -4,7 +4,18 @@ use Rattle.kl1_model.specs.Step.{step}
 use Rattle.kl1_user_events.specs.Views.{event_of, reply_of}
 use Rattle.kl1_user.specs.Accounts.{Account, state_of, Reading, Fits}
 use Rattle.kl1_user.specs.Readings.{fits_before, grows_as}
+use Rattle.kl1_atoms.specs.Names.{AreNames}
+use Rattle.kl1_script.proofs.RulesKept.{rules_kept, room_kept}
 use Rattle.kl1_script.proofs.replayed.Replayed.apply.Goals as goal
+
+-- the seat stays, and the rules do
+pub invariant_of-self : goal.invariant_of-self
+invariant_of-self g c =
+    let old = c.self.inside.user in
+    let new = c.apply.new.self in
+    let names = subst AreNames c.apply.ensures.knows (g.met.A.AtomSource.one_to_one c.apply.new.names c.apply.new.seat c.apply.ensures.keeps.of) in
+    let rules = rules_kept old new (event_of c.args.event.now) reply_of c.apply.result names c.apply.ensures.step c.apply.ensures.err in
+    (c.apply.ensures.keeps.of, c.apply.ensures.knows, room_kept g.A.AtomSource.place c.self.inside.seat c.apply.new.seat old.rules new.rules rules c.apply.ensures.keeps.stays c.self.invariant.2, c.apply.ensures.placed)
 
 pub returns-clause-step : goal.returns-clause-step
 returns-clause-step g c =

@@ -1,4 +1,4 @@
-use Rattle.std.proofs.Common.{◌≡◌, ◌∙◌, Bool, Option, None, Some, ap, refl, subst}
+use Rattle.std.proofs.Common.{◌≡◌, ◌∙◌, Bool, Option, None, Some, ap, sym, refl, subst}
 use Rattle.kl1_model.specs.Choice.{Chosen, first}
 use Rattle.kl1_model.specs.Event.{reduce}
 use Rattle.kl1_model.specs.Step.{step}
@@ -9,7 +9,20 @@ use Rattle.kl1_model_server.specs.Journal.{first_step}
 use Rattle.kl1_script.specs.Replays.{if_accepted}
 use Rattle.kl1_script.specs.Steps.{Went}
 use Rattle.kl1_script.proofs.FirstSteps.{none_steps, told_none, one_steps}
+use Rattle.kl1_atoms.specs.Names.{AreNames}
+use Rattle.kl1_codes.specs.Numbered.{ArePlaced}
+use Rattle.kl1_script.proofs.RulesKept.{rules_kept, room_kept}
 use Rattle.kl1_script.proofs.replayed.Replayed.step.Goals as goal
+
+-- the seat stays, and the rules do
+pub invariant_of-self-in-Some : goal.invariant_of-self-in-Some
+invariant_of-self-in-Some g c =
+    let old = c.self.inside.user in
+    let new = c.reduce.new.self in
+    let names = subst AreNames c.reduce.ensures.knows (g.met.A.AtomSource.one_to_one c.reduce.new.names c.reduce.new.seat c.reduce.ensures.keeps.of) in
+    let rules = rules_kept old new (reduce c.in-Some.goal.0 c.in-Some.clause.0) reduced_or c.reduce.result names c.reduce.ensures.step c.reduce.ensures.err in
+    let placed = subst (ArePlaced (g.C.CodeSource.has c.self.inside.code_source)) (sym c.reduce.ensures.modules) c.self.invariant.3 in
+    (c.reduce.ensures.keeps.of, c.reduce.ensures.knows, room_kept g.A.AtomSource.place c.self.inside.seat c.reduce.new.seat old.rules new.rules rules c.reduce.ensures.keeps.stays c.self.invariant.2, placed)
 
 pub returns-in-None-clause-step : goal.returns-in-None-clause-step
 returns-in-None-clause-step g c =

@@ -1,14 +1,14 @@
-use Rattle.std.proofs.Common.{List, sym, subst}
-use Rattle.kl1_shoen.specs.Shoens.{AreCharged}
+use Rattle.std.proofs.Common.{List, map, ap, ◌∙◌}
+use Rattle.std.proofs.lemmas.Result.{on_ok_weaker}
 use Rattle.kl1_shoen_paths.specs.declared.shoen.Shoen.{Shoen}
-use Rattle.kl1_shoen.proofs.Charges.{charged_with}
-use Rattle.kl1_shoen.proofs.Linked.{linked_changed}
+use Rattle.kl1_shoen.specs.Shoens.{Tree}
+use Rattle.kl1_shoen.proofs.Belows.{aborts_once, aborted_all}
 use Rattle.kl1_shoen.proofs.tree.ShoenTree.abort.Goals as goal
 
-pub invariant_of-self-2 : goal.invariant_of-self-2
-invariant_of-self-2 g c =
-    let i = c.self.inside in (
-      charged_with i.shoens.now c.abort_all.new.shoens.now i.charges.now i.work c.self.invariant.0 c.abort_all.ensures.numbered c.abort_all.ensures.parents,
-      subst (λ (ss : List (Shoen g.row.N.Denot)). AreCharged ss i.charges.kept i.kept_work) (sym c.abort_all.ensures.kept) c.self.invariant.1,
-      linked_changed i.shoens.now i.shoens.kept c.abort_all.new.shoens.now c.abort_all.new.shoens.kept i.links c.self.invariant.2 c.abort_all.ensures.parents c.abort_all.ensures.kept,
-    )
+pub change_below-requires : goal.change_below-requires
+change_below-requires g c = record { once = aborts_once c.args.left }
+
+pub returns-clause-ok : goal.returns-clause-ok
+returns-clause-ok g c =
+    let t = c.args.self.now in
+    on_ok_weaker c.change_below.result (λ is. is ∙ ap (λ (ss : List (Shoen g.row.N.Denot)). let z : Tree g.row.N.Denot = record t { shoens = ss } in z) (aborted_all c.args.left t.shoens t.shoens c.args.number)) c.change_below.ensures.ok

@@ -1,4 +1,4 @@
-use Rattle.std.proofs.Common.{refl, inl, length, arith}
+use Rattle.std.proofs.Common.{refl, inl, length, arith, ap, ◌∙◌}
 use Rattle.std.proofs.lemmas.Option.{slice_get_read}
 use Rattle.kl1_atoms.specs.Knowing.{few_more, knows_first-more, knows_first-kept}
 use Rattle.kl1_tests_threads.proofs.atoms.sources.are_found_again.Goals as goal
@@ -7,6 +7,7 @@ pub loop-place-preserved : goal.loop-place-preserved
 loop-place-preserved g c =
     record {
       of = c.intern.ensures.of;
+      room = ap (λ p. p.0.1) c.intern.ensures.place ∙ c.loop-place.invariant.room;
       few = (let f = few_more (g.S.AtomSource.knows c.loop-place.seat) c.index-names-place.result c.intern.result (g.S.AtomSource.knows c.intern.new.seat) c.intern.ensures.adds in let i = c.loop-place.invariant.few in omega arith);
       known = knows_first-more (g.S.AtomSource.knows c.loop-place.seat) c.index-names-place.result c.intern.result (g.S.AtomSource.knows c.intern.new.seat) c.args.names.now c.loop-place.place c.intern.ensures.adds
           (slice_get_read c.args.names.now (length c.args.names.now) c.loop-place.place c.index-names-place.result refl c.loop-place-test.true c.index-names-place.is) c.loop-place.invariant.known;

@@ -1,4 +1,4 @@
-use Rattle.std.proofs.Common.{◌∙◌}
+use Rattle.std.proofs.Common.{ap, ◌∙◌}
 use Rattle.kl1_atoms.specs.Knowing.{number_known, few_more}
 use Rattle.kl1_tests_threads.proofs.atoms.sources.is_numbered.Goals as goal
 
@@ -10,6 +10,9 @@ text_of-read-requires-clause-known g c =
 
 pub returns-clause-place : goal.returns-clause-place
 returns-clause-place g c = c.text_of-read.ensures.place ∙ c.intern-found.ensures.place
+
+pub returns-clause-room : goal.returns-clause-room
+returns-clause-room g c = ap (λ p. p.0.1) (c.text_of-read.ensures.place ∙ c.intern-found.ensures.place)
 
 pub returns-clause-others : goal.returns-clause-others
 returns-clause-others g c = λ other is apart. c.text_of-read.ensures.others other (c.intern-found.ensures.others other is apart) (λ e. apart (e ∙ c.intern-found.ensures.place))

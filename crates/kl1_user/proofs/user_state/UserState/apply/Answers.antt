@@ -23,3 +23,7 @@ returns-in-Control-clause-step g c =
 pub returns-in-Answer-clause-step : goal.returns-in-Answer-clause-step
 returns-in-Answer-clause-step g c =
     does_same c.answer.result c.args.self.now c.self.inside.account c.answer.new.self (model.answer c.in-Answer.shoen.0 c.in-Answer.report c.in-Answer.goal) (event_of c.args.event.now) c.self.view_is (sym (ap event_of c.in-Answer.is)) c.answer.ensures.step
+
+pub returns-in-Forget-clause-step : goal.returns-in-Forget-clause-step
+returns-in-Forget-clause-step g c =
+    leaves_names c.forget.result c.args.self.now c.self.inside.account c.forget.new.self (model.forget c.in-Forget.shoen.0 c.in-Forget.count) (event_of c.args.event.now) c.self.view_is (sym (ap event_of c.in-Forget.is)) c.forget.ensures.names c.forget.ensures.step

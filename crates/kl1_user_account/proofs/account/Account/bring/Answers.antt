@@ -1,4 +1,4 @@
-use Rattle.kl1_user_account.proofs.Words.{◌≡◌, List, length, sym, ap, ap₂, ◌∙◌, subst, with_entry, CellName, Known, Account, AreSpared, NameShelf, Machine, Trail, change_of, CanBring}
+use Rattle.kl1_user_account.proofs.Words.{◌≡◌, List, length, sym, ap, ap₂, ◌∙◌, arith, subst, with_entry, CellName, Known, Account, AreSpared, NameShelf, Machine, Trail, change_of, CanBring}
 use Rattle.kl1_user_account.proofs.Machines.{Aside, aside_of, began, began_rested, Ends}
 use Rattle.kl1_user_account.proofs.Bringing.{IsBrought, brought_ends}
 use Rattle.kl1_user_account.proofs.account.Account.bring.Goals.{In_ok-or_back, After-note_entry}
@@ -23,7 +23,7 @@ pub publish_names-requires-clause-knows : goal.publish_names-requires-clause-kno
 publish_names-requires-clause-knows g c = c.requires.knows ∙ sym (known_same g (goal.at.publish_names-requires-clause-knows g c).In_ok-or_back)
 
 pub publish_names-requires-clause-few : goal.publish_names-requires-clause-few
-publish_names-requires-clause-few g c = rw (known_same g (goal.at.publish_names-requires-clause-few g c).In_ok-or_back) c.requires.may.few
+publish_names-requires-clause-few g c = rw (known_same g (goal.at.publish_names-requires-clause-few g c).In_ok-or_back) (let few = c.requires.may.few in let room = c.requires.room in omega (arith, few, room))
 
 pub publish_names-requires-clause-small : goal.publish_names-requires-clause-small
 publish_names-requires-clause-small g c = rw (known_same g (goal.at.publish_names-requires-clause-small g c).In_ok-or_back, ← c.self.view_is) c.self.invariant.0.small

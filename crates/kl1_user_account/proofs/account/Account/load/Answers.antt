@@ -48,8 +48,8 @@ draft_module-requires-clause-names g c = rw (c.requires.knows, ← c.self.view_i
 pub returns-in-Refused-clause-step : goal.returns-in-Refused-clause-step
 returns-in-Refused-clause-step g c = λ f fits.
     let a = c.args.self.now in
-    loads_by (kept_in c.self.inside) a c.is_full-is_full.result c.args.source.now c.in_ok-refusal.field-0 (Refused c.in-Refused.refusal) c.self.view_is c.is_full-is_full.ensures c.in_ok-refusal.ensures.loads c.in-Refused.is
-    (state_of f a) (record { modules_are = refl; names_are = refl; full_is = refl })
+    loads_by (kept_in c.self.inside) a c.is_full-is_full.result c.args.source.now c.in_ok-refusal.field-0 (Refused c.in-Refused.refusal) c.self.view_is c.is_full-is_full.ensures (rw c.limits-most.ensures.value at c.in_ok-refusal.ensures.loads) c.in-Refused.is
+    (state_of f a) (record { modules_are = refl; names_are = refl; most_is = refl; full_is = refl })
 
 -- the module is new under the numbers that its names got, and the account after it is that of the step
 came : (g : _) (c : goal.After-as_slice g) →
@@ -67,7 +67,7 @@ came g c =
     let did = rw (← c.in_ok-or_back.ensures.same, ← c.in_ok-or_back.ensures.ok) at c.reschedule_for_load-looked.ensures in
     let own : c.names-texts.result.now ≡ own_names d.content = c.names-texts.ensures.value ∙ ap own_names c.code.ensures in
     let p : IsLoaded e c.args.source.now d r names row = record {
-      draft = loads_by (kept_in u) c.args.self.now c.is_full-is_full.result c.args.source.now l.field-0 (Drafted d) c.self.view_is c.is_full-is_full.ensures l.ensures.loads c.in-Drafted.is;
+      draft = loads_by (kept_in u) c.args.self.now c.is_full-is_full.result c.args.source.now l.field-0 (Drafted d) c.self.view_is c.is_full-is_full.ensures (rw c.limits-most.ensures.value at l.ensures.loads) c.in-Drafted.is;
       looks = did.ok;
       settled = rw c.over-loaded.ensures at did.settled;
       flags = did.flags;

@@ -1,5 +1,5 @@
 use Rattle.kl1_user_account.proofs.Words.{◌≢◌, ℕ, List, sym, ap, ◌∙◌, subst, AllPairs, None, option_copied, goals_below, state_of, kept_in}
-use Rattle.kl1_user_account.proofs.Statuses.{below_read, status_read, status_some}
+use Rattle.kl1_user_account.proofs.Statuses.{below_read, status_read, status_gone, status_some}
 use Rattle.kl1_user_account.proofs.account.Account.status.Goals as goal
 
 pub alive_in-requires : goal.alive_in-requires
@@ -11,10 +11,16 @@ returns-in_default g c = record {
       status_read f (kept_in c.self.inside) c.args.number None (sym c.is_number.ensures ∙ c.if-not-is_number.false) (sym (ap option_copied c.in_default.is) ∙ c.lend.ensures.value));
 }
 
+pub returns-then-is_forgotten : goal.returns-then-is_forgotten
+returns-then-is_forgotten g c = record {
+  step = rw (← c.self.view_is) (λ f fits.
+      status_gone f (kept_in c.self.inside) c.args.number c.in-Some.shoen.now (sym c.is_number.ensures ∙ c.if-not-is_number.false) (sym (ap option_copied c.in-Some.is) ∙ c.lend.ensures.value) (sym c.is_forgotten.ensures ∙ c.if-is_forgotten.true));
+}
+
 pub returns : goal.returns
 returns g c = record {
   step = rw (← c.self.view_is) (λ f fits.
       let a = kept_in c.self.inside in
-      status_some f a c.args.number c.in-Some.shoen.now c.view_of-shown.result c.alive_in.result (sym c.is_number.ensures ∙ c.if-not-is_number.false) (sym (ap option_copied c.in-Some.is) ∙ c.lend.ensures.value) c.view_of-shown.ensures
+      status_some f a c.args.number c.in-Some.shoen.now c.view_of-shown.result c.alive_in.result (sym c.is_number.ensures ∙ c.if-not-is_number.false) (sym (ap option_copied c.in-Some.is) ∙ c.lend.ensures.value) (sym c.is_forgotten.ensures ∙ c.if-is_forgotten.false) c.view_of-shown.ensures
       (ap (goals_below (state_of f a)) c.in-Some.ensures.number ∙ below_read f a c.args.number c.below.new.out.items c.in_ok-below.ensures c.self.invariant.0.owned ∙ sym (rw c.as_slice.ensures.value at c.alive_in.ensures)));
 }

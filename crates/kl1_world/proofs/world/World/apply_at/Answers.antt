@@ -29,6 +29,16 @@ apply-requires-clause-placed g c =
     let at = stands xs n x less c.index_mut-kept.ensures.value in
     (c.self.invariant.0 n x at).2
 
+pub apply-requires-clause-room : goal.apply-requires-clause-room
+apply-requires-clause-room g c =
+    let xs = c.self.inside.accounts.items in
+    let n = c.args.account in
+    let x = c.index_mut-kept.result.now in
+    let view : accounts_of xs ≡ c.args.self.now.0 = ap (λ p. p.0) c.self.view_is in
+    let less = as_many xs c.args.self.now.0 n view c.requires in
+    let at = stands xs n x less c.index_mut-kept.ensures.value in
+    (c.self.invariant.0 n x at).3
+
 pub invariant_of-self : goal.invariant_of-self
 invariant_of-self g c =
     let xs = c.self.inside.accounts.items in
@@ -39,7 +49,7 @@ invariant_of-self g c =
     let at = stands xs n x less c.index_mut-kept.ensures.value in
     let y = c.apply.new.self in (
       seated_set g.A.AtomSource.is_of g.A.AtomSource.place (g.C.CodeSource.has c.self.inside.code_source) (g.C.CodeSource.has c.apply.new.codes) c.self.inside.names c.apply.new.names xs n x y
-          c.self.invariant.0 at c.apply.ensures.of c.apply.ensures.place c.apply.ensures.others c.apply.ensures.placed c.apply.ensures.same,
+          c.self.invariant.0 at c.apply.ensures.of c.apply.ensures.place c.apply.ensures.others c.apply.ensures.placed c.apply.ensures.same c.apply.ensures.rules,
       still_within xs n c.self.inside.at y c.self.invariant.1,
     )
 

@@ -1,9 +1,9 @@
-use Rattle.std.proofs.Common.{◌≡◌, ap, sym, ◌∙◌, subst}
+use Rattle.std.proofs.Common.{ap, sym, ◌∙◌, subst}
 use Rattle.std.specs.Prelude.{IfOk, option_map}
 use Rattle.kl1_user_events.specs.Viewing.{AreAwaited}
 use Rattle.kl1_journal.specs.Keeping.{Reading, Fits, Held, kept_of}
 use Rattle.kl1_world.specs.Worlds.{account_in}
-use Rattle.kl1_world.proofs.Seated.{accounts_of, stands, account_at}
+use Rattle.kl1_world.proofs.Seated.{stands, account_at}
 use Rattle.kl1_world.proofs.world.World.awaited_here.Goals as goal
 
 pub awaited-requires : goal.awaited-requires

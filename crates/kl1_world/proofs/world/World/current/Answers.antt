@@ -1,7 +1,6 @@
-use Rattle.std.proofs.Common.{◌≡◌, ap, sym, ◌∙◌}
-use Rattle.kl1_journal.specs.Keeping.{Held}
+use Rattle.std.proofs.Common.{ap, sym, ◌∙◌}
 use Rattle.kl1_world.specs.Worlds.{account_in}
-use Rattle.kl1_world.proofs.Seated.{accounts_of, stands, account_at}
+use Rattle.kl1_world.proofs.Seated.{stands, account_at}
 use Rattle.kl1_world.proofs.world.World.current.Goals as goal
 
 pub returns : goal.returns

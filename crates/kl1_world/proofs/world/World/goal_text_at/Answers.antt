@@ -19,7 +19,7 @@ invariant_of-self g c =
     let y = c.goal_text.new.self in
     let has = g.C.CodeSource.has c.self.inside.code_source in (
       seated_set g.A.AtomSource.is_of g.A.AtomSource.place has has c.self.inside.names c.goal_text.new.names xs n x y
-          c.self.invariant.0 at c.goal_text.ensures.of c.goal_text.ensures.place c.goal_text.ensures.others (subst (λ (h : Held). ArePlaced has h.0.modules) (sym c.goal_text.ensures.same) (c.self.invariant.0 n x at).2) (λ p. (λ h. h, λ h. h)),
+          c.self.invariant.0 at c.goal_text.ensures.of c.goal_text.ensures.place c.goal_text.ensures.others (subst (λ (h : Held). ArePlaced has h.0.modules) (sym c.goal_text.ensures.same) (c.self.invariant.0 n x at).2) (λ p. (λ h. h, λ h. h)) (ap (λ (h : Held). h.0.rules) c.goal_text.ensures.same),
       still_within xs n c.self.inside.at y c.self.invariant.1,
     )
 

@@ -1,6 +1,7 @@
-use Rattle.std.proofs.Common.{◌≡◌, ◌<◌, ◌+◌, [], ◌∷◌, ap, sym, ◌∙◌, subst, length, get_or, arith}
+use Rattle.std.proofs.Common.{◌≡◌, ◌<◌, ◌≤◌, ◌+◌, [], ◌∷◌, ap, sym, ◌∙◌, subst, length, get_or, arith}
 use Rattle.std.specs.Prelude.{slice_get}
 use Rattle.std.proofs.lemmas.List.{length-append, length-map}
+use Rattle.kl1_model.specs.Rules.{limits_of}
 use Rattle.kl1_codes.specs.Numbered.{ArePlaced}
 use Rattle.kl1_world.specs.Seating.{AreSeated}
 use Rattle.kl1_world.proofs.Makes.{AreSeatsFrom, seats_left, seats_all, seated_none, seated_more, fresh_none, fresh_next, same_within}
@@ -15,7 +16,7 @@ loop-seat-init g c =
     record {
       seated = seated_none g.A.AtomSource.is_of g.A.AtomSource.place (g.C.CodeSource.has c.args.code_source) c.args.names c.new-kept.result.items none;
       fresh = fresh_none c.args.rules c.new-kept.result.items c.args.accounts.now none;
-      rest = seats_all g.A.AtomSource.is_of g.A.AtomSource.place g.A.AtomSource.knows c.args.names (length c.new-kept.result.items) c.args.seats.items c.into_iter-seat-iterator.result.rest.items few rest c.requires.seats;
+      rest = seats_all g.A.AtomSource.is_of g.A.AtomSource.place g.A.AtomSource.knows c.args.rules c.args.names (length c.new-kept.result.items) c.args.seats.items c.into_iter-seat-iterator.result.rest.items few rest c.requires.seats;
       count = omega (arith, few, many, c.requires.count);
     }
 
@@ -39,11 +40,12 @@ loop-seat-preserved g c =
           (seated_more g.A.AtomSource.is_of g.A.AtomSource.place has c.args.names xs x c.loop-seat.invariant.seated
           (subst (g.A.AtomSource.is_of c.args.names) (sym c.in_ok-new.ensures.seat) first.0)
           (ap (λ s. (g.A.AtomSource.place s).1) c.in_ok-new.ensures.seat ∙ first.1 ∙ omega arith)
-          (subst (ArePlaced has) (sym c.in_ok-new.ensures.modules) tt));
+          (subst (ArePlaced has) (sym c.in_ok-new.ensures.modules) tt)
+          (subst (λ s. (limits_of x.1.0.rules).names ≤ (g.A.AtomSource.place s).0.1) (sym c.in_ok-new.ensures.seat) (subst (λ r. (limits_of r).names ≤ (g.A.AtomSource.place c.in-Some.seat).0.1) (sym c.in_ok-new.ensures.rules) first.3)));
       fresh = fresh_next c.args.rules xs c.push.new.self.items x c.args.accounts.now c.index-accounts-len.result items c.loop-seat.invariant.fresh c.in_ok-new.ensures.fresh name_is;
-      rest = subst (λ n. AreSeatsFrom g.A.AtomSource.is_of g.A.AtomSource.place g.A.AtomSource.knows c.args.names n c.next.new.self.rest.items) (sym longer)
-          (seats_left g.A.AtomSource.is_of g.A.AtomSource.place g.A.AtomSource.knows c.args.names (length xs) c.in-Some.seat c.next.new.self.rest.items
-          (subst (λ ys. AreSeatsFrom g.A.AtomSource.is_of g.A.AtomSource.place g.A.AtomSource.knows c.args.names (length xs) ys) c.in-Some.ensures.steps.0 c.loop-seat.invariant.rest));
+      rest = subst (λ n. AreSeatsFrom g.A.AtomSource.is_of g.A.AtomSource.place g.A.AtomSource.knows c.args.rules c.args.names n c.next.new.self.rest.items) (sym longer)
+          (seats_left g.A.AtomSource.is_of g.A.AtomSource.place g.A.AtomSource.knows c.args.rules c.args.names (length xs) c.in-Some.seat c.next.new.self.rest.items
+          (subst (λ ys. AreSeatsFrom g.A.AtomSource.is_of g.A.AtomSource.place g.A.AtomSource.knows c.args.rules c.args.names (length xs) ys) c.in-Some.ensures.steps.0 c.loop-seat.invariant.rest));
       count = omega (arith, left, longer, c.loop-seat.invariant.count);
     }
 

@@ -9,6 +9,6 @@ abbrev pub invariant-loop-seat : goal.invariant-loop-seat
 invariant-loop-seat g l = record {
   seated : AreSeated g.A.AtomSource.is_of g.A.AtomSource.place (g.C.CodeSource.has l.code_source) l.names l.kept.items;
   fresh : AreFreshSo l.rules (accounts_of l.kept.items) l.accounts;
-  rest : AreSeatsFrom g.A.AtomSource.is_of g.A.AtomSource.place g.A.AtomSource.knows l.names (length l.kept.items) l.seat-iterator.rest.items;
+  rest : AreSeatsFrom g.A.AtomSource.is_of g.A.AtomSource.place g.A.AtomSource.knows l.rules l.names (length l.kept.items) l.seat-iterator.rest.items;
   count : length l.kept.items + length l.seat-iterator.rest.items ≡ length l.accounts;
 }

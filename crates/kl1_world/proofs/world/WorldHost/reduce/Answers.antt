@@ -25,6 +25,13 @@ reduce-requires-clause-placed g c =
     let x = c.index_mut-kept.result.now in
     (c.self.invariant.0 n x (stands xs n x c.self.invariant.1 c.index_mut-kept.ensures.value)).2
 
+pub reduce-requires-clause-room : goal.reduce-requires-clause-room
+reduce-requires-clause-room g c =
+    let xs = c.self.inside.accounts.items in
+    let n = c.self.inside.at in
+    let x = c.index_mut-kept.result.now in
+    (c.self.invariant.0 n x (stands xs n x c.self.invariant.1 c.index_mut-kept.ensures.value)).3
+
 pub invariant_of-self : goal.invariant_of-self
 invariant_of-self g c =
     let xs = c.self.inside.accounts.items in
@@ -34,7 +41,7 @@ invariant_of-self g c =
     let y = c.reduce.new.self in
     let has = g.C.CodeSource.has c.self.inside.code_source in (
       seated_set g.A.AtomSource.is_of g.A.AtomSource.place has has c.self.inside.names c.reduce.new.names xs n x y
-          c.self.invariant.0 at c.reduce.ensures.of c.reduce.ensures.place c.reduce.ensures.others (subst (ArePlaced has) (sym c.reduce.ensures.modules) (c.self.invariant.0 n x at).2) (λ p. (λ h. h, λ h. h)),
+          c.self.invariant.0 at c.reduce.ensures.of c.reduce.ensures.place c.reduce.ensures.others (subst (ArePlaced has) (sym c.reduce.ensures.modules) (c.self.invariant.0 n x at).2) (λ p. (λ h. h, λ h. h)) c.reduce.ensures.rules,
       still_within xs n n y c.self.invariant.1,
     )
 

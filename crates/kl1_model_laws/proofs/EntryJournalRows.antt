@@ -1,0 +1,269 @@
+-- What is written for each of these example journals, computed from the definitions. Made by tools/examples_as_definitions.
+use Rattle.std.specs.Prelude.{◌≡◌, refl}
+use Rattle.std.specs.Fmt.{digits}
+use Rattle.kl1_model.specs.Unify.{mgu_within}
+use Rattle.kl1_model.specs.Tree.{path_within}
+use Rattle.kl1_model.specs.Token.{tokens_within}
+use Rattle.kl1_model.specs.reader.Reader.{expression_at, parted_by, grouped_by}
+use Rattle.kl1_model_server.specs.Replay.{replay_output}
+use Rattle.kl1_model_laws.specs.EntryJournalExamples.{answer_in_another_spelling_journal, answer_in_another_spelling_output, answer_to_no_report_journal, answer_to_no_report_output, answer_to_report_0_journal, answer_to_report_0_output, append_two_lists_journal, append_two_lists_output, bad_source_journal, bad_source_output, capital_without_quotes_journal, capital_without_quotes_output, capitals_in_a_load_journal, capitals_in_a_load_output, control_of_an_ended_shoen_journal, control_of_an_ended_shoen_output, control_of_no_shoen_journal, control_of_no_shoen_output, each_kind_of_entry_journal, each_kind_of_entry_output, empty_line_journal, empty_line_output, empty_line_at_the_end_journal, empty_line_at_the_end_output, entry_after_a_blank_journal, entry_after_a_blank_output, entry_in_capitals_journal, entry_in_capitals_output, entry_of_one_number_journal, entry_of_one_number_output, entry_of_three_numbers_journal, entry_of_three_numbers_output, entry_with_a_blank_at_its_end_journal, entry_with_a_blank_at_its_end_output, entry_with_a_return_journal, entry_with_a_return_output, entry_with_a_sign_journal, entry_with_a_sign_output, entry_with_a_tab_journal, entry_with_a_tab_output, entry_with_two_blanks_journal, entry_with_two_blanks_output, entry_without_a_feed_journal, entry_without_a_feed_output, exception_and_answer_journal, exception_and_answer_output, goal_in_another_spelling_journal, goal_in_another_spelling_output, goal_in_parentheses_journal, goal_in_parentheses_output, goal_that_is_none_journal, goal_that_is_none_output, goal_with_a_blank_journal, goal_with_a_blank_output, goal_with_a_leading_zero_journal, goal_with_a_leading_zero_output, goal_with_a_named_variable_journal, goal_with_a_named_variable_output, goal_with_other_variables_journal, goal_with_other_variables_output, goals_as_printed_journal, goals_as_printed_output, greatest_numbers_journal, greatest_numbers_output, letter_that_is_no_digit_journal, letter_that_is_no_digit_output, load_alone_journal, load_alone_output, load_without_digits_journal, load_without_digits_output, loaded_twice_journal, loaded_twice_output, login_is_no_entry_journal, login_is_no_entry_output, low_over_high_journal, low_over_high_output, messages_of_a_program_journal, messages_of_a_program_output, module_is_used_journal, module_is_used_output, number_that_is_too_large_journal, number_that_is_too_large_output, number_with_a_leading_zero_journal, number_with_a_leading_zero_output, odd_digits_in_a_load_journal, odd_digits_in_a_load_output, priority_4096_journal, priority_4096_output, query_is_no_entry_journal, query_is_no_entry_output, quote_that_is_single_journal, quote_that_is_single_output, quotes_without_an_end_journal, quotes_without_an_end_output, quotes_without_need_journal, quotes_without_need_output, reduction_of_no_goal_journal, reduction_of_no_goal_output, reset_is_no_entry_journal, reset_is_no_entry_output, run_after_a_reduction_journal, run_after_a_reduction_output, run_is_no_entry_journal, run_is_no_entry_output, run_of_2_to_the_63_journal, run_of_2_to_the_63_output, run_of_all_steps_journal, run_of_all_steps_output, run_of_no_steps_journal, run_of_no_steps_output, run_of_one_step_more_journal, run_of_one_step_more_output, run_of_two_numbers_journal, run_of_two_numbers_output, run_with_a_leading_zero_journal, run_with_a_leading_zero_output, run_without_a_number_journal, run_without_a_number_output, runs_one_after_another_journal, runs_one_after_another_output, shoens_in_shoens_journal, shoens_in_shoens_output, start_and_reduction_journal, start_and_reduction_output, start_without_a_goal_journal, start_without_a_goal_output, step_that_is_refused_journal, step_that_is_refused_output, EntryJournalsHold}
+
+answer_in_another_spelling_row : replay_output answer_in_another_spelling_journal ≡ answer_in_another_spelling_output
+unfolding digits tokens_within expression_at parted_by grouped_by mgu_within path_within
+answer_in_another_spelling_row = refl
+
+answer_to_no_report_row : replay_output answer_to_no_report_journal ≡ answer_to_no_report_output
+unfolding digits tokens_within expression_at parted_by grouped_by mgu_within path_within
+answer_to_no_report_row = refl
+
+answer_to_report_0_row : replay_output answer_to_report_0_journal ≡ answer_to_report_0_output
+unfolding digits tokens_within expression_at parted_by grouped_by mgu_within path_within
+answer_to_report_0_row = refl
+
+append_two_lists_row : replay_output append_two_lists_journal ≡ append_two_lists_output
+unfolding digits tokens_within expression_at parted_by grouped_by mgu_within path_within
+append_two_lists_row = refl
+
+bad_source_row : replay_output bad_source_journal ≡ bad_source_output
+unfolding digits tokens_within expression_at parted_by grouped_by mgu_within path_within
+bad_source_row = refl
+
+capital_without_quotes_row : replay_output capital_without_quotes_journal ≡ capital_without_quotes_output
+unfolding digits tokens_within expression_at parted_by grouped_by mgu_within path_within
+capital_without_quotes_row = refl
+
+capitals_in_a_load_row : replay_output capitals_in_a_load_journal ≡ capitals_in_a_load_output
+unfolding digits tokens_within expression_at parted_by grouped_by mgu_within path_within
+capitals_in_a_load_row = refl
+
+control_of_an_ended_shoen_row : replay_output control_of_an_ended_shoen_journal ≡ control_of_an_ended_shoen_output
+unfolding digits tokens_within expression_at parted_by grouped_by mgu_within path_within
+control_of_an_ended_shoen_row = refl
+
+control_of_no_shoen_row : replay_output control_of_no_shoen_journal ≡ control_of_no_shoen_output
+unfolding digits tokens_within expression_at parted_by grouped_by mgu_within path_within
+control_of_no_shoen_row = refl
+
+each_kind_of_entry_row : replay_output each_kind_of_entry_journal ≡ each_kind_of_entry_output
+unfolding digits tokens_within expression_at parted_by grouped_by mgu_within path_within
+each_kind_of_entry_row = refl
+
+empty_line_row : replay_output empty_line_journal ≡ empty_line_output
+unfolding digits tokens_within expression_at parted_by grouped_by mgu_within path_within
+empty_line_row = refl
+
+empty_line_at_the_end_row : replay_output empty_line_at_the_end_journal ≡ empty_line_at_the_end_output
+unfolding digits tokens_within expression_at parted_by grouped_by mgu_within path_within
+empty_line_at_the_end_row = refl
+
+entry_after_a_blank_row : replay_output entry_after_a_blank_journal ≡ entry_after_a_blank_output
+unfolding digits tokens_within expression_at parted_by grouped_by mgu_within path_within
+entry_after_a_blank_row = refl
+
+entry_in_capitals_row : replay_output entry_in_capitals_journal ≡ entry_in_capitals_output
+unfolding digits tokens_within expression_at parted_by grouped_by mgu_within path_within
+entry_in_capitals_row = refl
+
+entry_of_one_number_row : replay_output entry_of_one_number_journal ≡ entry_of_one_number_output
+unfolding digits tokens_within expression_at parted_by grouped_by mgu_within path_within
+entry_of_one_number_row = refl
+
+entry_of_three_numbers_row : replay_output entry_of_three_numbers_journal ≡ entry_of_three_numbers_output
+unfolding digits tokens_within expression_at parted_by grouped_by mgu_within path_within
+entry_of_three_numbers_row = refl
+
+entry_with_a_blank_at_its_end_row : replay_output entry_with_a_blank_at_its_end_journal ≡ entry_with_a_blank_at_its_end_output
+unfolding digits tokens_within expression_at parted_by grouped_by mgu_within path_within
+entry_with_a_blank_at_its_end_row = refl
+
+entry_with_a_return_row : replay_output entry_with_a_return_journal ≡ entry_with_a_return_output
+unfolding digits tokens_within expression_at parted_by grouped_by mgu_within path_within
+entry_with_a_return_row = refl
+
+entry_with_a_sign_row : replay_output entry_with_a_sign_journal ≡ entry_with_a_sign_output
+unfolding digits tokens_within expression_at parted_by grouped_by mgu_within path_within
+entry_with_a_sign_row = refl
+
+entry_with_a_tab_row : replay_output entry_with_a_tab_journal ≡ entry_with_a_tab_output
+unfolding digits tokens_within expression_at parted_by grouped_by mgu_within path_within
+entry_with_a_tab_row = refl
+
+entry_with_two_blanks_row : replay_output entry_with_two_blanks_journal ≡ entry_with_two_blanks_output
+unfolding digits tokens_within expression_at parted_by grouped_by mgu_within path_within
+entry_with_two_blanks_row = refl
+
+entry_without_a_feed_row : replay_output entry_without_a_feed_journal ≡ entry_without_a_feed_output
+unfolding digits tokens_within expression_at parted_by grouped_by mgu_within path_within
+entry_without_a_feed_row = refl
+
+exception_and_answer_row : replay_output exception_and_answer_journal ≡ exception_and_answer_output
+unfolding digits tokens_within expression_at parted_by grouped_by mgu_within path_within
+exception_and_answer_row = refl
+
+goal_in_another_spelling_row : replay_output goal_in_another_spelling_journal ≡ goal_in_another_spelling_output
+unfolding digits tokens_within expression_at parted_by grouped_by mgu_within path_within
+goal_in_another_spelling_row = refl
+
+goal_in_parentheses_row : replay_output goal_in_parentheses_journal ≡ goal_in_parentheses_output
+unfolding digits tokens_within expression_at parted_by grouped_by mgu_within path_within
+goal_in_parentheses_row = refl
+
+goal_that_is_none_row : replay_output goal_that_is_none_journal ≡ goal_that_is_none_output
+unfolding digits tokens_within expression_at parted_by grouped_by mgu_within path_within
+goal_that_is_none_row = refl
+
+goal_with_a_blank_row : replay_output goal_with_a_blank_journal ≡ goal_with_a_blank_output
+unfolding digits tokens_within expression_at parted_by grouped_by mgu_within path_within
+goal_with_a_blank_row = refl
+
+goal_with_a_leading_zero_row : replay_output goal_with_a_leading_zero_journal ≡ goal_with_a_leading_zero_output
+unfolding digits tokens_within expression_at parted_by grouped_by mgu_within path_within
+goal_with_a_leading_zero_row = refl
+
+goal_with_a_named_variable_row : replay_output goal_with_a_named_variable_journal ≡ goal_with_a_named_variable_output
+unfolding digits tokens_within expression_at parted_by grouped_by mgu_within path_within
+goal_with_a_named_variable_row = refl
+
+goal_with_other_variables_row : replay_output goal_with_other_variables_journal ≡ goal_with_other_variables_output
+unfolding digits tokens_within expression_at parted_by grouped_by mgu_within path_within
+goal_with_other_variables_row = refl
+
+goals_as_printed_row : replay_output goals_as_printed_journal ≡ goals_as_printed_output
+unfolding digits tokens_within expression_at parted_by grouped_by mgu_within path_within
+goals_as_printed_row = refl
+
+greatest_numbers_row : replay_output greatest_numbers_journal ≡ greatest_numbers_output
+unfolding digits tokens_within expression_at parted_by grouped_by mgu_within path_within
+greatest_numbers_row = refl
+
+letter_that_is_no_digit_row : replay_output letter_that_is_no_digit_journal ≡ letter_that_is_no_digit_output
+unfolding digits tokens_within expression_at parted_by grouped_by mgu_within path_within
+letter_that_is_no_digit_row = refl
+
+load_alone_row : replay_output load_alone_journal ≡ load_alone_output
+unfolding digits tokens_within expression_at parted_by grouped_by mgu_within path_within
+load_alone_row = refl
+
+load_without_digits_row : replay_output load_without_digits_journal ≡ load_without_digits_output
+unfolding digits tokens_within expression_at parted_by grouped_by mgu_within path_within
+load_without_digits_row = refl
+
+loaded_twice_row : replay_output loaded_twice_journal ≡ loaded_twice_output
+unfolding digits tokens_within expression_at parted_by grouped_by mgu_within path_within
+loaded_twice_row = refl
+
+login_is_no_entry_row : replay_output login_is_no_entry_journal ≡ login_is_no_entry_output
+unfolding digits tokens_within expression_at parted_by grouped_by mgu_within path_within
+login_is_no_entry_row = refl
+
+low_over_high_row : replay_output low_over_high_journal ≡ low_over_high_output
+unfolding digits tokens_within expression_at parted_by grouped_by mgu_within path_within
+low_over_high_row = refl
+
+messages_of_a_program_row : replay_output messages_of_a_program_journal ≡ messages_of_a_program_output
+unfolding digits tokens_within expression_at parted_by grouped_by mgu_within path_within
+messages_of_a_program_row = refl
+
+module_is_used_row : replay_output module_is_used_journal ≡ module_is_used_output
+unfolding digits tokens_within expression_at parted_by grouped_by mgu_within path_within
+module_is_used_row = refl
+
+number_that_is_too_large_row : replay_output number_that_is_too_large_journal ≡ number_that_is_too_large_output
+unfolding digits tokens_within expression_at parted_by grouped_by mgu_within path_within
+number_that_is_too_large_row = refl
+
+number_with_a_leading_zero_row : replay_output number_with_a_leading_zero_journal ≡ number_with_a_leading_zero_output
+unfolding digits tokens_within expression_at parted_by grouped_by mgu_within path_within
+number_with_a_leading_zero_row = refl
+
+odd_digits_in_a_load_row : replay_output odd_digits_in_a_load_journal ≡ odd_digits_in_a_load_output
+unfolding digits tokens_within expression_at parted_by grouped_by mgu_within path_within
+odd_digits_in_a_load_row = refl
+
+priority_4096_row : replay_output priority_4096_journal ≡ priority_4096_output
+unfolding digits tokens_within expression_at parted_by grouped_by mgu_within path_within
+priority_4096_row = refl
+
+query_is_no_entry_row : replay_output query_is_no_entry_journal ≡ query_is_no_entry_output
+unfolding digits tokens_within expression_at parted_by grouped_by mgu_within path_within
+query_is_no_entry_row = refl
+
+quote_that_is_single_row : replay_output quote_that_is_single_journal ≡ quote_that_is_single_output
+unfolding digits tokens_within expression_at parted_by grouped_by mgu_within path_within
+quote_that_is_single_row = refl
+
+quotes_without_an_end_row : replay_output quotes_without_an_end_journal ≡ quotes_without_an_end_output
+unfolding digits tokens_within expression_at parted_by grouped_by mgu_within path_within
+quotes_without_an_end_row = refl
+
+quotes_without_need_row : replay_output quotes_without_need_journal ≡ quotes_without_need_output
+unfolding digits tokens_within expression_at parted_by grouped_by mgu_within path_within
+quotes_without_need_row = refl
+
+reduction_of_no_goal_row : replay_output reduction_of_no_goal_journal ≡ reduction_of_no_goal_output
+unfolding digits tokens_within expression_at parted_by grouped_by mgu_within path_within
+reduction_of_no_goal_row = refl
+
+reset_is_no_entry_row : replay_output reset_is_no_entry_journal ≡ reset_is_no_entry_output
+unfolding digits tokens_within expression_at parted_by grouped_by mgu_within path_within
+reset_is_no_entry_row = refl
+
+run_after_a_reduction_row : replay_output run_after_a_reduction_journal ≡ run_after_a_reduction_output
+unfolding digits tokens_within expression_at parted_by grouped_by mgu_within path_within
+run_after_a_reduction_row = refl
+
+run_is_no_entry_row : replay_output run_is_no_entry_journal ≡ run_is_no_entry_output
+unfolding digits tokens_within expression_at parted_by grouped_by mgu_within path_within
+run_is_no_entry_row = refl
+
+run_of_2_to_the_63_row : replay_output run_of_2_to_the_63_journal ≡ run_of_2_to_the_63_output
+unfolding digits tokens_within expression_at parted_by grouped_by mgu_within path_within
+run_of_2_to_the_63_row = refl
+
+run_of_all_steps_row : replay_output run_of_all_steps_journal ≡ run_of_all_steps_output
+unfolding digits tokens_within expression_at parted_by grouped_by mgu_within path_within
+run_of_all_steps_row = refl
+
+run_of_no_steps_row : replay_output run_of_no_steps_journal ≡ run_of_no_steps_output
+unfolding digits tokens_within expression_at parted_by grouped_by mgu_within path_within
+run_of_no_steps_row = refl
+
+run_of_one_step_more_row : replay_output run_of_one_step_more_journal ≡ run_of_one_step_more_output
+unfolding digits tokens_within expression_at parted_by grouped_by mgu_within path_within
+run_of_one_step_more_row = refl
+
+run_of_two_numbers_row : replay_output run_of_two_numbers_journal ≡ run_of_two_numbers_output
+unfolding digits tokens_within expression_at parted_by grouped_by mgu_within path_within
+run_of_two_numbers_row = refl
+
+run_with_a_leading_zero_row : replay_output run_with_a_leading_zero_journal ≡ run_with_a_leading_zero_output
+unfolding digits tokens_within expression_at parted_by grouped_by mgu_within path_within
+run_with_a_leading_zero_row = refl
+
+run_without_a_number_row : replay_output run_without_a_number_journal ≡ run_without_a_number_output
+unfolding digits tokens_within expression_at parted_by grouped_by mgu_within path_within
+run_without_a_number_row = refl
+
+runs_one_after_another_row : replay_output runs_one_after_another_journal ≡ runs_one_after_another_output
+unfolding digits tokens_within expression_at parted_by grouped_by mgu_within path_within
+runs_one_after_another_row = refl
+
+shoens_in_shoens_row : replay_output shoens_in_shoens_journal ≡ shoens_in_shoens_output
+unfolding digits tokens_within expression_at parted_by grouped_by mgu_within path_within
+shoens_in_shoens_row = refl
+
+start_and_reduction_row : replay_output start_and_reduction_journal ≡ start_and_reduction_output
+unfolding digits tokens_within expression_at parted_by grouped_by mgu_within path_within
+start_and_reduction_row = refl
+
+start_without_a_goal_row : replay_output start_without_a_goal_journal ≡ start_without_a_goal_output
+unfolding digits tokens_within expression_at parted_by grouped_by mgu_within path_within
+start_without_a_goal_row = refl
+
+step_that_is_refused_row : replay_output step_that_is_refused_journal ≡ step_that_is_refused_output
+unfolding digits tokens_within expression_at parted_by grouped_by mgu_within path_within
+step_that_is_refused_row = refl
+
+-- all of them
+pub entry_journals_hold : EntryJournalsHold
+entry_journals_hold = record { answer_in_another_spelling = answer_in_another_spelling_row; answer_to_no_report = answer_to_no_report_row; answer_to_report_0 = answer_to_report_0_row; append_two_lists = append_two_lists_row; bad_source = bad_source_row; capital_without_quotes = capital_without_quotes_row; capitals_in_a_load = capitals_in_a_load_row; control_of_an_ended_shoen = control_of_an_ended_shoen_row; control_of_no_shoen = control_of_no_shoen_row; each_kind_of_entry = each_kind_of_entry_row; empty_line = empty_line_row; empty_line_at_the_end = empty_line_at_the_end_row; entry_after_a_blank = entry_after_a_blank_row; entry_in_capitals = entry_in_capitals_row; entry_of_one_number = entry_of_one_number_row; entry_of_three_numbers = entry_of_three_numbers_row; entry_with_a_blank_at_its_end = entry_with_a_blank_at_its_end_row; entry_with_a_return = entry_with_a_return_row; entry_with_a_sign = entry_with_a_sign_row; entry_with_a_tab = entry_with_a_tab_row; entry_with_two_blanks = entry_with_two_blanks_row; entry_without_a_feed = entry_without_a_feed_row; exception_and_answer = exception_and_answer_row; goal_in_another_spelling = goal_in_another_spelling_row; goal_in_parentheses = goal_in_parentheses_row; goal_that_is_none = goal_that_is_none_row; goal_with_a_blank = goal_with_a_blank_row; goal_with_a_leading_zero = goal_with_a_leading_zero_row; goal_with_a_named_variable = goal_with_a_named_variable_row; goal_with_other_variables = goal_with_other_variables_row; goals_as_printed = goals_as_printed_row; greatest_numbers = greatest_numbers_row; letter_that_is_no_digit = letter_that_is_no_digit_row; load_alone = load_alone_row; load_without_digits = load_without_digits_row; loaded_twice = loaded_twice_row; login_is_no_entry = login_is_no_entry_row; low_over_high = low_over_high_row; messages_of_a_program = messages_of_a_program_row; module_is_used = module_is_used_row; number_that_is_too_large = number_that_is_too_large_row; number_with_a_leading_zero = number_with_a_leading_zero_row; odd_digits_in_a_load = odd_digits_in_a_load_row; priority_4096 = priority_4096_row; query_is_no_entry = query_is_no_entry_row; quote_that_is_single = quote_that_is_single_row; quotes_without_an_end = quotes_without_an_end_row; quotes_without_need = quotes_without_need_row; reduction_of_no_goal = reduction_of_no_goal_row; reset_is_no_entry = reset_is_no_entry_row; run_after_a_reduction = run_after_a_reduction_row; run_is_no_entry = run_is_no_entry_row; run_of_2_to_the_63 = run_of_2_to_the_63_row; run_of_all_steps = run_of_all_steps_row; run_of_no_steps = run_of_no_steps_row; run_of_one_step_more = run_of_one_step_more_row; run_of_two_numbers = run_of_two_numbers_row; run_with_a_leading_zero = run_with_a_leading_zero_row; run_without_a_number = run_without_a_number_row; runs_one_after_another = runs_one_after_another_row; shoens_in_shoens = shoens_in_shoens_row; start_and_reduction = start_and_reduction_row; start_without_a_goal = start_without_a_goal_row; step_that_is_refused = step_that_is_refused_row }

@@ -1,0 +1,177 @@
+-- What is written for each of these example journals, computed from the definitions. Made by tools/examples_as_definitions.
+use Rattle.std.specs.Prelude.{◌≡◌, refl}
+use Rattle.std.specs.Fmt.{digits}
+use Rattle.kl1_model.specs.Unify.{mgu_within}
+use Rattle.kl1_model.specs.Tree.{path_within}
+use Rattle.kl1_model.specs.Token.{tokens_within}
+use Rattle.kl1_model.specs.reader.Reader.{expression_at, parted_by, grouped_by}
+use Rattle.kl1_model_server.specs.Replay.{replay_output}
+use Rattle.kl1_model_laws.specs.HeadingJournalExamples.{answer_in_version_1_journal, answer_in_version_1_output, built_in_name_journal, built_in_name_output, empty_list_as_a_name_journal, empty_list_as_a_name_output, entries_without_a_heading_journal, entries_without_a_heading_output, entry_in_place_of_a_name_journal, entry_in_place_of_a_name_output, exception_in_version_1_journal, exception_in_version_1_output, five_sessions_journal, five_sessions_output, four_sessions_journal, four_sessions_output, goal_with_a_name_in_quotes_journal, goal_with_a_name_in_quotes_output, heading_after_a_blank_journal, heading_after_a_blank_output, heading_alone_journal, heading_alone_output, heading_of_four_numbers_journal, heading_of_four_numbers_output, heading_of_two_numbers_journal, heading_of_two_numbers_output, heading_with_a_blank_at_its_end_journal, heading_with_a_blank_at_its_end_output, heading_with_a_leading_zero_journal, heading_with_a_leading_zero_output, heading_with_a_return_journal, heading_with_a_return_output, heading_with_a_tab_journal, heading_with_a_tab_output, heading_with_two_blanks_journal, heading_with_two_blanks_output, heading_without_a_feed_journal, heading_without_a_feed_output, later_version_journal, later_version_output, load_of_nothing_journal, load_of_nothing_output, many_names_told_journal, many_names_told_output, name_of_127_bytes_journal, name_of_127_bytes_output, name_of_128_bytes_journal, name_of_128_bytes_output, name_of_64_codes_of_version_2_journal, name_of_64_codes_of_version_2_output, name_of_64_codes_of_version_3_journal, name_of_64_codes_of_version_3_output, name_that_is_missing_journal, name_that_is_missing_output, name_too_many_journal, name_too_many_output, name_twice_journal, name_twice_output, name_with_a_return_journal, name_with_a_return_output, names_alone_journal, names_alone_output, names_from_codes_journal, names_from_codes_output, names_in_quotes_journal, names_in_quotes_output, nothing_journal, nothing_output, run_in_version_3_journal, run_in_version_3_output, second_name_that_is_missing_journal, second_name_that_is_missing_output, start_and_reduction_of_version_2_journal, start_and_reduction_of_version_2_output, start_and_reduction_of_version_3_journal, start_and_reduction_of_version_3_output, too_many_names_told_journal, too_many_names_told_output, two_headings_journal, two_headings_output, version_with_a_leading_zero_journal, version_with_a_leading_zero_output, HeadingJournalsHold}
+
+answer_in_version_1_row : replay_output answer_in_version_1_journal ≡ answer_in_version_1_output
+unfolding digits tokens_within expression_at parted_by grouped_by mgu_within path_within
+answer_in_version_1_row = refl
+
+built_in_name_row : replay_output built_in_name_journal ≡ built_in_name_output
+unfolding digits tokens_within expression_at parted_by grouped_by mgu_within path_within
+built_in_name_row = refl
+
+empty_list_as_a_name_row : replay_output empty_list_as_a_name_journal ≡ empty_list_as_a_name_output
+unfolding digits tokens_within expression_at parted_by grouped_by mgu_within path_within
+empty_list_as_a_name_row = refl
+
+entries_without_a_heading_row : replay_output entries_without_a_heading_journal ≡ entries_without_a_heading_output
+unfolding digits tokens_within expression_at parted_by grouped_by mgu_within path_within
+entries_without_a_heading_row = refl
+
+entry_in_place_of_a_name_row : replay_output entry_in_place_of_a_name_journal ≡ entry_in_place_of_a_name_output
+unfolding digits tokens_within expression_at parted_by grouped_by mgu_within path_within
+entry_in_place_of_a_name_row = refl
+
+exception_in_version_1_row : replay_output exception_in_version_1_journal ≡ exception_in_version_1_output
+unfolding digits tokens_within expression_at parted_by grouped_by mgu_within path_within
+exception_in_version_1_row = refl
+
+five_sessions_row : replay_output five_sessions_journal ≡ five_sessions_output
+unfolding digits tokens_within expression_at parted_by grouped_by mgu_within path_within
+five_sessions_row = refl
+
+four_sessions_row : replay_output four_sessions_journal ≡ four_sessions_output
+unfolding digits tokens_within expression_at parted_by grouped_by mgu_within path_within
+four_sessions_row = refl
+
+goal_with_a_name_in_quotes_row : replay_output goal_with_a_name_in_quotes_journal ≡ goal_with_a_name_in_quotes_output
+unfolding digits tokens_within expression_at parted_by grouped_by mgu_within path_within
+goal_with_a_name_in_quotes_row = refl
+
+heading_after_a_blank_row : replay_output heading_after_a_blank_journal ≡ heading_after_a_blank_output
+unfolding digits tokens_within expression_at parted_by grouped_by mgu_within path_within
+heading_after_a_blank_row = refl
+
+heading_alone_row : replay_output heading_alone_journal ≡ heading_alone_output
+unfolding digits tokens_within expression_at parted_by grouped_by mgu_within path_within
+heading_alone_row = refl
+
+heading_of_four_numbers_row : replay_output heading_of_four_numbers_journal ≡ heading_of_four_numbers_output
+unfolding digits tokens_within expression_at parted_by grouped_by mgu_within path_within
+heading_of_four_numbers_row = refl
+
+heading_of_two_numbers_row : replay_output heading_of_two_numbers_journal ≡ heading_of_two_numbers_output
+unfolding digits tokens_within expression_at parted_by grouped_by mgu_within path_within
+heading_of_two_numbers_row = refl
+
+heading_with_a_blank_at_its_end_row : replay_output heading_with_a_blank_at_its_end_journal ≡ heading_with_a_blank_at_its_end_output
+unfolding digits tokens_within expression_at parted_by grouped_by mgu_within path_within
+heading_with_a_blank_at_its_end_row = refl
+
+heading_with_a_leading_zero_row : replay_output heading_with_a_leading_zero_journal ≡ heading_with_a_leading_zero_output
+unfolding digits tokens_within expression_at parted_by grouped_by mgu_within path_within
+heading_with_a_leading_zero_row = refl
+
+heading_with_a_return_row : replay_output heading_with_a_return_journal ≡ heading_with_a_return_output
+unfolding digits tokens_within expression_at parted_by grouped_by mgu_within path_within
+heading_with_a_return_row = refl
+
+heading_with_a_tab_row : replay_output heading_with_a_tab_journal ≡ heading_with_a_tab_output
+unfolding digits tokens_within expression_at parted_by grouped_by mgu_within path_within
+heading_with_a_tab_row = refl
+
+heading_with_two_blanks_row : replay_output heading_with_two_blanks_journal ≡ heading_with_two_blanks_output
+unfolding digits tokens_within expression_at parted_by grouped_by mgu_within path_within
+heading_with_two_blanks_row = refl
+
+heading_without_a_feed_row : replay_output heading_without_a_feed_journal ≡ heading_without_a_feed_output
+unfolding digits tokens_within expression_at parted_by grouped_by mgu_within path_within
+heading_without_a_feed_row = refl
+
+later_version_row : replay_output later_version_journal ≡ later_version_output
+unfolding digits tokens_within expression_at parted_by grouped_by mgu_within path_within
+later_version_row = refl
+
+load_of_nothing_row : replay_output load_of_nothing_journal ≡ load_of_nothing_output
+unfolding digits tokens_within expression_at parted_by grouped_by mgu_within path_within
+load_of_nothing_row = refl
+
+many_names_told_row : replay_output many_names_told_journal ≡ many_names_told_output
+unfolding digits tokens_within expression_at parted_by grouped_by mgu_within path_within
+many_names_told_row = refl
+
+name_of_127_bytes_row : replay_output name_of_127_bytes_journal ≡ name_of_127_bytes_output
+unfolding digits tokens_within expression_at parted_by grouped_by mgu_within path_within
+name_of_127_bytes_row = refl
+
+name_of_128_bytes_row : replay_output name_of_128_bytes_journal ≡ name_of_128_bytes_output
+unfolding digits tokens_within expression_at parted_by grouped_by mgu_within path_within
+name_of_128_bytes_row = refl
+
+name_of_64_codes_of_version_2_row : replay_output name_of_64_codes_of_version_2_journal ≡ name_of_64_codes_of_version_2_output
+unfolding digits tokens_within expression_at parted_by grouped_by mgu_within path_within
+name_of_64_codes_of_version_2_row = refl
+
+name_of_64_codes_of_version_3_row : replay_output name_of_64_codes_of_version_3_journal ≡ name_of_64_codes_of_version_3_output
+unfolding digits tokens_within expression_at parted_by grouped_by mgu_within path_within
+name_of_64_codes_of_version_3_row = refl
+
+name_that_is_missing_row : replay_output name_that_is_missing_journal ≡ name_that_is_missing_output
+unfolding digits tokens_within expression_at parted_by grouped_by mgu_within path_within
+name_that_is_missing_row = refl
+
+name_too_many_row : replay_output name_too_many_journal ≡ name_too_many_output
+unfolding digits tokens_within expression_at parted_by grouped_by mgu_within path_within
+name_too_many_row = refl
+
+name_twice_row : replay_output name_twice_journal ≡ name_twice_output
+unfolding digits tokens_within expression_at parted_by grouped_by mgu_within path_within
+name_twice_row = refl
+
+name_with_a_return_row : replay_output name_with_a_return_journal ≡ name_with_a_return_output
+unfolding digits tokens_within expression_at parted_by grouped_by mgu_within path_within
+name_with_a_return_row = refl
+
+names_alone_row : replay_output names_alone_journal ≡ names_alone_output
+unfolding digits tokens_within expression_at parted_by grouped_by mgu_within path_within
+names_alone_row = refl
+
+names_from_codes_row : replay_output names_from_codes_journal ≡ names_from_codes_output
+unfolding digits tokens_within expression_at parted_by grouped_by mgu_within path_within
+names_from_codes_row = refl
+
+names_in_quotes_row : replay_output names_in_quotes_journal ≡ names_in_quotes_output
+unfolding digits tokens_within expression_at parted_by grouped_by mgu_within path_within
+names_in_quotes_row = refl
+
+nothing_row : replay_output nothing_journal ≡ nothing_output
+unfolding digits tokens_within expression_at parted_by grouped_by mgu_within path_within
+nothing_row = refl
+
+run_in_version_3_row : replay_output run_in_version_3_journal ≡ run_in_version_3_output
+unfolding digits tokens_within expression_at parted_by grouped_by mgu_within path_within
+run_in_version_3_row = refl
+
+second_name_that_is_missing_row : replay_output second_name_that_is_missing_journal ≡ second_name_that_is_missing_output
+unfolding digits tokens_within expression_at parted_by grouped_by mgu_within path_within
+second_name_that_is_missing_row = refl
+
+start_and_reduction_of_version_2_row : replay_output start_and_reduction_of_version_2_journal ≡ start_and_reduction_of_version_2_output
+unfolding digits tokens_within expression_at parted_by grouped_by mgu_within path_within
+start_and_reduction_of_version_2_row = refl
+
+start_and_reduction_of_version_3_row : replay_output start_and_reduction_of_version_3_journal ≡ start_and_reduction_of_version_3_output
+unfolding digits tokens_within expression_at parted_by grouped_by mgu_within path_within
+start_and_reduction_of_version_3_row = refl
+
+too_many_names_told_row : replay_output too_many_names_told_journal ≡ too_many_names_told_output
+unfolding digits tokens_within expression_at parted_by grouped_by mgu_within path_within
+too_many_names_told_row = refl
+
+two_headings_row : replay_output two_headings_journal ≡ two_headings_output
+unfolding digits tokens_within expression_at parted_by grouped_by mgu_within path_within
+two_headings_row = refl
+
+version_with_a_leading_zero_row : replay_output version_with_a_leading_zero_journal ≡ version_with_a_leading_zero_output
+unfolding digits tokens_within expression_at parted_by grouped_by mgu_within path_within
+version_with_a_leading_zero_row = refl
+
+-- all of them
+pub heading_journals_hold : HeadingJournalsHold
+heading_journals_hold = record { answer_in_version_1 = answer_in_version_1_row; built_in_name = built_in_name_row; empty_list_as_a_name = empty_list_as_a_name_row; entries_without_a_heading = entries_without_a_heading_row; entry_in_place_of_a_name = entry_in_place_of_a_name_row; exception_in_version_1 = exception_in_version_1_row; five_sessions = five_sessions_row; four_sessions = four_sessions_row; goal_with_a_name_in_quotes = goal_with_a_name_in_quotes_row; heading_after_a_blank = heading_after_a_blank_row; heading_alone = heading_alone_row; heading_of_four_numbers = heading_of_four_numbers_row; heading_of_two_numbers = heading_of_two_numbers_row; heading_with_a_blank_at_its_end = heading_with_a_blank_at_its_end_row; heading_with_a_leading_zero = heading_with_a_leading_zero_row; heading_with_a_return = heading_with_a_return_row; heading_with_a_tab = heading_with_a_tab_row; heading_with_two_blanks = heading_with_two_blanks_row; heading_without_a_feed = heading_without_a_feed_row; later_version = later_version_row; load_of_nothing = load_of_nothing_row; many_names_told = many_names_told_row; name_of_127_bytes = name_of_127_bytes_row; name_of_128_bytes = name_of_128_bytes_row; name_of_64_codes_of_version_2 = name_of_64_codes_of_version_2_row; name_of_64_codes_of_version_3 = name_of_64_codes_of_version_3_row; name_that_is_missing = name_that_is_missing_row; name_too_many = name_too_many_row; name_twice = name_twice_row; name_with_a_return = name_with_a_return_row; names_alone = names_alone_row; names_from_codes = names_from_codes_row; names_in_quotes = names_in_quotes_row; nothing = nothing_row; run_in_version_3 = run_in_version_3_row; second_name_that_is_missing = second_name_that_is_missing_row; start_and_reduction_of_version_2 = start_and_reduction_of_version_2_row; start_and_reduction_of_version_3 = start_and_reduction_of_version_3_row; too_many_names_told = too_many_names_told_row; two_headings = two_headings_row; version_with_a_leading_zero = version_with_a_leading_zero_row }

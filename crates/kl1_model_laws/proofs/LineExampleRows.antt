@@ -1,0 +1,259 @@
+-- What is written for each of these example scripts, computed from the definitions. Made by tools/examples_as_definitions.
+use Rattle.std.specs.Prelude.{◌≡◌, refl}
+use Rattle.std.specs.Fmt.{digits}
+use Rattle.kl1_model.specs.Unify.{mgu_within}
+use Rattle.kl1_model.specs.Tree.{path_within}
+use Rattle.kl1_model.specs.Token.{tokens_within}
+use Rattle.kl1_model.specs.reader.Reader.{expression_at, parted_by, grouped_by}
+use Rattle.kl1_model.specs.Line.{words_within}
+use Rattle.kl1_model.specs.Record.{records_within}
+use Rattle.kl1_model_server.specs.Script.{output}
+use Rattle.kl1_model_laws.specs.LineExamples.{account_name_of_16_bytes_script, account_name_of_16_bytes_output, account_name_of_17_bytes_script, account_name_of_17_bytes_output, account_with_a_capital_script, account_with_a_capital_output, accounts_alone_script, accounts_alone_output, alice_beside_a_runaway_account_script, alice_beside_a_runaway_account_output, alice_by_herself_script, alice_by_herself_output, append_beside_another_account_script, append_beside_another_account_output, bad_load_lines_script, bad_load_lines_output, bad_source_script, bad_source_output, blank_first_line_script, blank_first_line_output, blank_lines_script, blank_lines_output, blanks_between_accounts_script, blanks_between_accounts_output, bytes_behind_a_load_script, bytes_behind_a_load_output, commands_that_are_none_script, commands_that_are_none_output, doubled_account_script, doubled_account_output, four_sessions_script, four_sessions_output, integers_are_no_atoms_script, integers_are_no_atoms_output, journal_by_pages_script, journal_by_pages_output, journal_names_in_quotes_script, journal_names_in_quotes_output, journal_of_a_start_script, journal_of_a_start_output, journal_of_each_event_script, journal_of_each_event_output, journal_of_reductions_script, journal_of_reductions_output, journal_prints_goals_script, journal_prints_goals_output, last_line_without_a_feed_script, last_line_without_a_feed_output, lines_of_4096_bytes_script, lines_of_4096_bytes_output, load_of_no_bytes_script, load_of_no_bytes_output, load_without_a_last_feed_script, load_without_a_last_feed_output, loaded_twice_script, loaded_twice_output, loads_of_other_names_script, loads_of_other_names_output, loads_of_others_are_skipped_script, loads_of_others_are_skipped_output, module_name_in_quotes_script, module_name_in_quotes_output, module_without_clauses_script, module_without_clauses_output, modules_are_listed_script, modules_are_listed_output, modules_loaded_at_that_moment_script, modules_loaded_at_that_moment_output, modules_of_two_accounts_script, modules_of_two_accounts_output, names_before_the_first_space_script, names_before_the_first_space_output, names_from_127_and_128_codes_script, names_from_127_and_128_codes_output, names_from_codes_script, names_from_codes_output, names_in_order_of_first_use_script, names_in_order_of_first_use_output, names_in_quotes_script, names_in_quotes_output, names_of_127_and_128_bytes_script, names_of_127_and_128_bytes_output, no_accounts_script, no_accounts_output, no_clause_for_a_goal_that_waits_script, no_clause_for_a_goal_that_waits_output, no_cyclic_terms_script, no_cyclic_terms_output, numbers_of_19_digits_script, numbers_of_19_digits_output, one_text_in_two_accounts_script, one_text_in_two_accounts_output, quiet_or_not_script, quiet_or_not_output, quiet_with_many_blanks_script, quiet_with_many_blanks_output, refused_reduction_leaves_the_journal_script, refused_reduction_leaves_the_journal_output, reset_after_each_event_script, reset_after_each_event_output, reset_keeps_names_script, reset_keeps_names_output, reset_of_another_account_script, reset_of_another_account_output, sessions_stay_through_a_reset_script, sessions_stay_through_a_reset_output, sixteen_accounts_interleaved_script, sixteen_accounts_interleaved_output, thirty_three_accounts_script, thirty_three_accounts_output, thirty_two_accounts_script, thirty_two_accounts_output, truncated_load_script, truncated_load_output, truncated_load_of_another_name_script, truncated_load_of_another_name_output, value_is_cut_script, value_is_cut_output, value_of_4000_bytes_script, value_of_4000_bytes_output, words_and_line_ends_script, words_and_line_ends_output, LineExamplesHold}
+
+account_name_of_16_bytes_row : output account_name_of_16_bytes_script ≡ account_name_of_16_bytes_output
+unfolding digits tokens_within expression_at parted_by grouped_by mgu_within path_within records_within words_within
+account_name_of_16_bytes_row = refl
+
+account_name_of_17_bytes_row : output account_name_of_17_bytes_script ≡ account_name_of_17_bytes_output
+unfolding digits tokens_within expression_at parted_by grouped_by mgu_within path_within records_within words_within
+account_name_of_17_bytes_row = refl
+
+account_with_a_capital_row : output account_with_a_capital_script ≡ account_with_a_capital_output
+unfolding digits tokens_within expression_at parted_by grouped_by mgu_within path_within records_within words_within
+account_with_a_capital_row = refl
+
+accounts_alone_row : output accounts_alone_script ≡ accounts_alone_output
+unfolding digits tokens_within expression_at parted_by grouped_by mgu_within path_within records_within words_within
+accounts_alone_row = refl
+
+alice_beside_a_runaway_account_row : output alice_beside_a_runaway_account_script ≡ alice_beside_a_runaway_account_output
+unfolding digits tokens_within expression_at parted_by grouped_by mgu_within path_within records_within words_within
+alice_beside_a_runaway_account_row = refl
+
+alice_by_herself_row : output alice_by_herself_script ≡ alice_by_herself_output
+unfolding digits tokens_within expression_at parted_by grouped_by mgu_within path_within records_within words_within
+alice_by_herself_row = refl
+
+append_beside_another_account_row : output append_beside_another_account_script ≡ append_beside_another_account_output
+unfolding digits tokens_within expression_at parted_by grouped_by mgu_within path_within records_within words_within
+append_beside_another_account_row = refl
+
+bad_load_lines_row : output bad_load_lines_script ≡ bad_load_lines_output
+unfolding digits tokens_within expression_at parted_by grouped_by mgu_within path_within records_within words_within
+bad_load_lines_row = refl
+
+bad_source_row : output bad_source_script ≡ bad_source_output
+unfolding digits tokens_within expression_at parted_by grouped_by mgu_within path_within records_within words_within
+bad_source_row = refl
+
+blank_first_line_row : output blank_first_line_script ≡ blank_first_line_output
+unfolding digits tokens_within expression_at parted_by grouped_by mgu_within path_within records_within words_within
+blank_first_line_row = refl
+
+blank_lines_row : output blank_lines_script ≡ blank_lines_output
+unfolding digits tokens_within expression_at parted_by grouped_by mgu_within path_within records_within words_within
+blank_lines_row = refl
+
+blanks_between_accounts_row : output blanks_between_accounts_script ≡ blanks_between_accounts_output
+unfolding digits tokens_within expression_at parted_by grouped_by mgu_within path_within records_within words_within
+blanks_between_accounts_row = refl
+
+bytes_behind_a_load_row : output bytes_behind_a_load_script ≡ bytes_behind_a_load_output
+unfolding digits tokens_within expression_at parted_by grouped_by mgu_within path_within records_within words_within
+bytes_behind_a_load_row = refl
+
+commands_that_are_none_row : output commands_that_are_none_script ≡ commands_that_are_none_output
+unfolding digits tokens_within expression_at parted_by grouped_by mgu_within path_within records_within words_within
+commands_that_are_none_row = refl
+
+doubled_account_row : output doubled_account_script ≡ doubled_account_output
+unfolding digits tokens_within expression_at parted_by grouped_by mgu_within path_within records_within words_within
+doubled_account_row = refl
+
+four_sessions_row : output four_sessions_script ≡ four_sessions_output
+unfolding digits tokens_within expression_at parted_by grouped_by mgu_within path_within records_within words_within
+four_sessions_row = refl
+
+integers_are_no_atoms_row : output integers_are_no_atoms_script ≡ integers_are_no_atoms_output
+unfolding digits tokens_within expression_at parted_by grouped_by mgu_within path_within records_within words_within
+integers_are_no_atoms_row = refl
+
+journal_by_pages_row : output journal_by_pages_script ≡ journal_by_pages_output
+unfolding digits tokens_within expression_at parted_by grouped_by mgu_within path_within records_within words_within
+journal_by_pages_row = refl
+
+journal_names_in_quotes_row : output journal_names_in_quotes_script ≡ journal_names_in_quotes_output
+unfolding digits tokens_within expression_at parted_by grouped_by mgu_within path_within records_within words_within
+journal_names_in_quotes_row = refl
+
+journal_of_a_start_row : output journal_of_a_start_script ≡ journal_of_a_start_output
+unfolding digits tokens_within expression_at parted_by grouped_by mgu_within path_within records_within words_within
+journal_of_a_start_row = refl
+
+journal_of_each_event_row : output journal_of_each_event_script ≡ journal_of_each_event_output
+unfolding digits tokens_within expression_at parted_by grouped_by mgu_within path_within records_within words_within
+journal_of_each_event_row = refl
+
+journal_of_reductions_row : output journal_of_reductions_script ≡ journal_of_reductions_output
+unfolding digits tokens_within expression_at parted_by grouped_by mgu_within path_within records_within words_within
+journal_of_reductions_row = refl
+
+journal_prints_goals_row : output journal_prints_goals_script ≡ journal_prints_goals_output
+unfolding digits tokens_within expression_at parted_by grouped_by mgu_within path_within records_within words_within
+journal_prints_goals_row = refl
+
+last_line_without_a_feed_row : output last_line_without_a_feed_script ≡ last_line_without_a_feed_output
+unfolding digits tokens_within expression_at parted_by grouped_by mgu_within path_within records_within words_within
+last_line_without_a_feed_row = refl
+
+lines_of_4096_bytes_row : output lines_of_4096_bytes_script ≡ lines_of_4096_bytes_output
+unfolding digits tokens_within expression_at parted_by grouped_by mgu_within path_within records_within words_within
+lines_of_4096_bytes_row = refl
+
+load_of_no_bytes_row : output load_of_no_bytes_script ≡ load_of_no_bytes_output
+unfolding digits tokens_within expression_at parted_by grouped_by mgu_within path_within records_within words_within
+load_of_no_bytes_row = refl
+
+load_without_a_last_feed_row : output load_without_a_last_feed_script ≡ load_without_a_last_feed_output
+unfolding digits tokens_within expression_at parted_by grouped_by mgu_within path_within records_within words_within
+load_without_a_last_feed_row = refl
+
+loaded_twice_row : output loaded_twice_script ≡ loaded_twice_output
+unfolding digits tokens_within expression_at parted_by grouped_by mgu_within path_within records_within words_within
+loaded_twice_row = refl
+
+loads_of_other_names_row : output loads_of_other_names_script ≡ loads_of_other_names_output
+unfolding digits tokens_within expression_at parted_by grouped_by mgu_within path_within records_within words_within
+loads_of_other_names_row = refl
+
+loads_of_others_are_skipped_row : output loads_of_others_are_skipped_script ≡ loads_of_others_are_skipped_output
+unfolding digits tokens_within expression_at parted_by grouped_by mgu_within path_within records_within words_within
+loads_of_others_are_skipped_row = refl
+
+module_name_in_quotes_row : output module_name_in_quotes_script ≡ module_name_in_quotes_output
+unfolding digits tokens_within expression_at parted_by grouped_by mgu_within path_within records_within words_within
+module_name_in_quotes_row = refl
+
+module_without_clauses_row : output module_without_clauses_script ≡ module_without_clauses_output
+unfolding digits tokens_within expression_at parted_by grouped_by mgu_within path_within records_within words_within
+module_without_clauses_row = refl
+
+modules_are_listed_row : output modules_are_listed_script ≡ modules_are_listed_output
+unfolding digits tokens_within expression_at parted_by grouped_by mgu_within path_within records_within words_within
+modules_are_listed_row = refl
+
+modules_loaded_at_that_moment_row : output modules_loaded_at_that_moment_script ≡ modules_loaded_at_that_moment_output
+unfolding digits tokens_within expression_at parted_by grouped_by mgu_within path_within records_within words_within
+modules_loaded_at_that_moment_row = refl
+
+modules_of_two_accounts_row : output modules_of_two_accounts_script ≡ modules_of_two_accounts_output
+unfolding digits tokens_within expression_at parted_by grouped_by mgu_within path_within records_within words_within
+modules_of_two_accounts_row = refl
+
+names_before_the_first_space_row : output names_before_the_first_space_script ≡ names_before_the_first_space_output
+unfolding digits tokens_within expression_at parted_by grouped_by mgu_within path_within records_within words_within
+names_before_the_first_space_row = refl
+
+names_from_127_and_128_codes_row : output names_from_127_and_128_codes_script ≡ names_from_127_and_128_codes_output
+unfolding digits tokens_within expression_at parted_by grouped_by mgu_within path_within records_within words_within
+names_from_127_and_128_codes_row = refl
+
+names_from_codes_row : output names_from_codes_script ≡ names_from_codes_output
+unfolding digits tokens_within expression_at parted_by grouped_by mgu_within path_within records_within words_within
+names_from_codes_row = refl
+
+names_in_order_of_first_use_row : output names_in_order_of_first_use_script ≡ names_in_order_of_first_use_output
+unfolding digits tokens_within expression_at parted_by grouped_by mgu_within path_within records_within words_within
+names_in_order_of_first_use_row = refl
+
+names_in_quotes_row : output names_in_quotes_script ≡ names_in_quotes_output
+unfolding digits tokens_within expression_at parted_by grouped_by mgu_within path_within records_within words_within
+names_in_quotes_row = refl
+
+names_of_127_and_128_bytes_row : output names_of_127_and_128_bytes_script ≡ names_of_127_and_128_bytes_output
+unfolding digits tokens_within expression_at parted_by grouped_by mgu_within path_within records_within words_within
+names_of_127_and_128_bytes_row = refl
+
+no_accounts_row : output no_accounts_script ≡ no_accounts_output
+unfolding digits tokens_within expression_at parted_by grouped_by mgu_within path_within records_within words_within
+no_accounts_row = refl
+
+no_clause_for_a_goal_that_waits_row : output no_clause_for_a_goal_that_waits_script ≡ no_clause_for_a_goal_that_waits_output
+unfolding digits tokens_within expression_at parted_by grouped_by mgu_within path_within records_within words_within
+no_clause_for_a_goal_that_waits_row = refl
+
+no_cyclic_terms_row : output no_cyclic_terms_script ≡ no_cyclic_terms_output
+unfolding digits tokens_within expression_at parted_by grouped_by mgu_within path_within records_within words_within
+no_cyclic_terms_row = refl
+
+numbers_of_19_digits_row : output numbers_of_19_digits_script ≡ numbers_of_19_digits_output
+unfolding digits tokens_within expression_at parted_by grouped_by mgu_within path_within records_within words_within
+numbers_of_19_digits_row = refl
+
+one_text_in_two_accounts_row : output one_text_in_two_accounts_script ≡ one_text_in_two_accounts_output
+unfolding digits tokens_within expression_at parted_by grouped_by mgu_within path_within records_within words_within
+one_text_in_two_accounts_row = refl
+
+quiet_or_not_row : output quiet_or_not_script ≡ quiet_or_not_output
+unfolding digits tokens_within expression_at parted_by grouped_by mgu_within path_within records_within words_within
+quiet_or_not_row = refl
+
+quiet_with_many_blanks_row : output quiet_with_many_blanks_script ≡ quiet_with_many_blanks_output
+unfolding digits tokens_within expression_at parted_by grouped_by mgu_within path_within records_within words_within
+quiet_with_many_blanks_row = refl
+
+refused_reduction_leaves_the_journal_row : output refused_reduction_leaves_the_journal_script ≡ refused_reduction_leaves_the_journal_output
+unfolding digits tokens_within expression_at parted_by grouped_by mgu_within path_within records_within words_within
+refused_reduction_leaves_the_journal_row = refl
+
+reset_after_each_event_row : output reset_after_each_event_script ≡ reset_after_each_event_output
+unfolding digits tokens_within expression_at parted_by grouped_by mgu_within path_within records_within words_within
+reset_after_each_event_row = refl
+
+reset_keeps_names_row : output reset_keeps_names_script ≡ reset_keeps_names_output
+unfolding digits tokens_within expression_at parted_by grouped_by mgu_within path_within records_within words_within
+reset_keeps_names_row = refl
+
+reset_of_another_account_row : output reset_of_another_account_script ≡ reset_of_another_account_output
+unfolding digits tokens_within expression_at parted_by grouped_by mgu_within path_within records_within words_within
+reset_of_another_account_row = refl
+
+sessions_stay_through_a_reset_row : output sessions_stay_through_a_reset_script ≡ sessions_stay_through_a_reset_output
+unfolding digits tokens_within expression_at parted_by grouped_by mgu_within path_within records_within words_within
+sessions_stay_through_a_reset_row = refl
+
+sixteen_accounts_interleaved_row : output sixteen_accounts_interleaved_script ≡ sixteen_accounts_interleaved_output
+unfolding digits tokens_within expression_at parted_by grouped_by mgu_within path_within records_within words_within
+sixteen_accounts_interleaved_row = refl
+
+thirty_three_accounts_row : output thirty_three_accounts_script ≡ thirty_three_accounts_output
+unfolding digits tokens_within expression_at parted_by grouped_by mgu_within path_within records_within words_within
+thirty_three_accounts_row = refl
+
+thirty_two_accounts_row : output thirty_two_accounts_script ≡ thirty_two_accounts_output
+unfolding digits tokens_within expression_at parted_by grouped_by mgu_within path_within records_within words_within
+thirty_two_accounts_row = refl
+
+truncated_load_row : output truncated_load_script ≡ truncated_load_output
+unfolding digits tokens_within expression_at parted_by grouped_by mgu_within path_within records_within words_within
+truncated_load_row = refl
+
+truncated_load_of_another_name_row : output truncated_load_of_another_name_script ≡ truncated_load_of_another_name_output
+unfolding digits tokens_within expression_at parted_by grouped_by mgu_within path_within records_within words_within
+truncated_load_of_another_name_row = refl
+
+value_is_cut_row : output value_is_cut_script ≡ value_is_cut_output
+unfolding digits tokens_within expression_at parted_by grouped_by mgu_within path_within records_within words_within
+value_is_cut_row = refl
+
+value_of_4000_bytes_row : output value_of_4000_bytes_script ≡ value_of_4000_bytes_output
+unfolding digits tokens_within expression_at parted_by grouped_by mgu_within path_within records_within words_within
+value_of_4000_bytes_row = refl
+
+words_and_line_ends_row : output words_and_line_ends_script ≡ words_and_line_ends_output
+unfolding digits tokens_within expression_at parted_by grouped_by mgu_within path_within records_within words_within
+words_and_line_ends_row = refl
+
+-- all of them
+pub line_examples_hold : LineExamplesHold
+line_examples_hold = record { account_name_of_16_bytes = account_name_of_16_bytes_row; account_name_of_17_bytes = account_name_of_17_bytes_row; account_with_a_capital = account_with_a_capital_row; accounts_alone = accounts_alone_row; alice_beside_a_runaway_account = alice_beside_a_runaway_account_row; alice_by_herself = alice_by_herself_row; append_beside_another_account = append_beside_another_account_row; bad_load_lines = bad_load_lines_row; bad_source = bad_source_row; blank_first_line = blank_first_line_row; blank_lines = blank_lines_row; blanks_between_accounts = blanks_between_accounts_row; bytes_behind_a_load = bytes_behind_a_load_row; commands_that_are_none = commands_that_are_none_row; doubled_account = doubled_account_row; four_sessions = four_sessions_row; integers_are_no_atoms = integers_are_no_atoms_row; journal_by_pages = journal_by_pages_row; journal_names_in_quotes = journal_names_in_quotes_row; journal_of_a_start = journal_of_a_start_row; journal_of_each_event = journal_of_each_event_row; journal_of_reductions = journal_of_reductions_row; journal_prints_goals = journal_prints_goals_row; last_line_without_a_feed = last_line_without_a_feed_row; lines_of_4096_bytes = lines_of_4096_bytes_row; load_of_no_bytes = load_of_no_bytes_row; load_without_a_last_feed = load_without_a_last_feed_row; loaded_twice = loaded_twice_row; loads_of_other_names = loads_of_other_names_row; loads_of_others_are_skipped = loads_of_others_are_skipped_row; module_name_in_quotes = module_name_in_quotes_row; module_without_clauses = module_without_clauses_row; modules_are_listed = modules_are_listed_row; modules_loaded_at_that_moment = modules_loaded_at_that_moment_row; modules_of_two_accounts = modules_of_two_accounts_row; names_before_the_first_space = names_before_the_first_space_row; names_from_127_and_128_codes = names_from_127_and_128_codes_row; names_from_codes = names_from_codes_row; names_in_order_of_first_use = names_in_order_of_first_use_row; names_in_quotes = names_in_quotes_row; names_of_127_and_128_bytes = names_of_127_and_128_bytes_row; no_accounts = no_accounts_row; no_clause_for_a_goal_that_waits = no_clause_for_a_goal_that_waits_row; no_cyclic_terms = no_cyclic_terms_row; numbers_of_19_digits = numbers_of_19_digits_row; one_text_in_two_accounts = one_text_in_two_accounts_row; quiet_or_not = quiet_or_not_row; quiet_with_many_blanks = quiet_with_many_blanks_row; refused_reduction_leaves_the_journal = refused_reduction_leaves_the_journal_row; reset_after_each_event = reset_after_each_event_row; reset_keeps_names = reset_keeps_names_row; reset_of_another_account = reset_of_another_account_row; sessions_stay_through_a_reset = sessions_stay_through_a_reset_row; sixteen_accounts_interleaved = sixteen_accounts_interleaved_row; thirty_three_accounts = thirty_three_accounts_row; thirty_two_accounts = thirty_two_accounts_row; truncated_load = truncated_load_row; truncated_load_of_another_name = truncated_load_of_another_name_row; value_is_cut = value_is_cut_row; value_of_4000_bytes = value_of_4000_bytes_row; words_and_line_ends = words_and_line_ends_row }

@@ -1,0 +1,171 @@
+-- What is written for each of these example scripts, computed from the definitions. Made by tools/examples_as_definitions.
+use Rattle.std.specs.Prelude.{◌≡◌, refl}
+use Rattle.std.specs.Fmt.{digits}
+use Rattle.kl1_model.specs.Unify.{mgu_within}
+use Rattle.kl1_model.specs.Tree.{path_within}
+use Rattle.kl1_model.specs.Token.{tokens_within}
+use Rattle.kl1_model.specs.reader.Reader.{expression_at, parted_by, grouped_by}
+use Rattle.kl1_model.specs.Line.{words_within}
+use Rattle.kl1_model.specs.Record.{records_within}
+use Rattle.kl1_model_server.specs.Script.{output}
+use Rattle.kl1_model_laws.specs.ProgramExamples.{append_by_single_reductions_script, append_by_single_reductions_output, append_two_lists_script, append_two_lists_output, append_with_its_status_script, append_with_its_status_output, arithmetic_script, arithmetic_output, body_goals_inherit_priority_script, body_goals_inherit_priority_output, clash_outweighs_waiting_script, clash_outweighs_waiting_output, codes_cell_by_cell_script, codes_cell_by_cell_output, codes_that_are_wrong_script, codes_that_are_wrong_output, countdown_script, countdown_output, cyclic_term_is_reported_script, cyclic_term_is_reported_output, failed_goal_is_started_again_script, failed_goal_is_started_again_output, first_of_two_clauses_script, first_of_two_clauses_output, forms_that_are_faults_script, forms_that_are_faults_output, fresh_variables_script, fresh_variables_output, goal_waits_for_ever_script, goal_waits_for_ever_output, goals_of_a_start_script, goals_of_a_start_output, greater_priority_of_a_body_script, greater_priority_of_a_body_output, greater_priority_then_least_number_script, greater_priority_then_least_number_output, greatest_common_divisor_script, greatest_common_divisor_output, higher_variable_takes_the_lower_script, higher_variable_takes_the_lower_output, merged_by_priorities_script, merged_by_priorities_output, nested_patterns_script, nested_patterns_output, other_messages_are_skipped_script, other_messages_are_skipped_output, otherwise_takes_the_rest_script, otherwise_takes_the_rest_output, otherwise_waits_script, otherwise_waits_output, places_of_one_variable_script, places_of_one_variable_output, priorities_are_clipped_script, priorities_are_clipped_output, priorities_are_clipped_downwards_script, priorities_are_clipped_downwards_output, priorities_are_clipped_upwards_script, priorities_are_clipped_upwards_output, producer_and_consumer_script, producer_and_consumer_output, reversed_list_script, reversed_list_output, second_variable_wakes_script, second_variable_wakes_output, single_reductions_script, single_reductions_output, unification_fails_whole_script, unification_fails_whole_output, unknown_predicates_fail_script, unknown_predicates_fail_output, variables_of_a_second_start_script, variables_of_a_second_start_output, waiting_goal_is_alive_script, waiting_goal_is_alive_output, woken_by_a_binding_script, woken_by_a_binding_output, woken_by_a_second_variable_script, woken_by_a_second_variable_output, ProgramExamplesHold}
+
+append_by_single_reductions_row : output append_by_single_reductions_script ≡ append_by_single_reductions_output
+unfolding digits tokens_within expression_at parted_by grouped_by mgu_within path_within records_within words_within
+append_by_single_reductions_row = refl
+
+append_two_lists_row : output append_two_lists_script ≡ append_two_lists_output
+unfolding digits tokens_within expression_at parted_by grouped_by mgu_within path_within records_within words_within
+append_two_lists_row = refl
+
+append_with_its_status_row : output append_with_its_status_script ≡ append_with_its_status_output
+unfolding digits tokens_within expression_at parted_by grouped_by mgu_within path_within records_within words_within
+append_with_its_status_row = refl
+
+arithmetic_row : output arithmetic_script ≡ arithmetic_output
+unfolding digits tokens_within expression_at parted_by grouped_by mgu_within path_within records_within words_within
+arithmetic_row = refl
+
+body_goals_inherit_priority_row : output body_goals_inherit_priority_script ≡ body_goals_inherit_priority_output
+unfolding digits tokens_within expression_at parted_by grouped_by mgu_within path_within records_within words_within
+body_goals_inherit_priority_row = refl
+
+clash_outweighs_waiting_row : output clash_outweighs_waiting_script ≡ clash_outweighs_waiting_output
+unfolding digits tokens_within expression_at parted_by grouped_by mgu_within path_within records_within words_within
+clash_outweighs_waiting_row = refl
+
+codes_cell_by_cell_row : output codes_cell_by_cell_script ≡ codes_cell_by_cell_output
+unfolding digits tokens_within expression_at parted_by grouped_by mgu_within path_within records_within words_within
+codes_cell_by_cell_row = refl
+
+codes_that_are_wrong_row : output codes_that_are_wrong_script ≡ codes_that_are_wrong_output
+unfolding digits tokens_within expression_at parted_by grouped_by mgu_within path_within records_within words_within
+codes_that_are_wrong_row = refl
+
+countdown_row : output countdown_script ≡ countdown_output
+unfolding digits tokens_within expression_at parted_by grouped_by mgu_within path_within records_within words_within
+countdown_row = refl
+
+cyclic_term_is_reported_row : output cyclic_term_is_reported_script ≡ cyclic_term_is_reported_output
+unfolding digits tokens_within expression_at parted_by grouped_by mgu_within path_within records_within words_within
+cyclic_term_is_reported_row = refl
+
+failed_goal_is_started_again_row : output failed_goal_is_started_again_script ≡ failed_goal_is_started_again_output
+unfolding digits tokens_within expression_at parted_by grouped_by mgu_within path_within records_within words_within
+failed_goal_is_started_again_row = refl
+
+first_of_two_clauses_row : output first_of_two_clauses_script ≡ first_of_two_clauses_output
+unfolding digits tokens_within expression_at parted_by grouped_by mgu_within path_within records_within words_within
+first_of_two_clauses_row = refl
+
+forms_that_are_faults_row : output forms_that_are_faults_script ≡ forms_that_are_faults_output
+unfolding digits tokens_within expression_at parted_by grouped_by mgu_within path_within records_within words_within
+forms_that_are_faults_row = refl
+
+fresh_variables_row : output fresh_variables_script ≡ fresh_variables_output
+unfolding digits tokens_within expression_at parted_by grouped_by mgu_within path_within records_within words_within
+fresh_variables_row = refl
+
+goal_waits_for_ever_row : output goal_waits_for_ever_script ≡ goal_waits_for_ever_output
+unfolding digits tokens_within expression_at parted_by grouped_by mgu_within path_within records_within words_within
+goal_waits_for_ever_row = refl
+
+goals_of_a_start_row : output goals_of_a_start_script ≡ goals_of_a_start_output
+unfolding digits tokens_within expression_at parted_by grouped_by mgu_within path_within records_within words_within
+goals_of_a_start_row = refl
+
+greater_priority_of_a_body_row : output greater_priority_of_a_body_script ≡ greater_priority_of_a_body_output
+unfolding digits tokens_within expression_at parted_by grouped_by mgu_within path_within records_within words_within
+greater_priority_of_a_body_row = refl
+
+greater_priority_then_least_number_row : output greater_priority_then_least_number_script ≡ greater_priority_then_least_number_output
+unfolding digits tokens_within expression_at parted_by grouped_by mgu_within path_within records_within words_within
+greater_priority_then_least_number_row = refl
+
+greatest_common_divisor_row : output greatest_common_divisor_script ≡ greatest_common_divisor_output
+unfolding digits tokens_within expression_at parted_by grouped_by mgu_within path_within records_within words_within
+greatest_common_divisor_row = refl
+
+higher_variable_takes_the_lower_row : output higher_variable_takes_the_lower_script ≡ higher_variable_takes_the_lower_output
+unfolding digits tokens_within expression_at parted_by grouped_by mgu_within path_within records_within words_within
+higher_variable_takes_the_lower_row = refl
+
+merged_by_priorities_row : output merged_by_priorities_script ≡ merged_by_priorities_output
+unfolding digits tokens_within expression_at parted_by grouped_by mgu_within path_within records_within words_within
+merged_by_priorities_row = refl
+
+nested_patterns_row : output nested_patterns_script ≡ nested_patterns_output
+unfolding digits tokens_within expression_at parted_by grouped_by mgu_within path_within records_within words_within
+nested_patterns_row = refl
+
+other_messages_are_skipped_row : output other_messages_are_skipped_script ≡ other_messages_are_skipped_output
+unfolding digits tokens_within expression_at parted_by grouped_by mgu_within path_within records_within words_within
+other_messages_are_skipped_row = refl
+
+otherwise_takes_the_rest_row : output otherwise_takes_the_rest_script ≡ otherwise_takes_the_rest_output
+unfolding digits tokens_within expression_at parted_by grouped_by mgu_within path_within records_within words_within
+otherwise_takes_the_rest_row = refl
+
+otherwise_waits_row : output otherwise_waits_script ≡ otherwise_waits_output
+unfolding digits tokens_within expression_at parted_by grouped_by mgu_within path_within records_within words_within
+otherwise_waits_row = refl
+
+places_of_one_variable_row : output places_of_one_variable_script ≡ places_of_one_variable_output
+unfolding digits tokens_within expression_at parted_by grouped_by mgu_within path_within records_within words_within
+places_of_one_variable_row = refl
+
+priorities_are_clipped_row : output priorities_are_clipped_script ≡ priorities_are_clipped_output
+unfolding digits tokens_within expression_at parted_by grouped_by mgu_within path_within records_within words_within
+priorities_are_clipped_row = refl
+
+priorities_are_clipped_downwards_row : output priorities_are_clipped_downwards_script ≡ priorities_are_clipped_downwards_output
+unfolding digits tokens_within expression_at parted_by grouped_by mgu_within path_within records_within words_within
+priorities_are_clipped_downwards_row = refl
+
+priorities_are_clipped_upwards_row : output priorities_are_clipped_upwards_script ≡ priorities_are_clipped_upwards_output
+unfolding digits tokens_within expression_at parted_by grouped_by mgu_within path_within records_within words_within
+priorities_are_clipped_upwards_row = refl
+
+producer_and_consumer_row : output producer_and_consumer_script ≡ producer_and_consumer_output
+unfolding digits tokens_within expression_at parted_by grouped_by mgu_within path_within records_within words_within
+producer_and_consumer_row = refl
+
+reversed_list_row : output reversed_list_script ≡ reversed_list_output
+unfolding digits tokens_within expression_at parted_by grouped_by mgu_within path_within records_within words_within
+reversed_list_row = refl
+
+second_variable_wakes_row : output second_variable_wakes_script ≡ second_variable_wakes_output
+unfolding digits tokens_within expression_at parted_by grouped_by mgu_within path_within records_within words_within
+second_variable_wakes_row = refl
+
+single_reductions_row : output single_reductions_script ≡ single_reductions_output
+unfolding digits tokens_within expression_at parted_by grouped_by mgu_within path_within records_within words_within
+single_reductions_row = refl
+
+unification_fails_whole_row : output unification_fails_whole_script ≡ unification_fails_whole_output
+unfolding digits tokens_within expression_at parted_by grouped_by mgu_within path_within records_within words_within
+unification_fails_whole_row = refl
+
+unknown_predicates_fail_row : output unknown_predicates_fail_script ≡ unknown_predicates_fail_output
+unfolding digits tokens_within expression_at parted_by grouped_by mgu_within path_within records_within words_within
+unknown_predicates_fail_row = refl
+
+variables_of_a_second_start_row : output variables_of_a_second_start_script ≡ variables_of_a_second_start_output
+unfolding digits tokens_within expression_at parted_by grouped_by mgu_within path_within records_within words_within
+variables_of_a_second_start_row = refl
+
+waiting_goal_is_alive_row : output waiting_goal_is_alive_script ≡ waiting_goal_is_alive_output
+unfolding digits tokens_within expression_at parted_by grouped_by mgu_within path_within records_within words_within
+waiting_goal_is_alive_row = refl
+
+woken_by_a_binding_row : output woken_by_a_binding_script ≡ woken_by_a_binding_output
+unfolding digits tokens_within expression_at parted_by grouped_by mgu_within path_within records_within words_within
+woken_by_a_binding_row = refl
+
+woken_by_a_second_variable_row : output woken_by_a_second_variable_script ≡ woken_by_a_second_variable_output
+unfolding digits tokens_within expression_at parted_by grouped_by mgu_within path_within records_within words_within
+woken_by_a_second_variable_row = refl
+
+-- all of them
+pub program_examples_hold : ProgramExamplesHold
+program_examples_hold = record { append_by_single_reductions = append_by_single_reductions_row; append_two_lists = append_two_lists_row; append_with_its_status = append_with_its_status_row; arithmetic = arithmetic_row; body_goals_inherit_priority = body_goals_inherit_priority_row; clash_outweighs_waiting = clash_outweighs_waiting_row; codes_cell_by_cell = codes_cell_by_cell_row; codes_that_are_wrong = codes_that_are_wrong_row; countdown = countdown_row; cyclic_term_is_reported = cyclic_term_is_reported_row; failed_goal_is_started_again = failed_goal_is_started_again_row; first_of_two_clauses = first_of_two_clauses_row; forms_that_are_faults = forms_that_are_faults_row; fresh_variables = fresh_variables_row; goal_waits_for_ever = goal_waits_for_ever_row; goals_of_a_start = goals_of_a_start_row; greater_priority_of_a_body = greater_priority_of_a_body_row; greater_priority_then_least_number = greater_priority_then_least_number_row; greatest_common_divisor = greatest_common_divisor_row; higher_variable_takes_the_lower = higher_variable_takes_the_lower_row; merged_by_priorities = merged_by_priorities_row; nested_patterns = nested_patterns_row; other_messages_are_skipped = other_messages_are_skipped_row; otherwise_takes_the_rest = otherwise_takes_the_rest_row; otherwise_waits = otherwise_waits_row; places_of_one_variable = places_of_one_variable_row; priorities_are_clipped = priorities_are_clipped_row; priorities_are_clipped_downwards = priorities_are_clipped_downwards_row; priorities_are_clipped_upwards = priorities_are_clipped_upwards_row; producer_and_consumer = producer_and_consumer_row; reversed_list = reversed_list_row; second_variable_wakes = second_variable_wakes_row; single_reductions = single_reductions_row; unification_fails_whole = unification_fails_whole_row; unknown_predicates_fail = unknown_predicates_fail_row; variables_of_a_second_start = variables_of_a_second_start_row; waiting_goal_is_alive = waiting_goal_is_alive_row; woken_by_a_binding = woken_by_a_binding_row; woken_by_a_second_variable = woken_by_a_second_variable_row }
