@@ -1,5 +1,8 @@
 // Stores, what is found of them, and copies that are looked at.
 
+ghost use Rattle.std.specs.Prelude.{IfOk, IfSome};
+ghost use Rattle.kl1_store_copy.specs.Copies.{IsCopyOf};
+
 use kl1_model::BuiltIn;
 use kl1_store::{Cell, Store};
 use kl1_store_copy::{Copied, Survey};
@@ -41,15 +44,39 @@ pub(crate) fn bind(
     Ok(())
 }
 
+/// A list cell of two cells; the integer -1 if one of them isn't there.
+pub(crate) fn pair(
+    store: &mut Store<CellName>,
+    first: Cell<CellName>,
+    second: Cell<CellName>,
+) -> Result<Cell<CellName>, AllocError> {
+    if store.holds(first) && store.holds(second) {
+        let structure = store.build_pair(list_name(), first, second)?;
+        return Ok(Cell::Structure(structure));
+    }
+    Ok(Cell::Integer(-1))
+}
+
 /// A tower of `count` structures, each of which has the one below it twice, over an unbound variable.
 pub(crate) fn tower(store: &mut Store<CellName>, count: u32) -> Result<Cell<CellName>, AllocError> {
     let mut top = Cell::Variable(store.fresh()?);
     for _number in 0..count {
-        if store.holds(top) {
-            top = Cell::Structure(store.build_pair(list_name(), top, top)?);
-        }
+        top = pair(store, top, top)?;
     }
     Ok(top)
+}
+
+/// What is reached from a cell, if it is there.
+pub(crate) fn found(
+    alloc: Global,
+    store: &Store<CellName>,
+    root: Cell<CellName>,
+) -> Result<Survey, AllocError> {
+    let mut survey = Survey::new(alloc, store)?;
+    if store.holds(root) {
+        survey.reach(store, root)?;
+    }
+    Ok(survey)
 }
 
 /// The copy of what is reached from a cell; `None` if it gave up.
@@ -57,12 +84,39 @@ pub(crate) fn copied(
     alloc: Global,
     store: &Store<CellName>,
     root: Cell<CellName>,
-) -> Result<Option<Copied<CellName>>, AllocError> {
-    let mut survey = Survey::new(alloc, store)?;
-    if store.holds(root) {
-        survey.reach(store, root)?;
-    }
+) -> Result<Option<Copied<CellName>>, AllocError>
+    ensures { IfOk result (λ copy. IfSome copy (IsCopyOf store.now.held)) }
+{
+    let survey = found(alloc, store, root)?;
     Copied::of(alloc, store, survey)
+}
+
+/// Where a cell stands in a copy; `None` if it isn't in the store or the copy.
+pub(crate) fn stands(
+    store: &Store<CellName>,
+    copy: &Copied<CellName>,
+    cell: Cell<CellName>,
+) -> Option<Cell<CellName>>
+    requires { IsCopyOf store.now.held copy.now }
+{
+    if !store.holds(cell) {
+        return None;
+    }
+    copy.moved(store, cell)
+}
+
+/// Where a cell stands in a copy; the integer -1 if it is nowhere.
+pub(crate) fn place_of(
+    store: &Store<CellName>,
+    copy: &Copied<CellName>,
+    cell: Cell<CellName>,
+) -> Cell<CellName>
+    requires { IsCopyOf store.now.held copy.now }
+{
+    match stands(store, copy, cell) {
+        None => Cell::Integer(-1),
+        Some(place) => place,
+    }
 }
 
 /// An argument of a structure, counted from 0; the integer -1 if it isn't there.

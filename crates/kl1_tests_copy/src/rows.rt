@@ -1,8 +1,11 @@
 // The rows.
 
-use crate::making::{are_one, argument, bind, copied, is_integer, list_name, stream, tower};
-use kl1_store::{Cell, Finger, Store};
-use kl1_store_copy::{Copied, Survey};
+use crate::making::{
+    are_one, argument, bind, copied, found, is_integer, pair, place_of, stands, stream, tower,
+};
+use kl1_store::{Cell, Store};
+use kl1_store_copy::Copied;
+use kl1_stream::keep_places;
 use kl1_text::CellName;
 use std::alloc::{AllocError, Global};
 
@@ -42,18 +45,6 @@ fn put(out: &mut Vec<u8>, name: &[u8], is_right: bool) -> Result<(), AllocError>
     out.extend_from_slice(name)?;
     let end: &[u8] = if is_right { b" right\n" } else { b" WRONG\n" };
     out.extend_from_slice(end)
-}
-
-/// Where a cell stands in a copy; the integer -1 if it isn't there.
-fn place_of(
-    store: &Store<CellName>,
-    copy: &Copied<CellName>,
-    cell: Cell<CellName>,
-) -> Cell<CellName> {
-    match copy.moved(store, cell) {
-        None => Cell::Integer(-1),
-        Some(place) => place,
-    }
 }
 
 /// Whether the elements of a list are the integers from 0 to below `count`, and an unbound variable after them.
@@ -105,35 +96,29 @@ fn tower_of_60(alloc: Global) -> Result<bool, AllocError> {
 /// A store whose second structure has the first in it.
 fn upward(alloc: Global) -> Result<(Store<CellName>, Cell<CellName>), AllocError> {
     let mut store = Store::new(alloc);
-    let name = list_name();
-    let low = store.build_pair(name, Cell::Integer(1), Cell::Integer(2))?;
-    let low = Cell::Structure(low);
-    let high = store.build_pair(name, low, low)?;
-    Ok((store, Cell::Structure(high)))
+    let low = pair(&mut store, Cell::Integer(1), Cell::Integer(2))?;
+    let high = pair(&mut store, low, low)?;
+    Ok((store, high))
 }
 
 fn other_order(alloc: Global) -> Result<bool, AllocError> {
     let (upward, top) = upward(alloc)?;
-    let mut survey = Survey::new(alloc, &upward)?;
-    survey.reach(&upward, top)?;
+    let survey = found(alloc, &upward, top)?;
     // The first structure has the second in it, by a variable that is bound to that.
     let mut downward = Store::new(alloc);
-    let name = list_name();
     let variable = Cell::Variable(downward.fresh()?);
-    let _high = downward.build_pair(name, variable, variable)?;
-    let low = downward.build_pair(name, Cell::Integer(1), Cell::Integer(2))?;
-    bind(&mut downward, variable, Cell::Structure(low))?;
+    let _high = pair(&mut downward, variable, variable)?;
+    let low = pair(&mut downward, Cell::Integer(1), Cell::Integer(2))?;
+    bind(&mut downward, variable, low)?;
     Ok(Copied::of(alloc, &downward, survey)?.is_none())
 }
 
 fn later(alloc: Global) -> Result<bool, AllocError> {
     let mut store = Store::new(alloc);
     let (first, tail) = stream(&mut store, 10)?;
-    let mut survey = Survey::new(alloc, &store)?;
-    survey.reach(&store, first)?;
-    let name = list_name();
-    let end = store.build_pair(name, Cell::Integer(10), Cell::Integer(11))?;
-    bind(&mut store, tail, Cell::Structure(end))?;
+    let survey = found(alloc, &store, first)?;
+    let end = pair(&mut store, Cell::Integer(10), Cell::Integer(11))?;
+    bind(&mut store, tail, end)?;
     Ok(Copied::of(alloc, &store, survey)?.is_none())
 }
 
@@ -142,7 +127,7 @@ fn alias(alloc: Global) -> Result<bool, AllocError> {
     let _unused = store.fresh()?;
     let left = Cell::Variable(store.fresh()?);
     let right = Cell::Variable(store.fresh()?);
-    let pair = Cell::Structure(store.build_pair(list_name(), left, right)?);
+    let pair = pair(&mut store, left, right)?;
     bind(&mut store, left, right)?;
     let Some(copy) = copied(alloc, &store, pair)? else {
         return Ok(false);
@@ -182,11 +167,23 @@ fn nothing(alloc: Global) -> Result<bool, AllocError> {
 fn nowhere(alloc: Global) -> Result<bool, AllocError> {
     let mut store = Store::new(alloc);
     let (first, _tail) = stream(&mut store, 3)?;
-    let beside = store.build_pair(list_name(), first, first)?;
+    let beside = pair(&mut store, first, first)?;
     let Some(copy) = copied(alloc, &store, first)? else {
         return Ok(false);
     };
-    Ok(copy.moved(&store, Cell::Structure(beside)).is_none())
+    Ok(store.holds(beside) && stands(&store, &copy, beside).is_none())
+}
+
+/// Whether on the second variable of a copy, and on no other, these numbers hang, the oldest first.
+fn has_hung(copy: &Copied<CellName>, numbers: [u64; 3]) -> bool {
+    let point = copy.store.mark();
+    if point.hooks != 3 || point.sizes.variables < 2 {
+        return false;
+    }
+    copy.store.hook(0) == (1, numbers[0])
+        && copy.store.hook(1) == (1, numbers[1])
+        && copy.store.hook(2) == (1, numbers[2])
+        && copy.store.newest(1) == Some(numbers[2])
 }
 
 fn hangs(alloc: Global) -> Result<bool, AllocError> {
@@ -201,25 +198,38 @@ fn hangs(alloc: Global) -> Result<bool, AllocError> {
         copy.hang(&store, 4, number)?;
         copy.hang(&store, 5, number)?;
     }
-    let point = copy.store.mark();
-    Ok(point.hooks == 3 && copy.store.newest(1) == Some(7) && copy.store.hook(1) == (1, 8))
+    Ok(has_hung(&copy, [7, 8, 7]))
+}
+
+/// Whether a place that a store keeps in a list stands in a copy as well.
+fn has_place(
+    alloc: Global,
+    store: &Store<CellName>,
+    list: Cell<CellName>,
+) -> Result<bool, AllocError> {
+    let Some(copy) = copied(alloc, store, list)? else {
+        return Ok(false);
+    };
+    let moved = place_of(store, &copy, list);
+    if !store.holds(list) || !copy.store.holds(moved) {
+        return Ok(false);
+    }
+    let kept = store.finger(list, 2_000);
+    let rest = place_of(store, &copy, kept.rest);
+    let finger = copy.store.finger(moved, 2_000);
+    Ok(0 < kept.count && finger.count == kept.count && are_one(finger.rest, rest))
 }
 
 fn place(alloc: Global) -> Result<bool, AllocError> {
     let mut store = Store::new(alloc);
-    let (first, tail) = stream(&mut store, 100)?;
-    store.keep_finger(Finger {
-        list: first,
-        count: 100,
-        rest: tail,
-    });
-    let Some(copy) = copied(alloc, &store, first)? else {
-        return Ok(false);
-    };
-    let list = place_of(&store, &copy, first);
-    let finger = copy.store.finger(list, 1_000);
-    let rest = place_of(&store, &copy, tail);
-    Ok(finger.count == 100 && are_one(finger.rest, rest))
+    let (first, _tail) = stream(&mut store, 2_000)?;
+    // A place for which memory is refused isn't kept: each is tried twice.
+    for _try in 0..2 {
+        if store.holds(first) {
+            keep_places(&mut store, first);
+        }
+    }
+    Ok(has_place(alloc, &store, first)? || has_place(alloc, &store, first)?)
 }
 
 fn again(alloc: Global) -> Result<bool, AllocError> {
