@@ -1,5 +1,5 @@
 -- What a collection leaves, and how much memory an account takes.
-use Rattle.std.specs.Prelude.{◌≡◌, ⊤, ℕ, ◌+◌, ◌*◌, ◌≤◌, Option, Some, None}
+use Rattle.std.specs.Prelude.{◌≡◌, ℕ, ◌+◌, ◌*◌, ◌≤◌, Bool, true, false, length, Option, Some, None}
 use Rattle.kl1_text.specs.declared.cell_name.CellName.{CellName}
 use Rattle.kl1_store.specs.Held.{Held}
 use Rattle.kl1_store.specs.Bytes.{least_of_held}
@@ -21,11 +21,16 @@ pub record StaysAs (old new : Account) : Type 0 where
   pub names : new.names ≡ old.names
   pub modules : new.modules ≡ old.modules
 
--- unless what nothing reaches was given back, an account has the cells that it had
+-- if what nothing reaches was given back, each variable that is left has its number in the list; else an account has the cells that it had
+abbrev pub IsLeftIf : Bool → Account → Account → Type 0
+IsLeftIf true old new = length new.labels ≡ new.held.variables
+IsLeftIf false old new = new ≡ old
+
+-- and so by what came of it
 abbrev pub IsLeft : CollectionOutcome → Account → Account → Type 0
-IsLeft Done old new = ⊤
-IsLeft NoMemory old new = new ≡ old
-IsLeft GivenUp old new = new ≡ old
+IsLeft Done old new = IsLeftIf true old new
+IsLeft NoMemory old new = IsLeftIf false old new
+IsLeft GivenUp old new = IsLeftIf false old new
 
 -- what is told of a collection: how many bytes there were and are, and whether it was done
 pub record IsToldOf (old new : Account) (c : Collection) : Type 0 where

@@ -1,7 +1,7 @@
 // What nothing reaches any more is given back.
 
-ghost use Rattle.std.specs.Prelude.{◌≡◌, false, IfOk, OnErr};
-ghost use Rattle.kl1_user_account.specs.Collecting.{HasBytes, StaysAs, IsToldOf, IsToldIfDue};
+ghost use Rattle.std.specs.Prelude.{◌≡◌, IfOk, OnErr};
+ghost use Rattle.kl1_user_account.specs.Collecting.{HasBytes, IsLeftIf, StaysAs, IsToldOf, IsToldIfDue};
 
 use crate::account::Account;
 use crate::collection::{Collection, CollectionOutcome};
@@ -48,7 +48,7 @@ impl<C: CodeSource> Account<C> {
     /// Gives back what nothing reaches; whether it was done.
     fn collect_or_not(&mut self) -> Result<bool, AllocError>
         ensures stays { StaysAs self.old self.new }
-        ensures undone { IfOk result (λ done. done ≡ false → self.new ≡ self.old) }
+        ensures left { IfOk result (λ done. IsLeftIf done self.old self.new) }
         ensures err { OnErr result (self.new ≡ self.old) }
     {
         let Some(copy) = self.machine.copied(self.alloc)? else {
