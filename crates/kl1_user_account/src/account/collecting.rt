@@ -18,7 +18,7 @@ impl<C: CodeSource> Account<C> {
         ensures stays { StaysAs self.old self.new }
         ensures told { IsToldIfDue self.old self.new result }
     {
-        if self.bytes() < self.due {
+        if self.store_bytes() < self.due {
             return None;
         }
         let done = self.collect();
@@ -32,7 +32,7 @@ impl<C: CodeSource> Account<C> {
         ensures stays { StaysAs self.old self.new }
         ensures told { IsToldOf self.old self.new result }
     {
-        let before = self.bytes();
+        let before = self.store_bytes();
         let outcome = match self.collect_or_not() {
             Ok(true) => CollectionOutcome::Done,
             Ok(false) => CollectionOutcome::GivenUp,
@@ -41,7 +41,7 @@ impl<C: CodeSource> Account<C> {
         Collection {
             outcome,
             before,
-            after: self.bytes(),
+            after: self.store_bytes(),
         }
     }
 
@@ -61,11 +61,14 @@ impl<C: CodeSource> Account<C> {
         Ok(true)
     }
 
-    /// How many bytes the store's lists take.
+    /// How many bytes the store's lists take, with the numbers by which its variables are known.
     #[inline]
-    pub fn bytes(&self) -> u64
-        ensures { HasBytes self.now.held result }
+    pub fn store_bytes(&self) -> u64
+        ensures { HasBytes self.now result }
     {
-        self.machine.store.bytes()
+        self.machine
+            .store
+            .bytes()
+            .saturating_add(self.labels.bytes())
     }
 }
