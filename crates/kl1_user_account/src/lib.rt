@@ -21,6 +21,6 @@ mod viewing;
 
 pub use account::Account;
 pub use account_name::AccountName;
-pub use collection::Collection;
+pub use collection::{Collection, CollectionOutcome};
 pub use kl1_goals::Rules;
 pub use kl1_user_events::{ClauseNo, Event, GoalNo, Listed, Query, Refusal, Reply, ShoenNo};

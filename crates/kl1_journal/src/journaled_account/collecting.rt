@@ -1,8 +1,8 @@
 // What nothing reaches any more is given back.
 
 ghost use Rattle.std.specs.Prelude.{◌≡◌};
-ghost use Rattle.kl1_user.specs.Accounts.{Reading};
-ghost use Rattle.kl1_journal.specs.Keeping.{kept_of};
+ghost use Rattle.kl1_user.specs.Accounts.{HasBytes, IsToldOf, IsToldIfDue};
+ghost use Rattle.kl1_journal.specs.Keeping.{StaysAs};
 
 use crate::journaled_account::JournaledAccount;
 use kl1_atoms::AtomSource;
@@ -12,11 +12,9 @@ use kl1_user::Collection;
 impl<A: AtomSource, C: CodeSource> JournaledAccount<A, C> {
     /// Gives back the cells that nothing reaches. The account and its journal stay what they are, and so they do if memory is refused.
     pub fn collect(&mut self) -> Collection
-        ensures same { (f : Reading) → kept_of f self.new.1 ≡ kept_of f self.old.1 }
+        ensures stays { StaysAs self.old.1 self.new.1 }
         ensures seat { self.new.0 ≡ self.old.0 }
-        ensures journal { self.new.1.1 ≡ self.old.1.1 }
-        ensures names { self.new.1.0.names ≡ self.old.1.0.names }
-        ensures modules { self.new.1.0.modules ≡ self.old.1.0.modules }
+        ensures told { IsToldOf self.old.1.0 self.new.1.0 result }
     {
         self.user.collect()
     }
@@ -24,12 +22,18 @@ impl<A: AtomSource, C: CodeSource> JournaledAccount<A, C> {
     /// Collects if it is due; `None` if it isn't.
     #[inline]
     pub fn collect_if_due(&mut self) -> Option<Collection>
-        ensures same { (f : Reading) → kept_of f self.new.1 ≡ kept_of f self.old.1 }
+        ensures stays { StaysAs self.old.1 self.new.1 }
         ensures seat { self.new.0 ≡ self.old.0 }
-        ensures journal { self.new.1.1 ≡ self.old.1.1 }
-        ensures names { self.new.1.0.names ≡ self.old.1.0.names }
-        ensures modules { self.new.1.0.modules ≡ self.old.1.0.modules }
+        ensures told { IsToldIfDue self.old.1.0 self.new.1.0 result }
     {
         self.user.collect_if_due()
+    }
+
+    /// How many bytes the lists of the account's store take, with the numbers by which its variables are known.
+    #[inline]
+    pub fn store_bytes(&self) -> u64
+        ensures { HasBytes self.now.1.0 result }
+    {
+        self.user.store_bytes()
     }
 }

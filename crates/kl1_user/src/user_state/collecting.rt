@@ -1,8 +1,6 @@
 // What nothing reaches any more is given back.
 
-ghost use Rattle.std.specs.Prelude.{◌≡◌};
-ghost use Rattle.kl1_user_effects.specs.Account.{state_of};
-ghost use Rattle.kl1_user_effects.specs.Fitting.{Reading};
+ghost use Rattle.kl1_user_account.specs.Collecting.{HasBytes, StaysAs, IsToldOf, IsToldIfDue};
 
 use crate::user_state::UserState;
 use kl1_atoms::AtomSource;
@@ -12,9 +10,8 @@ use kl1_user_account::Collection;
 impl<A: AtomSource, C: CodeSource> UserState<A, C> {
     /// Gives back the cells that nothing reaches. The account stays what it is, and so it does if memory is refused.
     pub fn collect(&mut self) -> Collection
-        ensures same { (f : Reading) → state_of f self.new ≡ state_of f self.old }
-        ensures names { self.new.names ≡ self.old.names }
-        ensures modules { self.new.modules ≡ self.old.modules }
+        ensures stays { StaysAs self.old self.new }
+        ensures told { IsToldOf self.old self.new result }
     {
         self.account.collect()
     }
@@ -22,10 +19,17 @@ impl<A: AtomSource, C: CodeSource> UserState<A, C> {
     /// Collects if it is due; `None` if it isn't.
     #[inline]
     pub fn collect_if_due(&mut self) -> Option<Collection>
-        ensures same { (f : Reading) → state_of f self.new ≡ state_of f self.old }
-        ensures names { self.new.names ≡ self.old.names }
-        ensures modules { self.new.modules ≡ self.old.modules }
+        ensures stays { StaysAs self.old self.new }
+        ensures told { IsToldIfDue self.old self.new result }
     {
         self.account.collect_if_due()
+    }
+
+    /// How many bytes the lists of the account's store take, with the numbers by which its variables are known.
+    #[inline]
+    pub fn store_bytes(&self) -> u64
+        ensures { HasBytes self.now result }
+    {
+        self.account.store_bytes()
     }
 }

@@ -21,8 +21,7 @@ pub invariant_of-result : goal.invariant_of-result
 invariant_of-result c =
     let i = c.loop-place.invariant in
     let back = c.args.back.now.items in
-    let all : take c.loop-place.place back ≡ back = take_all c.loop-place.place back (omega (arith, c.loop-place-test.false, c.len.ensures, c.args.back.now.ok.0)) in
-    (
+    let all : take c.loop-place.place back ≡ back = take_all c.loop-place.place back (omega (arith, c.loop-place-test.false, c.len.ensures, c.args.back.now.ok.0)) in (
       i.next,
       (
         subst (AreRising 0) (sym (i.first ∙ ap (map (numbered c.args.self.now)) all)) (rising_composed c.args.self.now 0 0 back c.requires.known c.requires.rising (omega arith)),
