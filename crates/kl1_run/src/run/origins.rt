@@ -128,7 +128,7 @@ fn wanted_of(alloc: Global, standing: &Standing) -> Result<(Vec<u64>, Vec<u64>),
     let mut goals = Vec::new(alloc);
     for waiting in standing.waiting.as_slice() {
         for awaited in waiting.awaits.as_slice() {
-            let number = u64::from(awaited.variable);
+            let number = awaited.variable;
             if !variables.contains(&number) {
                 variables.push(number)?;
             }
