@@ -1,5 +1,7 @@
 // The rows.
 
+ghost use Rattle.kl1_store_copy.specs.Copies.{IsCopyOf};
+
 use crate::making::{
     are_one, argument, bind, copied, found, is_integer, pair, place_of, stands, stream, tower,
 };
@@ -186,6 +188,19 @@ fn has_hung(copy: &Copied<CellName>, numbers: [u64; 3]) -> bool {
         && copy.store.newest(1) == Some(numbers[2])
 }
 
+/// Hangs a number on the fifth variable of a store and on the next one, in a copy that has the fifth alone of them.
+fn hang_beside(
+    store: &Store<CellName>,
+    copy: &mut Copied<CellName>,
+    number: u64,
+) -> Result<(), AllocError>
+    requires { IsCopyOf store.now.held copy.old }
+    ensures { IsCopyOf store.now.held copy.new }
+{
+    copy.hang(store, 4, number)?;
+    copy.hang(store, 5, number)
+}
+
 fn hangs(alloc: Global) -> Result<bool, AllocError> {
     let mut store = Store::new(alloc);
     for _number in 0..10 {
@@ -194,10 +209,11 @@ fn hangs(alloc: Global) -> Result<bool, AllocError> {
     let Some(mut copy) = copied(alloc, &store, Cell::Variable(4))? else {
         return Ok(false);
     };
-    for number in [7, 7, 8, 8, 7] {
-        copy.hang(&store, 4, number)?;
-        copy.hang(&store, 5, number)?;
-    }
+    hang_beside(&store, &mut copy, 7)?;
+    hang_beside(&store, &mut copy, 7)?;
+    hang_beside(&store, &mut copy, 8)?;
+    hang_beside(&store, &mut copy, 8)?;
+    hang_beside(&store, &mut copy, 7)?;
     Ok(has_hung(&copy, [7, 8, 7]))
 }
 
