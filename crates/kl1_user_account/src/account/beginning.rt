@@ -10,6 +10,7 @@ ghost use Rattle.kl1_user_effects.specs.Naming.{AreSmall, Keeps};
 ghost use Rattle.kl1_user_account.specs.Beginning.{IsFirst, IsNameList, begun};
 
 use crate::account::Account;
+use crate::account::collecting::LEAST;
 use crate::account_name::AccountName;
 use crate::labels::Labels;
 use kl1_atoms::AtomSource;
@@ -138,7 +139,7 @@ impl<C: CodeSource> Account<C> {
             entries: 0,
             run: 0,
             sessions,
-            due: 0,
+            due: LEAST,
             trial: Trial::new(alloc),
             scan: PathScan::new(alloc),
             cells: Vec::new(alloc),

@@ -8,12 +8,13 @@ use crate::collection::{Collection, CollectionOutcome};
 use kl1_codes::CodeSource;
 use std::alloc::AllocError;
 
-/// How many bytes may come to a store after a collection beside as many as were left, before the next one is due.
-const LEAST: u64 = 4_194_304;
+/// How many bytes may come to a store after a collection beside as many as were left, before the next one is due; and before the first is.
+pub(crate) const LEAST: u64 = 4_194_304;
 
 impl<C: CodeSource> Account<C> {
     /// Collects if it is due: the store's lists take twice what they took after the last collection, and `LEAST` bytes. So all
     /// collections take time in proportion to what is made. `None` if it isn't due.
+    #[inline]
     pub fn collect_if_due(&mut self) -> Option<Collection>
         ensures stays { StaysAs self.old self.new }
         ensures told { IsToldIfDue self.old self.new result }
@@ -21,9 +22,18 @@ impl<C: CodeSource> Account<C> {
         if self.store_bytes() < self.due {
             return None;
         }
+        Some(self.collect_due())
+    }
+
+    /// Collects, and notes when that is due again.
+    #[inline(never)]
+    fn collect_due(&mut self) -> Collection
+        ensures stays { StaysAs self.old self.new }
+        ensures told { IsToldOf self.old self.new result }
+    {
         let done = self.collect();
         self.due = done.after.saturating_mul(2).saturating_add(LEAST);
-        Some(done)
+        done
     }
 
     /// Gives back the cells that nothing reaches, which takes some 0.2 us for each structure that something does. The account stays what
