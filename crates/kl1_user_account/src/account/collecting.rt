@@ -1,7 +1,7 @@
 // What nothing reaches any more is given back.
 
-ghost use Rattle.std.specs.Prelude.{◌≡◌, IfOk, OnErr};
-ghost use Rattle.kl1_user_account.specs.Collecting.{HasBytes, IsLeftIf, StaysAs, IsToldOf, IsToldIfDue};
+ghost use Rattle.std.specs.Prelude.{◌≡◌};
+ghost use Rattle.kl1_user_account.specs.Collecting.{HasBytes, IsLeft, StaysAs, IsToldOf, IsToldIfDue, outcome_of};
 
 use crate::account::Account;
 use crate::collection::{Collection, CollectionOutcome};
@@ -43,23 +43,19 @@ impl<C: CodeSource> Account<C> {
         ensures told { IsToldOf self.old self.new result }
     {
         let before = self.store_bytes();
-        let outcome = match self.collect_or_not() {
-            Ok(true) => CollectionOutcome::Done,
-            Ok(false) => CollectionOutcome::GivenUp,
-            Err(_refused) => CollectionOutcome::NoMemory,
-        };
+        let done = self.collect_or_not();
+        let after = self.store_bytes();
         Collection {
-            outcome,
+            outcome: outcome_of(done),
             before,
-            after: self.store_bytes(),
+            after,
         }
     }
 
     /// Gives back what nothing reaches; whether it was done.
     fn collect_or_not(&mut self) -> Result<bool, AllocError>
         ensures stays { StaysAs self.old self.new }
-        ensures left { IfOk result (λ done. IsLeftIf done self.old self.new) }
-        ensures err { OnErr result (self.new ≡ self.old) }
+        ensures left { IsLeft (outcome_of result) self.old self.new }
     {
         let Some(copy) = self.machine.copied(self.alloc)? else {
             return Ok(false);
@@ -80,5 +76,16 @@ impl<C: CodeSource> Account<C> {
             .store
             .bytes()
             .saturating_add(self.labels.bytes())
+    }
+}
+
+/// What came of a collection that was done or not, or for which memory was refused.
+fn outcome_of(done: Result<bool, AllocError>) -> CollectionOutcome
+    ensures { result ≡ outcome_of done }
+{
+    match done {
+        Ok(true) => CollectionOutcome::Done,
+        Ok(false) => CollectionOutcome::GivenUp,
+        Err(_refused) => CollectionOutcome::NoMemory,
     }
 }
