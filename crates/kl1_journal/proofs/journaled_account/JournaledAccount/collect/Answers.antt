@@ -1,4 +1,4 @@
-use Rattle.std.proofs.Common.{◌≡◌, ap, sym, ◌∙◌, subst}
+use Rattle.std.proofs.Common.{ap, sym, ◌∙◌, subst}
 use Rattle.kl1_journal.specs.Keeping.{Held, StaysAs}
 use Rattle.kl1_journal.proofs.Collected.{stays_kept, replayed_stays}
 use Rattle.kl1_journal.proofs.journaled_account.JournaledAccount.collect.Goals as goal
