@@ -10,7 +10,7 @@ ghost use Rattle.kl1_pool.specs.Counted.{room_in};
 ghost use Rattle.kl1_pool.specs.PoolAccounts.{HasCounted};
 ghost use Rattle.kl1_pool.specs.Memory.{IsWithinTurn};
 ghost use Rattle.kl1_pool.specs.Names.{called_at};
-ghost use Rattle.kl1_pool.specs.Stepping.{AreFirstSteps, IsBegunWithin, short_goes_on, whole_goes_on, turn_goes_on, IsTurnOfSome};
+ghost use Rattle.kl1_pool.specs.Stepping.{AreFirstSteps, IsBegunWithin, IsGoneOn, IsTurnOfSome};
 ghost use Rattle.kl1_pool.specs.declared.turn.TheConstants.{MOST_GRANTED_STEPS};
 
 use crate::account_host::AccountHost;
@@ -68,7 +68,7 @@ impl<'t, R: Wait, K: PoolIds> PoolAccount<'t, R, K> {
         ensures steps { (f : Reading) → Fits self.new.held.0.names f → AreFirstSteps (kept_of f self.old.held) result.steps.done (kept_of f self.new.held) }
         ensures begun { (f : Reading) → Fits self.new.held.0.names f → IsBegunWithin most_bytes (kept_of f self.old.held) result.steps.done (kept_of f self.new.held) }
         ensures last { (f : Reading) → Fits self.new.held.0.names f → IsEnd (min MOST_STEPS (room_in self.old.book)) result.steps.done result.steps.last (kept_of f self.new.held) }
-        ensures again { (f : Reading) → Fits self.new.held.0.names f → result.again ≡ whole_goes_on most_bytes result.steps.done (kept_of f self.new.held) }
+        ensures again { IsGoneOn most_bytes false false result.steps.done self.new.held result.again }
         ensures counted { HasCounted self.old share.old (told_steps result.steps.done) self.new share.new }
         ensures out { self.new.is_out ≡ self.old.is_out }
         ensures before { (f : Reading) → Fits self.new.held.0.names f → Fits self.old.held.0.names f }
@@ -144,15 +144,16 @@ impl<'t, R: Wait, K: PoolIds> PoolAccount<'t, R, K> {
     ) -> Turn
         ensures few { result.steps.done ≤ MOST_GRANTED_STEPS }
         ensures steps { (f : Reading) → Fits self.new.held.0.names f → AreFirstSteps (kept_of f self.old.held) result.steps.done (kept_of f self.new.held) }
-        ensures again { (f : Reading) → Fits self.new.held.0.names f → result.again ≡ short_goes_on most_bytes more result.steps.done (kept_of f self.new.held) }
+        ensures again { IsGoneOn most_bytes true more result.steps.done self.new.held result.again }
         ensures counted { HasCounted self.old share.old (told_steps result.steps.done) self.new share.new }
         ensures out { self.new.is_out ≡ self.old.is_out }
         ensures before { (f : Reading) → Fits self.new.held.0.names f → Fits self.old.held.0.names f }
     {
         let most = MOST_GRANTED_STEPS.min(self.room());
+        let goals = self.usage().goals.count;
         let steps = self.first_steps(rt, common, tables, share, most);
         let is_whole = steps.done == MOST_GRANTED_STEPS;
-        let is_over = self.is_over(most_bytes);
+        let is_over = self.is_still_over(most_bytes, goals);
         let again = short_goes_on(more, is_over, is_whole, self.quiet());
         Turn { steps, again }
     }
@@ -173,7 +174,7 @@ impl<'t, R: Wait, K: PoolIds> PoolAccount<'t, R, K> {
         ensures short { is_short ≡ true → result.steps.done ≤ MOST_GRANTED_STEPS }
         ensures steps { (f : Reading) → Fits self.new.held.0.names f → AreFirstSteps (kept_of f self.old.held) result.steps.done (kept_of f self.new.held) }
         ensures begun { is_short ≡ false → (f : Reading) → Fits self.new.held.0.names f → IsBegunWithin most_bytes (kept_of f self.old.held) result.steps.done (kept_of f self.new.held) }
-        ensures again { (f : Reading) → Fits self.new.held.0.names f → result.again ≡ turn_goes_on most_bytes is_short more result.steps.done (kept_of f self.new.held) }
+        ensures again { IsGoneOn most_bytes is_short more result.steps.done self.new.held result.again }
         ensures counted { HasCounted self.old share.old (told_steps result.steps.done) self.new share.new }
         ensures out { self.new.is_out ≡ self.old.is_out }
         ensures before { (f : Reading) → Fits self.new.held.0.names f → Fits self.old.held.0.names f }
