@@ -5,7 +5,7 @@ use Rattle.kl1_model_server.specs.Journal.{Journal, Kept}
 use Rattle.kl1_model_server.specs.laws.ReplayLaws.{IsReplayable}
 use Rattle.kl1_atoms.specs.declared.known.Known.{Known}
 use Rattle.kl1_user.specs.Accounts.{Account, Reading, Fits}
-use Rattle.kl1_user_account.specs.Collecting as account
+use Rattle.kl1_user.specs.Accounts as account
 use Rattle.kl1_journal.specs.Keeping.{kept_of, IsReplayed, StaysAs}
 
 -- an account that stays what it was does so with its journal

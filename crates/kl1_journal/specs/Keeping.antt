@@ -16,7 +16,7 @@ Held = Account × Journal
 
 -- what stands for an account if there is none
 abbrev pub nobody : Held
-nobody = (record { own_name = []; rules = One; held = nothing_held; labels = []; goals = []; shoens = []; work = []; modules = []; names = []; last_goal = 0; variables = 0; nodes = 0; reports = 0; entries = 0; run = 0; sessions = 0 }, new_journal One [] 0)
+nobody = (record { own_name = []; rules = One; held = nothing_held; hooks = []; labels = []; goals = []; shoens = []; work = []; modules = []; names = []; last_goal = 0; variables = 0; nodes = 0; reports = 0; entries = 0; run = 0; sessions = 0 }, new_journal One [] 0)
 
 -- the account with its journal that these are, for a reading of its names
 abbrev pub kept_of : Reading → Held → Kept

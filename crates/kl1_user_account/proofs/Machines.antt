@@ -25,6 +25,7 @@ account_of x m = record {
   own_name = x.own_name;
   rules = m.rules;
   held = m.store.held;
+  hooks = m.store.hooks;
   labels = x.labels;
   goals = m.goals.goals;
   shoens = m.shoens.shoens;
@@ -56,7 +57,7 @@ state_is f x m none = ap (λ (o : Option (List ℕ)). worked f (state_aside x m)
 
 -- what always holds of an account with a machine
 abbrev pub Holds : Aside → Machine → Type 0
-Holds x m = IsKept (account_of x m) m.store.hooks m.goals.shoens m.goals.last × CountsWork (length m.shoens.work) x.entries x.run
+Holds x m = IsKept (account_of x m) m.goals.shoens m.goals.last × CountsWork (length m.shoens.work) x.entries x.run
 
 -- readings of the names read the same of it
 pub kept_alike : (x : Aside) (m : Machine) → Holds x m → ReadsAlike m
@@ -92,7 +93,7 @@ pub record Began : Type 0 where
 abbrev pub began : (x : Aside) (m b : Machine) (names : NameShelf) (a : Account) (program : Program) → names.names ≡ m.names.names → b ≡ begun_from (record m { names = names }) b → IsBegun b → account_of x m ≡ a → program ≡ program_in x m → Holds x m → Began
 began x m b names a program same is begun view lent h =
     let A : List Known → Account = λ ks. record (account_of x m) { names = ks } in
-    let H : List Known → Type 0 = λ ks. IsKept (A ks) m.store.hooks m.goals.shoens m.goals.last × CountsWork (length m.shoens.work) x.entries x.run in
+    let H : List Known → Type 0 = λ ks. IsKept (A ks) m.goals.shoens m.goals.last × CountsWork (length m.shoens.work) x.entries x.run in
     record {
       aside = x;
       machine = b;

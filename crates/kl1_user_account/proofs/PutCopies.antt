@@ -7,6 +7,8 @@ use Rattle.kl1_store_copy.specs.Copies.{HasEnds}
 use Rattle.kl1_store_copy.proofs.Rising.{increasing}
 use Rattle.kl1_user_account.proofs.OneState.{one_goals, one_shoens}
 use Rattle.kl1_machine.specs.Collecting.{IsCollected}
+use Rattle.std.proofs.lemmas.List.{length-map}
+use Rattle.kl1_user_account.specs.Collecting.{StaysAs}
 use Rattle.kl1_user_account.specs.Keeping.{AreLabels}
 use Rattle.kl1_user_account.proofs.Collected.{labels_collected, state_collected}
 use Rattle.kl1_user_account.proofs.Machines.{Aside, account_of, program_in, state_aside, Holds}
@@ -87,3 +89,17 @@ module _ (x : Aside) (m n : Machine) (back : List ℕ) (h : Holds x m) (c : IsCo
 
   pub collected_state : (f : Reading) → state_of f (account_of y n) ≡ state_of f (account_of x m)
   collected_state f = subst (λ (u : Machine). state_of f (account_of y u) ≡ state_of f (account_of x m)) (sym c.rest) (states f)
+
+  -- so it stays what it was
+  pub collected_stays : StaysAs (account_of x m) (account_of y n)
+  collected_stays = record {
+    state = collected_state;
+    own_name = refl;
+    rules = ap (λ (u : Machine). u.rules) c.rest;
+    names = ap (λ (u : Machine). u.names.names) c.rest;
+    modules = refl;
+  }
+
+  -- and each variable has its number in the list
+  pub collected_left : length (map (numbered x.labels) back) ≡ n.store.held.variables
+  collected_left = length-map back (numbered x.labels) ∙ c.count

@@ -1,6 +1,6 @@
 // The numbers by which the variables of a store are known.
 
-ghost use Rattle.std.specs.Prelude.{◌≡◌, ◌<◌, ◌≤◌, [], ℕ, length, map, IfOk};
+ghost use Rattle.std.specs.Prelude.{◌≡◌, ◌-◌, ◌*◌, ◌^◌, ◌<◌, ◌≤◌, [], ℕ, length, map, min, IfOk};
 ghost use Rattle.kl1_store_copy.specs.Numbers.{after, AreRising, numbered};
 ghost use Rattle.kl1_user_account.specs.Labelled.{IsNumberOf, AreNumbersOf};
 
@@ -50,6 +50,14 @@ impl Labels {
             return self.first[place];
         }
         self.next + (place - self.first.len()) as u64
+    }
+
+    /// How many bytes they take, at most `u64::MAX`.
+    #[inline]
+    pub(crate) fn bytes(&self) -> u64
+        ensures { result ≡ min (length self.now * 8) (2 ^ 64 - 1) }
+    {
+        (self.first.len() as u64).saturating_mul(8)
     }
 
     /// The number in the store of the variable that is known by `label`; 2^63 if there is none.

@@ -10,6 +10,7 @@ use Rattle.kl1_store.specs.declared.cell.Cell.{Cell}
 use Rattle.kl1_store.specs.declared.cell.Cell.TheVariants.{Atom}
 use Rattle.kl1_store.specs.declared.qualified.Qualified.{Qualified}
 use Rattle.kl1_store.specs.Held.{Held}
+use Rattle.kl1_store.specs.Hooks.{Hook}
 use Rattle.kl1_store.specs.Meaning.{term_of}
 use Rattle.kl1_goals.specs.declared.task.Task.{Task}
 use Rattle.kl1_goals.specs.declared.task.Task.TheVariants.{Monitor, Reduces, Substitutes}
@@ -23,8 +24,8 @@ use Rattle.kl1_store_copy.specs.Numbers.{numbered}
 use Rattle.kl1_user_effects.specs.Fitting.{Reading}
 use Rattle.kl1_user_effects.specs.Relabelled.{relabelled}
 
--- what an account keeps: its own name; its rules; what its cells are, and the numbers by which its first variables are known, which go on
--- from the last; its goals and its shoens; for each reduction that was charged, the number
+-- what an account keeps: its own name; its rules; what its cells are, what hangs on its variables, and the numbers by which the first of
+-- these are known, which go on from the last; its goals and its shoens; for each reduction that was charged, the number
 -- of its goal's shoen, the newest first; its modules, each with its row of numbers; its names with their numbers, in order of first
 -- use; the last number of a goal; how many variables and structures its starts, messages from the console and commits had; how many
 -- reports it made; how many entries its journal has, and how many reductions the last of them if it is a run, or else 0; and how many
@@ -33,6 +34,7 @@ pub record Account : Type 0 where
   pub own_name : List ℕ
   pub rules : Rules
   pub held : Held CellName
+  pub hooks : List Hook
   pub labels : List ℕ
   pub goals : List (Goal CellName)
   pub shoens : List (Shoen CellName)

@@ -29,11 +29,11 @@ impl<A: AtomSource, C: CodeSource> JournaledAccount<A, C> {
         self.user.collect_if_due()
     }
 
-    /// How many bytes the lists of the account's store take.
+    /// How many bytes the lists of the account's store take, with the numbers by which its variables are known.
     #[inline]
-    pub fn bytes(&self) -> u64
-        ensures { HasBytes self.now.1.0.held result }
+    pub fn store_bytes(&self) -> u64
+        ensures { HasBytes self.now.1.0 result }
     {
-        self.user.bytes()
+        self.user.store_bytes()
     }
 }

@@ -25,11 +25,11 @@ impl<A: AtomSource, C: CodeSource> UserState<A, C> {
         self.account.collect_if_due()
     }
 
-    /// How many bytes the lists of the account's store take.
+    /// How many bytes the lists of the account's store take, with the numbers by which its variables are known.
     #[inline]
-    pub fn bytes(&self) -> u64
-        ensures { HasBytes self.now.held result }
+    pub fn store_bytes(&self) -> u64
+        ensures { HasBytes self.now result }
     {
-        self.account.bytes()
+        self.account.store_bytes()
     }
 }

@@ -1,7 +1,7 @@
 // What nothing reaches any more is given back.
 
-ghost use Rattle.std.specs.Prelude.{◌≡◌, false, IfOk, OnErr};
-ghost use Rattle.kl1_user_account.specs.Collecting.{HasBytes, StaysAs, IsToldOf, IsToldIfDue};
+ghost use Rattle.std.specs.Prelude.{◌≡◌, IfOk, OnErr};
+ghost use Rattle.kl1_user_account.specs.Collecting.{HasBytes, IsLeftIf, StaysAs, IsToldOf, IsToldIfDue};
 
 use crate::account::Account;
 use crate::collection::{Collection, CollectionOutcome};
@@ -18,7 +18,7 @@ impl<C: CodeSource> Account<C> {
         ensures stays { StaysAs self.old self.new }
         ensures told { IsToldIfDue self.old self.new result }
     {
-        if self.bytes() < self.due {
+        if self.store_bytes() < self.due {
             return None;
         }
         let done = self.collect();
@@ -32,7 +32,7 @@ impl<C: CodeSource> Account<C> {
         ensures stays { StaysAs self.old self.new }
         ensures told { IsToldOf self.old self.new result }
     {
-        let before = self.bytes();
+        let before = self.store_bytes();
         let outcome = match self.collect_or_not() {
             Ok(true) => CollectionOutcome::Done,
             Ok(false) => CollectionOutcome::GivenUp,
@@ -41,14 +41,14 @@ impl<C: CodeSource> Account<C> {
         Collection {
             outcome,
             before,
-            after: self.bytes(),
+            after: self.store_bytes(),
         }
     }
 
     /// Gives back what nothing reaches; whether it was done.
     fn collect_or_not(&mut self) -> Result<bool, AllocError>
         ensures stays { StaysAs self.old self.new }
-        ensures undone { IfOk result (λ done. done ≡ false → self.new ≡ self.old) }
+        ensures left { IfOk result (λ done. IsLeftIf done self.old self.new) }
         ensures err { OnErr result (self.new ≡ self.old) }
     {
         let Some(copy) = self.machine.copied(self.alloc)? else {
@@ -61,11 +61,14 @@ impl<C: CodeSource> Account<C> {
         Ok(true)
     }
 
-    /// How many bytes the store's lists take.
+    /// How many bytes the store's lists take, with the numbers by which its variables are known.
     #[inline]
-    pub fn bytes(&self) -> u64
-        ensures { HasBytes self.now.held result }
+    pub fn store_bytes(&self) -> u64
+        ensures { HasBytes self.now result }
     {
-        self.machine.store.bytes()
+        self.machine
+            .store
+            .bytes()
+            .saturating_add(self.labels.bytes())
     }
 }

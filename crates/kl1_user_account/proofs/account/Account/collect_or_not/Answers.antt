@@ -2,7 +2,7 @@ use Rattle.kl1_user_account.proofs.Words.{◌≡◌, map, sym, ap, ◌∙◌, Re
 use Rattle.kl1_machine.specs.Collecting.{IsCopyFor}
 use Rattle.kl1_store_copy.specs.Numbers.{numbered}
 use Rattle.kl1_user_account.proofs.Machines.{Aside, aside_of, account_of, Holds}
-use Rattle.kl1_user_account.proofs.PutCopies.{holds_machine, labels_short, collected_holds, collected_state}
+use Rattle.kl1_user_account.proofs.PutCopies.{holds_machine, labels_short, collected_holds, collected_left, collected_stays}
 use Rattle.kl1_user_account.proofs.account.Account.collect_or_not.Goals.{In-Some}
 use Rattle.kl1_user_account.proofs.account.Account.collect_or_not.Goals as goal
 
@@ -35,7 +35,12 @@ invariant_of-self g c =
     let u = c.self.inside in
     rw c.in_ok-labels.ensures (collected_holds (aside_of u) u.machine c.put_copy.new.self c.in-Some.copy.back.items c.self.invariant c.put_copy.ensures)
 
-pub returns-clause-same : goal.returns-clause-same
-returns-clause-same g c =
+pub returns-clause-stays : goal.returns-clause-stays
+returns-clause-stays g c =
     let u = c.self.inside in
-    rw (c.in_ok-labels.ensures, ← c.self.view_is) (collected_state (aside_of u) u.machine c.put_copy.new.self c.in-Some.copy.back.items c.self.invariant c.put_copy.ensures)
+    rw (c.in_ok-labels.ensures, ← c.self.view_is) (collected_stays (aside_of u) u.machine c.put_copy.new.self c.in-Some.copy.back.items c.self.invariant c.put_copy.ensures)
+
+pub returns-clause-left : goal.returns-clause-left
+returns-clause-left g c =
+    let u = c.self.inside in
+    rw c.in_ok-labels.ensures (collected_left (aside_of u) u.machine c.put_copy.new.self c.in-Some.copy.back.items c.self.invariant c.put_copy.ensures)
