@@ -23,7 +23,7 @@ bytes_in u store texts = store + u.goals.count * GOAL_BYTES + u.names.count * NA
 -- an account with its journal, as it lies in memory, takes so many bytes, or 2^64 - 1 if it comes to more
 pub record HasBytes (h : Held) (bytes : ℕ) : Type 0 where
   pub store : ℕ
-  pub takes : StoreHasBytes h.0.held store
+  pub takes : StoreHasBytes h.0 store
   pub sum : (f : Reading) → bytes ≡ min (bytes_in (usage_of (kept_of f h).state) store (texts_in h.1.entries)) (2 ^ 64 - 1)
 
 -- an account with its journal may lie in memory so that it takes so many bytes

@@ -59,6 +59,14 @@ impl CollectionLog {
         self.let_go = 0;
     }
 
+    /// Takes in what came of one, if one was due.
+    #[inline]
+    pub(crate) fn note_if(&mut self, collected: &Option<Collection>) {
+        if let Some(collection) = collected {
+            self.note(collection);
+        }
+    }
+
     /// Takes in what came of one of an account that took more bytes than it may.
     pub(crate) fn note_over(&mut self, collection: &Collection) {
         self.note(collection);

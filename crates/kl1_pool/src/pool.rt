@@ -169,12 +169,11 @@ impl<'t, R: Wait, K: PoolIds> Pool<'t, R, K> {
         if found.account() != account {
             return NO_TURN;
         }
-        let is_short = unread > 0 && found.is_over(self.most_bytes);
         let more = unread > MOST_GRANTED_STEPS;
-        if !found.may_turn(self.most_bytes, is_short) {
+        let Some(is_short) = found.granted(self.most_bytes, unread) else {
             found.clear_ticket();
             return NO_TURN;
-        }
+        };
         gate.enter(number);
         let slice = found.time_slice(
             self.rt,

@@ -1,6 +1,6 @@
 // How many bytes an account with its book takes, and what nothing reaches any more of it.
 
-ghost use Rattle.std.specs.Prelude.{◌≡◌, IsTrue, true, false};
+ghost use Rattle.std.specs.Prelude.{◌≡◌, IfSome, IsTrue, true, false};
 ghost use Rattle.kl1_command.specs.Commands.{command_view};
 ghost use Rattle.kl1_pool.specs.Memory.{HasBytes, TellsOver, IsBeyond, IsWithin, IsWithinTurn};
 ghost use Rattle.kl1_pool.specs.PoolAccounts.{Stays};
@@ -18,9 +18,8 @@ impl<'t, R: Wait, K: PoolIds> PoolAccount<'t, R, K> {
     pub(crate) fn collect_if_due(&mut self)
         ensures { Stays self.old self.new }
     {
-        if let Some(collection) = self.kept.collect_if_due() {
-            self.collections.note(&collection);
-        }
+        let collected = self.kept.collect_if_due();
+        self.collections.note_if(&collected);
     }
 
     /// Gives back what nothing reaches any more of an account that takes more bytes than it may. The account, its journal and its book stay what they
@@ -43,7 +42,7 @@ impl<'t, R: Wait, K: PoolIds> PoolAccount<'t, R, K> {
     {
         bytes_of(
             &self.usage(),
-            self.kept.bytes(),
+            self.kept.store_bytes(),
             self.lent_journal().text_bytes(),
         )
     }
@@ -57,7 +56,7 @@ impl<'t, R: Wait, K: PoolIds> PoolAccount<'t, R, K> {
         if self.bytes() <= most {
             return false;
         }
-        if !self.collections.may_help(self.kept.bytes()) {
+        if !self.collections.may_help(self.kept.store_bytes()) {
             return true;
         }
         self.collect_over();
@@ -92,10 +91,33 @@ impl<'t, R: Wait, K: PoolIds> PoolAccount<'t, R, K> {
     }
 
     /// Whether the account may have a turn, which is a short one or not, if it may take `most` bytes, as `is_over` tells.
-    pub(crate) fn may_turn(&mut self, most: u64, is_short: bool) -> bool
+    fn may_turn(&mut self, most: u64, is_short: bool) -> bool
         ensures may { IsTrue result → IsWithinTurn most is_short self.new }
         ensures stays { Stays self.old self.new }
     {
         !self.is_over(turn_bound(most, is_short))
+    }
+
+    /// Whether the account is to have a short turn, while so many messages to its shoens may be unread: only such a one is granted if it takes more than
+    /// `most` bytes.
+    fn is_to_be_short(&mut self, most: u64, unread: u64) -> bool
+        ensures { Stays self.old self.new }
+    {
+        if unread == 0 {
+            return false;
+        }
+        self.is_over(most)
+    }
+
+    /// The turn that the account may have, while so many messages to its shoens may be unread: whether it is a short one. `None` if it may have none.
+    pub(crate) fn granted(&mut self, most: u64, unread: u64) -> Option<bool>
+        ensures within { IfSome result (λ short. IsWithinTurn most short self.new) }
+        ensures stays { Stays self.old self.new }
+    {
+        let is_short = self.is_to_be_short(most, unread);
+        if !self.may_turn(most, is_short) {
+            return None;
+        }
+        Some(is_short)
     }
 }

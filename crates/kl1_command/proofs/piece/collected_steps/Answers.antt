@@ -2,7 +2,7 @@ use Rattle.std.proofs.Common.{◌≡◌, sym, subst, arith}
 use Rattle.kl1_model_server.specs.Journal.{Kept}
 use Rattle.kl1_command.specs.Told.{told_steps}
 use Rattle.kl1_command.specs.Stepping.{RunsOnBehind, IsEnd}
-use Rattle.kl1_command.proofs.steps.collected_steps.Goals as goal
+use Rattle.kl1_command.proofs.piece.collected_steps.Goals as goal
 
 pub returns-then-steps-gt0-clause-goes : goal.returns-then-steps-gt0-clause-goes
 returns-then-steps-gt0-clause-goes g c = λ f fits.

@@ -8,7 +8,7 @@ use Rattle.kl1_command.specs.Told.{told_by, told_steps}
 use Rattle.kl1_command.specs.Stepping.{RunsOnBehind}
 use Rattle.kl1_command.proofs.Reductions.{done_as, refused_as}
 use Rattle.kl1_command.proofs.Runs.{goes_further, goes_nowhere_behind}
-use Rattle.kl1_command.proofs.steps.first_steps.Goals as goal
+use Rattle.kl1_command.proofs.piece.first_steps.Goals as goal
 
 pub loop-done-preserved : goal.loop-done-preserved
 loop-done-preserved g c =

@@ -1,7 +1,7 @@
 use Rattle.std.proofs.Common.{◌≡◌, ◌≤◌, ◌-◌}
 use Rattle.kl1_command.specs.Told.{told_steps}
 use Rattle.kl1_command.specs.Stepping.{RunsOnBehind}
-use Rattle.kl1_command.proofs.steps.first_steps.Given as goal
+use Rattle.kl1_command.proofs.piece.first_steps.Given as goal
 
 -- runs go on at the account after the steps that are done, which are counted
 abbrev pub invariant-loop-done : goal.invariant-loop-done
