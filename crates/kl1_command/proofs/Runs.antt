@@ -33,10 +33,13 @@ goes_further s mid after n h step = λ k m.
 
 -- no step yet
 pub goes_nowhere : (s : Kept) → RunsOn s 0 s
-goes_nowhere s = λ m. refl
+goes_nowhere s = λ m. let all : 0 + m ≡ m = omega arith in ap (λ i. run_from i 0 s) all
 
 pub goes_nowhere_behind : (s : Kept) → RunsOnBehind s 0 s
-goes_nowhere_behind s = λ k m. let none : k ≡ k + 0 = omega arith in ap (λ i. run_from m i s) none
+goes_nowhere_behind s = λ k m.
+    let all : 0 + m ≡ m = omega arith in
+    let none : k ≡ k + 0 = omega arith in
+    ap (λ i. run_from i k s) all ∙ ap (λ i. run_from m i s) none
 
 -- steps, and more of them
 pub goes_on : (s mid after : Kept) (n k t : ℕ) → t ≡ n + k → RunsOn s n mid → RunsOnBehind mid k after → RunsOn s t after

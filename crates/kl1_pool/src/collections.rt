@@ -25,6 +25,8 @@ pub(crate) struct CollectionLog {
     let_go: u64,
     /// How often it is to be.
     enough: u64,
+    /// Whether one came that wasn't asked for yet.
+    is_new: bool,
 }
 
 impl CollectionLog {
@@ -39,6 +41,7 @@ impl CollectionLog {
             left: 0,
             let_go: 0,
             enough: 1,
+            is_new: false,
         }
     }
 
@@ -57,6 +60,14 @@ impl CollectionLog {
         }
         self.left = collection.after;
         self.let_go = 0;
+        self.is_new = true;
+    }
+
+    /// Whether one came since this was asked last.
+    pub(crate) fn take_new(&mut self) -> bool {
+        let is_new = self.is_new;
+        self.is_new = false;
+        is_new
     }
 
     /// Takes in what came of one, if one was due.

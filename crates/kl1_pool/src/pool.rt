@@ -184,6 +184,9 @@ impl<'t, R: Wait, K: PoolIds> Pool<'t, R, K> {
             is_short,
             more,
         );
+        if found.take_collected() {
+            gate.collected(number, account);
+        }
         gate.leave(number);
         slice
     }
@@ -233,7 +236,7 @@ impl<'t, R: Wait, K: PoolIds> Pool<'t, R, K> {
         slice
     }
 
-    /// A turn of an account under its lock, as `PoolAccount::turn`, between `enter` and `leave` of a gate. An account that takes more bytes
+    /// A turn of an account under its lock, as `PoolAccount::turn`, between `enter` and `leave` of a gate, which is told if it was collected in. An account that takes more bytes
     /// than it may gets none, but short ones while messages to its shoens may be unread; if such a one leaves it within its bytes, others follow.
     /// Unless the ticket is to be put back, none is out afterwards.
     pub(crate) fn turn<G: Gate, W: Wait>(

@@ -36,6 +36,11 @@ impl<'t, R: Wait, K: PoolIds> PoolAccount<'t, R, K> {
         self.collections.counts()
     }
 
+    /// Whether there was a collection since this was asked last, or one was tried.
+    pub(crate) fn take_collected(&mut self) -> bool {
+        self.collections.take_new()
+    }
+
     /// How many bytes the account takes: those of its store's lists, and so many for each goal, name, shoen and entry.
     pub fn bytes(&self) -> u64
         ensures { HasBytes self.now.held result }

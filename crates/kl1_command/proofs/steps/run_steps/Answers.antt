@@ -54,8 +54,7 @@ returns-then-steps-piece-clause-last g c = λ f fits.
 pub returns-then-steps-piece-clause-untouched : goal.returns-then-steps-piece-clause-untouched
 returns-then-steps-piece-clause-untouched g c = λ e.
     let z : c.loop-done.done + c.collected_steps-steps.result.done ≡ 0 = e in
-    let U : g.H → Type 0 = λ old. IsStepUntouched c.collected_steps-steps.result.last old c.collected_steps-steps.new.host in
-    subst U (c.loop-done.invariant.untouched (omega (arith, z))) (c.collected_steps-steps.ensures.untouched (omega (arith, z)))
+    subst (λ old. IsStepUntouched c.collected_steps-steps.result.last old c.collected_steps-steps.new.host) (c.loop-done.invariant.untouched (omega (arith, z))) (c.collected_steps-steps.ensures.untouched (omega (arith, z)))
 
 pub returns-then-steps-piece-clause-counted : goal.returns-then-steps-piece-clause-counted
 returns-then-steps-piece-clause-counted g c =
