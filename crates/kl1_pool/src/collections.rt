@@ -14,8 +14,8 @@ pub struct Collections {
 }
 
 /// That, and when another one is tried for an account that takes more bytes than it may: if its store's lists take an eighth more than the last one
-/// left, or if something was let go often enough since. Once is enough, but after each time that gave back less than an eighth it is to be twice as
-/// often: so who sends messages to such an account can't have it gone through at each of them.
+/// left, or if something was let go often enough since. Once is enough, but after each time that was tried for that alone and gave back less than an
+/// eighth it is to be twice as often: so who sends messages to such an account can't have it gone through at each of them.
 #[derive(Drop)]
 pub(crate) struct CollectionLog {
     counts: Collections,
@@ -80,18 +80,24 @@ impl CollectionLog {
 
     /// Takes in what came of one of an account that took more bytes than it may.
     pub(crate) fn note_over(&mut self, collection: &Collection) {
-        self.note(collection);
         let before = collection.before;
-        self.enough = if collection.after <= before - before / 8 {
-            1
-        } else {
-            self.enough.saturating_mul(2)
-        };
+        let has_grown = self.has_grown(before);
+        self.note(collection);
+        if collection.after <= before - before / 8 {
+            self.enough = 1;
+        } else if !has_grown {
+            self.enough = self.enough.saturating_mul(2);
+        }
+    }
+
+    /// Whether these bytes are an eighth more than the last one left.
+    fn has_grown(&self, bytes: u64) -> bool {
+        bytes >= self.left.saturating_add(self.left / 8)
     }
 
     /// Whether another one may give back much of these bytes.
     pub(crate) fn may_help(&self, bytes: u64) -> bool {
-        bytes >= self.left.saturating_add(self.left / 8) || self.let_go >= self.enough
+        self.has_grown(bytes) || self.let_go >= self.enough
     }
 
     /// Takes in that something was let go.
