@@ -184,10 +184,7 @@ impl<'t, R: Wait, K: PoolIds> Pool<'t, R, K> {
             is_short,
             more,
         );
-        if found.take_collected() {
-            gate.collected(number, account);
-        }
-        gate.leave(number);
+        found.leave(gate, number);
         slice
     }
 

@@ -6,6 +6,7 @@ ghost use Rattle.kl1_pool.specs.Memory.{HasBytes, TellsOver, IsBeyond, IsWithin,
 ghost use Rattle.kl1_pool.specs.PoolAccounts.{Stays};
 
 use crate::collections::Collections;
+use crate::gate::Gate;
 use crate::memory::{bound_of, bytes_of, takes_memory, turn_bound};
 use crate::pool_account::PoolAccount;
 use crate::pool_ids::PoolIds;
@@ -36,9 +37,12 @@ impl<'t, R: Wait, K: PoolIds> PoolAccount<'t, R, K> {
         self.collections.counts()
     }
 
-    /// Whether there was a collection since this was asked last, or one was tried.
-    pub(crate) fn take_collected(&mut self) -> bool {
-        self.collections.take_new()
+    /// Leaves a gate after a turn, which is told if there was a collection since the last time, or one was tried.
+    pub(crate) fn leave<G: Gate>(&mut self, gate: &G, number: u64) {
+        if self.collections.take_new() {
+            gate.collected(number, self.account());
+        }
+        gate.leave(number);
     }
 
     /// How many bytes the account takes: those of its store's lists, and so many for each goal, name, shoen and entry.
@@ -68,15 +72,41 @@ impl<'t, R: Wait, K: PoolIds> PoolAccount<'t, R, K> {
         self.bytes() > most
     }
 
-    /// `is_over`, after a turn before which there were so many goals: if there are fewer, something was let go.
-    pub(crate) fn is_still_over(&mut self, most: u64, goals: u64) -> bool
-        ensures over { TellsOver most self.new.held result }
-        ensures stays { Stays self.old self.new }
+    /// Takes in how many goals there were before a turn: if there are fewer, something was let go.
+    fn note_fewer(&mut self, goals: u64)
+        ensures { self.new ≡ self.old }
     {
         if self.usage().goals.count < goals {
             self.collections.let_go();
         }
+    }
+
+    /// `is_over`, after a turn before which there were so many goals.
+    pub(crate) fn is_still_over(&mut self, most: u64, goals: u64) -> bool
+        ensures over { TellsOver most self.new.held result }
+        ensures stays { Stays self.old self.new }
+    {
+        self.note_fewer(goals);
         self.is_over(most)
+    }
+
+    /// Takes in that a command is done next.
+    fn expect(&mut self, command: &Command)
+        ensures { self.new ≡ self.old }
+    {
+        self.collections.expect(command);
+    }
+
+    /// `is_beyond`, if no command is done next.
+    fn is_beyond_now(&mut self, most: u64, command: &Command) -> bool
+        ensures beyond { IsTrue result → IsBeyond most self.new (command_view command.now) }
+        ensures within { result ≡ false → IsWithin most self.new (command_view command.now) }
+        ensures stays { Stays self.old self.new }
+    {
+        if !takes_memory(command) {
+            return false;
+        }
+        self.is_over(bound_of(most, command))
     }
 
     /// Whether a command may make the account take more bytes, and it takes more than the command may find, as `is_over` tells: `most`, and those
@@ -86,13 +116,9 @@ impl<'t, R: Wait, K: PoolIds> PoolAccount<'t, R, K> {
         ensures within { result ≡ false → IsWithin most self.new (command_view command.now) }
         ensures stays { Stays self.old self.new }
     {
-        if !takes_memory(command) {
-            self.collections.expect(command);
-            return false;
-        }
-        let is_over = self.is_over(bound_of(most, command));
-        self.collections.expect(command);
-        is_over
+        let is_beyond = self.is_beyond_now(most, command);
+        self.expect(command);
+        is_beyond
     }
 
     /// Whether the account may have a turn, which is a short one or not, if it may take `most` bytes, as `is_over` tells.

@@ -5,10 +5,23 @@ use Rattle.kl1_journal_entries.specs.declared.long_entry.LongEntry.{LongEntry}
 use Rattle.kl1_journal_entries.specs.declared.pending_entry.EntryForm.{EntryForm}
 use Rattle.kl1_model.specs.declared.rules.Rules.{Rules}
 use Rattle.kl1_journal_entries.specs.Lined.{Rows, Pending, with_prepared}
-use Rattle.kl1_journal_entries.specs.Slots.{entry_of_whole, entry_at, entry_in, IsSound, IsSoundForm}
-use Rattle.kl1_journal_entries.proofs.Rows.{row_more, places_put, sound_put}
-use Rattle.kl1_journal_entries.proofs.Texts.{counted_put}
+use Rattle.kl1_journal_entries.specs.Slots.{entry_of_whole, entry_at, entry_in, IsPlace, IsSound, IsSoundForm}
+use Rattle.kl1_journal_entries.proofs.Rows.{row_more, place_more, all_more, places_put, sound_put}
+use Rattle.kl1_journal_entries.proofs.Texts.{counted_short, counted_put}
 use Rattle.kl1_journal_entries.proofs.journal.Journal.put.Goals as goal
+
+pub invariant_of-self-in-Short : goal.invariant_of-self-in-Short
+invariant_of-self-in-Short c =
+    let ws = c.self.inside.wholes.items in
+    let ss = c.self.inside.slots.items in
+    let here : IsPlace 0 c.in-Short.slot = subst (IsSoundForm c.prepared.inside.rules) c.in-Short.is c.prepared.invariant in
+    record {
+      few_sessions = c.self.invariant.few_sessions;
+      are_names = c.self.invariant.are_names;
+      places = rw c.push_reserved.ensures.items (all_more (IsPlace (length ws)) ss c.in-Short.slot c.self.invariant.places (place_more 0 (length ws) c.in-Short.slot (omega arith) here));
+      sound = c.self.invariant.sound;
+      counted = counted_short ws c.in-Short.slot ss _ c.self.inside.text_bytes (2 ^ 64 - 1) c.push_reserved.ensures.items here c.self.invariant.counted;
+    }
 
 pub invariant_of-self-in-Long : goal.invariant_of-self-in-Long
 invariant_of-self-in-Long c =

@@ -16,6 +16,15 @@ act-answer-requires-clause-named g c =
     let here = ap (λ (b : Book). b.account) c.is_beyond.ensures.stays.book ∙ was in
     called_there g.N.Names.names c.args.account found.book.account found.held.0.own_name (sym here) (subst (called_at g.N.Names.names c.args.account) (sym c.is_beyond.ensures.stays.held.own_name) (c.requires.named was))
 
+pub returns-clause-counted : goal.returns-clause-counted
+returns-clause-counted g c =
+    let p = c.act-answer.result.0.performed in
+    let here = ap (λ (b : Book). b.account) c.is_beyond.ensures.stays.book ∙ sym c.account.ensures ∙ c.if-account.false in
+    subst (λ (k : ℕ). Moved k (events_told p) (steps_told p) 0 0 c.args.share.now c.act-answer.new.share) here c.act-answer.ensures.counted
+
+pub returns-clause-account : goal.returns-clause-account
+returns-clause-account g c = c.act-answer.ensures.account ∙ ap (λ (b : Book). b.account) c.is_beyond.ensures.stays.book ∙ sym c.account.ensures ∙ c.if-account.false
+
 -- it was done by the account that was found
 pub returns-clause-done : goal.returns-clause-done
 returns-clause-done g c = λ yes.

@@ -1,12 +1,16 @@
-use Rattle.std.proofs.Common.{ℕ, sym, subst, ◌∙◌}
-use Rattle.kl1_pool.specs.Memory.{HasBytes, HasAtMost, IsOver}
-use Rattle.kl1_pool.proofs.Staying.{stays_none, told_over, told_within}
+use Rattle.std.proofs.Common.{sym, subst}
+use Rattle.kl1_command.specs.Commands.{command_view}
+use Rattle.kl1_pool.specs.PoolAccounts.{PoolAccountValue, Stays}
+use Rattle.kl1_pool.specs.Memory.{IsBeyond, IsWithin}
 use Rattle.kl1_pool.proofs.pool_account.PoolAccount.is_beyond.Goals as goal
 
 pub returns-clause-beyond : goal.returns-clause-beyond
 returns-clause-beyond g c = λ yes.
-    (subst (λ (n : ℕ). IsOver n c.is_over-is_over.new.self) c.bound_of.ensures (told_over _ _ _ yes c.is_over-is_over.ensures.over), sym c.takes_memory.ensures ∙ c.if-not-takes_memory.false)
+    subst (λ (a : PoolAccountValue). IsBeyond c.args.most a (command_view c.args.command.now)) (sym c.expect.ensures) (c.is_beyond_now-is_beyond.ensures.beyond yes)
 
 pub returns-clause-within : goal.returns-clause-within
-returns-clause-within g c = λ no takes.
-    subst (λ (n : ℕ). HasAtMost c.is_over-is_over.new.self.held n) c.bound_of.ensures (told_within _ _ _ no c.is_over-is_over.ensures.over)
+returns-clause-within g c = λ no.
+    subst (λ (a : PoolAccountValue). IsWithin c.args.most a (command_view c.args.command.now)) (sym c.expect.ensures) (c.is_beyond_now-is_beyond.ensures.within no)
+
+pub returns-clause-stays : goal.returns-clause-stays
+returns-clause-stays g c = subst (λ (a : PoolAccountValue). Stays c.args.self.now a) (sym c.expect.ensures) c.is_beyond_now-is_beyond.ensures.stays
