@@ -38,7 +38,7 @@ pub enum HostEvent {
     Stopped { account: usize, error: LogError },
     /// An account takes this many bytes, more than it may: it gets no more turns, and no commands that take memory.
     Full { account: usize, bytes: u64 },
-    /// An account that took more bytes than it may takes this many now, and goes on: it was reset.
+    /// An account that took more bytes than it may takes this many now, and goes on: it was reset, or something of it was let go.
     Freed { account: usize, bytes: u64 },
     /// What an account wrote waits for room on the disk: commands to it are answered as if memory was refused.
     Waits { account: usize },
