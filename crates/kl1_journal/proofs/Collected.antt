@@ -1,12 +1,12 @@
 -- An account with its journal whose cells were exchanged is what it was.
-use Rattle.std.proofs.Common.{◌≡◌, List, refl, sym, ap, subst}
+use Rattle.std.proofs.Common.{List, refl, sym, ap, subst}
 use Rattle.kl1_model.specs.State.{State}
 use Rattle.kl1_model_server.specs.Journal.{Journal, Kept}
 use Rattle.kl1_model_server.specs.laws.ReplayLaws.{IsReplayable}
 use Rattle.kl1_atoms.specs.declared.known.Known.{Known}
-use Rattle.kl1_user.specs.Accounts.{Account, Reading, Fits}
+use Rattle.kl1_user.specs.Accounts.{Account, Fits}
 use Rattle.kl1_user.specs.Accounts as account
-use Rattle.kl1_journal.specs.Keeping.{kept_of, IsReplayed, StaysAs}
+use Rattle.kl1_journal.specs.Keeping.{IsReplayed, StaysAs}
 
 -- an account that stays what it was does so with its journal
 pub stays_kept : (old new : Account) (j : Journal) → account.StaysAs old new → StaysAs (old, j) (new, j)

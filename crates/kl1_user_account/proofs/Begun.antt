@@ -4,6 +4,7 @@ use Rattle.kl1_user_account.proofs.Words.{◌≡◌, ℕ, List, refl, arith, Rul
 pub begun_kept : (own : List ℕ) (rules : Rules) (names : List Known) (sessions : ℕ) → AreSmall names → IsKept (begun own rules names sessions) 0 0
 begun_kept own rules names sessions small = record {
   some = omega arith;
+  labels = record { rising = tt; first = refl; few = omega arith };
   goals = tt;
   owned = tt;
   shoens = tt;

@@ -1,5 +1,6 @@
 -- What a collection leaves, and how much memory an account takes.
-use Rattle.std.specs.Prelude.{◌≡◌, ℕ, ◌+◌, ◌-◌, ◌*◌, ◌^◌, ◌≤◌, min, Bool, true, false, length, Option, Some, None}
+use Rattle.std.specs.Prelude.{◌≡◌, ℕ, ◌+◌, ◌-◌, ◌*◌, ◌^◌, ◌≤◌, min, Bool, true, false, length, Option, Some, None, Result, Ok, Err}
+use Rattle.std.specs.declared.alloc.AllocError.{AllocError}
 use Rattle.kl1_store.specs.Bytes.{least_of_held, cells_of_held}
 use Rattle.kl1_user_effects.specs.Fitting.{Reading}
 use Rattle.kl1_user_effects.specs.Account.{Account, state_of}
@@ -25,16 +26,17 @@ pub record StaysAs (old new : Account) : Type 0 where
   pub names : new.names ≡ old.names
   pub modules : new.modules ≡ old.modules
 
--- if what nothing reaches was given back, each variable that is left has its number in the list; else an account has the cells that it had
-abbrev pub IsLeftIf : Bool → Account → Account → Type 0
-IsLeftIf true old new = length new.labels ≡ new.held.variables
-IsLeftIf false old new = new ≡ old
+-- what came of a collection that was done or not, or for which memory was refused
+abbrev pub outcome_of : Result Bool AllocError → CollectionOutcome
+outcome_of (Ok true) = Done
+outcome_of (Ok false) = GivenUp
+outcome_of (Err refused) = NoMemory
 
--- and so by what came of it
+-- if what nothing reaches was given back, each variable that is left has its number in the list; else an account has the cells that it had
 abbrev pub IsLeft : CollectionOutcome → Account → Account → Type 0
-IsLeft Done old new = IsLeftIf true old new
-IsLeft NoMemory old new = IsLeftIf false old new
-IsLeft GivenUp old new = IsLeftIf false old new
+IsLeft Done old new = length new.labels ≡ new.held.variables
+IsLeft NoMemory old new = new ≡ old
+IsLeft GivenUp old new = new ≡ old
 
 -- what is told of a collection: how many bytes there were and are, and whether it was done
 pub record IsToldOf (old new : Account) (c : Collection) : Type 0 where

@@ -4,12 +4,14 @@ ghost use Rattle.std.specs.Prelude.{◌≡◌, ◌≤◌, [], length, IfOk, OnOk
 ghost use Rattle.kl1_model.specs.Event.{reset, was_reset};
 ghost use Rattle.kl1_model.specs.State.{fresh, fresh_with};
 ghost use Rattle.kl1_model.specs.Step.{step};
+ghost use Rattle.kl1_store.specs.Held.{nothing_held, with_variable};
 ghost use Rattle.kl1_user_effects.specs.Account.{state_of};
 ghost use Rattle.kl1_user_effects.specs.Fitting.{Reading, Fits};
 ghost use Rattle.kl1_user_effects.specs.Naming.{AreSmall, Keeps};
-ghost use Rattle.kl1_user_account.specs.Beginning.{IsFirst, IsNameList, begun};
+ghost use Rattle.kl1_user_account.specs.Beginning.{IsNameList, begun};
 
 use crate::account::Account;
+use crate::account::collecting::LEAST;
 use crate::account_name::AccountName;
 use crate::labels::Labels;
 use kl1_atoms::AtomSource;
@@ -81,7 +83,8 @@ impl<C: CodeSource> Account<C> {
     /// Puts an account in which nothing has happened in place of this one, of the same name, and with the same rules, names and
     /// sessions. Its cells are those of a store that holds one variable.
     fn begin_again(&mut self, store: Store<CellName>)
-        requires { IsFirst store }
+        requires store { store.held ≡ with_variable nothing_held }
+        requires hooks { store.hooks ≡ [] }
         ensures { self.new ≡ begun self.old.own_name self.old.rules self.old.names self.old.sessions }
     {
         let names = mem::replace(&mut self.machine.names, AccountNames::new(self.alloc));
@@ -105,7 +108,8 @@ impl<C: CodeSource> Account<C> {
         names: AccountNames,
         sessions: u64,
     ) -> Self
-        requires store { IsFirst store }
+        requires store { store.held ≡ with_variable nothing_held }
+        requires hooks { store.hooks ≡ [] }
         requires small { AreSmall names.names }
         ensures { result ≡ begun name rules names.names sessions }
     {
@@ -138,7 +142,7 @@ impl<C: CodeSource> Account<C> {
             entries: 0,
             run: 0,
             sessions,
-            due: 0,
+            due: LEAST,
             trial: Trial::new(alloc),
             scan: PathScan::new(alloc),
             cells: Vec::new(alloc),
@@ -150,7 +154,8 @@ impl<C: CodeSource> Account<C> {
 
 /// A store that holds one variable, which no account uses: an account's variables are numbered from 1.
 fn first_store(alloc: Global) -> Result<Store<CellName>, AllocError>
-    ensures { IfOk result IsFirst }
+    ensures held { IfOk result (λ store. store.held ≡ with_variable nothing_held) }
+    ensures hooks { IfOk result (λ store. store.hooks ≡ []) }
 {
     let mut store = Store::new(alloc);
     let _first = store.fresh()?;

@@ -1,4 +1,4 @@
-use Rattle.std.proofs.Common.{◌≡◌, ap, sym, ◌∙◌, subst}
+use Rattle.std.proofs.Common.{ap, sym, ◌∙◌, subst}
 use Rattle.kl1_journal.specs.Keeping.{Held, StaysAs}
 use Rattle.kl1_journal.proofs.Collected.{stays_kept, replayed_stays}
 use Rattle.kl1_journal.proofs.journaled_account.JournaledAccount.collect_if_due.Goals as goal
@@ -11,3 +11,6 @@ invariant_of-self g c =
 pub returns-clause-stays : goal.returns-clause-stays
 returns-clause-stays g c =
     subst (λ (k : Held). StaysAs k (c.collect_if_due.new.self, c.self.inside.journal.journal)) (ap (λ x. x.1) c.self.view_is) (stays_kept c.self.inside.user c.collect_if_due.new.self c.self.inside.journal.journal c.collect_if_due.ensures.stays)
+
+pub returns-clause-told : goal.returns-clause-told
+returns-clause-told g c = rw (← ap (λ x. x.1.0) c.self.view_is) c.collect_if_due.ensures.told
