@@ -1,4 +1,4 @@
-use Rattle.std.proofs.Common.{◌≤◌, ◌∙◌, ℕ, min, arith}
+use Rattle.std.proofs.Common.{◌≡◌, ◌≤◌, ◌∙◌, ℕ, min, subst, arith}
 use Rattle.kl1_model_server.specs.Journal.{Kept}
 use Rattle.kl1_pool_tickets.specs.declared.serving.TheConstants.{MOST_STEPS}
 use Rattle.kl1_journal.specs.Keeping.{kept_of}
@@ -33,7 +33,8 @@ returns-clause-last g c = λ f fits.
     let stays = c.is_over-is_over.ensures.stays in
     let P : Kept → Type 0 = λ k. IsEnd c.min-most.result c.steps_within-steps.result.done c.steps_within-steps.result.last k in
     let here = kept_still P mid new f stays (c.steps_within-steps.ensures.last f (fits_still mid new f stays fits)) in
-    here
+    let most : c.min-most.result ≡ min MOST_STEPS (room_in c.args.self.now.book) = omega (arith, c.min-most.ensures, c.room.ensures) in
+    subst (λ (m : ℕ). IsEnd m c.steps_within-steps.result.done c.steps_within-steps.result.last (kept_of f new.held)) most here
 
 pub returns-clause-again : goal.returns-clause-again
 returns-clause-again g c =
