@@ -12,7 +12,7 @@ use crate::steering::Steering;
 use kl1_command::{Command, Performed};
 use kl1_lines::{Sink, Source};
 use kl1_log::LogError;
-use kl1_pool::BookTotals;
+use kl1_pool::{BookTotals, Collections};
 use kl1_session::{Disconnect, Door, Key};
 use kl1_user_events::{Extent, GoalNo, GoalView, Presence, ShoenNo, ShoenView, Usage};
 use std::alloc::AllocError;
@@ -38,7 +38,7 @@ pub enum HostEvent {
     Stopped { account: usize, error: LogError },
     /// An account takes this many bytes, more than it may: it gets no more turns, and no commands that take memory.
     Full { account: usize, bytes: u64 },
-    /// An account that took more bytes than it may takes this many now, and goes on: it was reset.
+    /// An account that took more bytes than it may takes this many now, and goes on: it was reset, or something of it was let go.
     Freed { account: usize, bytes: u64 },
     /// What an account wrote waits for room on the disk: commands to it are answered as if memory was refused.
     Waits { account: usize },
@@ -67,8 +67,12 @@ pub struct Sight {
     pub usage: Usage,
     /// Its events and its steps.
     pub counted: BookTotals,
-    /// About how many bytes it takes.
+    /// How many bytes it takes.
     pub bytes: u64,
+    /// How often what nothing reaches any more was given back.
+    pub collections: Collections,
+    /// The most microseconds that a turn took in which that was done.
+    pub pause: u64,
     /// How many of its sessions are open.
     pub sessions: u64,
     /// When, since some start.
@@ -113,7 +117,7 @@ pub trait HostView {
     /// What of an account is in use.
     fn usage(&self, account: usize) -> Result<Usage, AllocError>;
 
-    /// About how many bytes an account takes.
+    /// How many bytes an account takes.
     fn bytes(&self, account: usize) -> Result<u64, AllocError>;
 
     /// The events and the steps of an account.

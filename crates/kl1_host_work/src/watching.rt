@@ -31,23 +31,27 @@ struct Told {
     has_all_codes: bool,
 }
 
-/// What is seen of an account now; `None` if another was found, which never is so. It waits for an account that is in the midst of a
+/// What is seen of an account now, of which `pause` was the longest; `None` if another was found, which never is so. It waits for an account that is in the midst of a
 /// reduction.
 fn look<'t, F: Front, W: Wait + Clock, R: Wait, K: PoolIds + Naming>(
     rt: &W,
     desk: &Desk<'_, 't, F, R, K>,
     account: usize,
+    pause: u64,
 ) -> Option<Sight>
     requires { account < K.accounts }
 {
     let usage = desk.pool.usage(rt, account).ok()?;
     let counted = desk.pool.counted(rt, account)?;
     let bytes = desk.pool.bytes(rt, account)?;
+    let collections = desk.pool.collections(rt, account)?;
     let sessions = sessions_of(rt, desk, account)?;
     Some(Sight {
         usage,
         counted,
         bytes,
+        collections,
+        pause,
         sessions,
         at: now_of(rt),
     })
@@ -100,7 +104,7 @@ fn see<'t, F: Front, W: Wait + Clock, R: Wait, K: PoolIds + Naming>(
     requires { account < K.accounts }
 {
     let (asked, _) = outlook.asked(rt);
-    let sight = look(rt, desk, account);
+    let sight = look(rt, desk, account, outlook.pause());
     outlook.show(rt, sight, asked);
     if account < over.len()
         && let Some(sight) = sight

@@ -6,6 +6,7 @@ ghost use Rattle.kl1_pool.specs.Memory.{IsTakenBySome};
 ghost use Rattle.kl1_pool.specs.Names.{called_at};
 ghost use Rattle.kl1_pool.specs.Showing.{IsOfSome, IsCountedBySome};
 
+use crate::collections::Collections;
 use crate::locked_slot::Tenant;
 use crate::pool::Pool;
 use crate::pool_account::BookTotals;
@@ -160,7 +161,7 @@ impl<'t, R: Wait, K: PoolIds> Pool<'t, R, K> {
         Some(found.counted())
     }
 
-    /// About how many bytes an account takes; `None` if there is none here, or another was found, which never is so.
+    /// How many bytes an account takes; `None` if there is none here, or another was found, which never is so.
     pub fn bytes<W: Wait>(&self, rt: &W, account: usize) -> Option<u64>
         requires within { account < K.accounts }
         ensures { IfSome result (λ bytes. IsTakenBySome K.rules (called_at K.names account) bytes) }
@@ -172,5 +173,18 @@ impl<'t, R: Wait, K: PoolIds> Pool<'t, R, K> {
             return None;
         }
         Some(found.bytes())
+    }
+
+    /// What came of an account's collections so far; `None` if there is none here, or another was found, which never is so.
+    pub fn collections<W: Wait>(&self, rt: &W, account: usize) -> Option<Collections>
+        requires within { account < K.accounts }
+    {
+        let guard = self.places[account].lock(rt);
+        let found = guard.account()?;
+        // As in `visit`.
+        if !found.is_at(account) {
+            return None;
+        }
+        Some(found.collections())
     }
 }

@@ -11,6 +11,14 @@ use Rattle.kl1_journal_entries.proofs.journal.Journal.put_reduction.Goals as goa
 pub returns-then-run-eq1 : goal.returns-then-run-eq1
 returns-then-run-eq1 c = c.put_run.ensures ∙ run_begins c.args.self.now.journal c.args.goal c.args.clause c.args.run c.if-run-eq1.true
 
+-- the run that is told to be last is the one that the entries end with
+pub put_run-else-run-eq1-requires-clause-last : goal.put_run-else-run-eq1-requires-clause-last
+put_run-else-run-eq1-requires-clause-last c = λ some.
+    let ws = c.self.inside.wholes.items in
+    let slots = c.as_slice.ensures.value in
+    let places : AllByRecursion (IsPlace (length ws)) c.as_slice.result.now = rw slots c.self.invariant.places in
+    c.last_run-before.ensures.run c.self.inside.rules ws places c.self.invariant.sound ∙ ap (λ (ss : List PackedEntry). if_longer (last_run_of (map (entry_at ws) ss))) slots ∙ ap (λ (r : Rows). if_longer (last_run_of r.journal.entries)) c.self.view_is
+
 -- the last run goes on, if it may
 pub returns-else-run-eq1 : goal.returns-else-run-eq1
 returns-else-run-eq1 c =

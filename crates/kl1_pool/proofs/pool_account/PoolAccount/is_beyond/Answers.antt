@@ -1,13 +1,16 @@
-use Rattle.std.proofs.Common.{ℕ, ◌<◌, ◌≤◌, sym, subst, ◌∙◌}
-use Rattle.std.proofs.lemmas.Bool.{ltb-true, ltb-false}
-use Rattle.kl1_journal.specs.Keeping.{kept_of}
-use Rattle.kl1_pool.specs.Memory.{bytes_taken}
+use Rattle.std.proofs.Common.{sym, subst}
+use Rattle.kl1_command.specs.Commands.{command_view}
+use Rattle.kl1_pool.specs.PoolAccounts.{PoolAccountValue, Stays}
+use Rattle.kl1_pool.specs.Memory.{IsBeyond, IsWithin}
 use Rattle.kl1_pool.proofs.pool_account.PoolAccount.is_beyond.Goals as goal
 
 pub returns-clause-beyond : goal.returns-clause-beyond
 returns-clause-beyond g c = λ yes.
-    (λ f. subst (λ (n : ℕ). n < bytes_taken (kept_of f c.args.self.now.held)) c.bound_of.ensures (ltb-true _ _ (sym (c.is_over.ensures f) ∙ yes)), sym c.takes_memory.ensures ∙ c.if-not-takes_memory.false)
+    subst (λ (a : PoolAccountValue). IsBeyond c.args.most a (command_view c.args.command.now)) (sym c.expect.ensures) (c.is_beyond_now-is_beyond.ensures.beyond yes)
 
 pub returns-clause-within : goal.returns-clause-within
-returns-clause-within g c = λ no takes f.
-    subst (λ (n : ℕ). bytes_taken (kept_of f c.args.self.now.held) ≤ n) c.bound_of.ensures (ltb-false _ _ (sym (c.is_over.ensures f) ∙ no))
+returns-clause-within g c = λ no.
+    subst (λ (a : PoolAccountValue). IsWithin c.args.most a (command_view c.args.command.now)) (sym c.expect.ensures) (c.is_beyond_now-is_beyond.ensures.within no)
+
+pub returns-clause-stays : goal.returns-clause-stays
+returns-clause-stays g c = subst (λ (a : PoolAccountValue). Stays c.args.self.now a) (sym c.expect.ensures) c.is_beyond_now-is_beyond.ensures.stays
