@@ -65,7 +65,7 @@ impl Opener<Memory> for TextOpener<'_> {
             return Err(OpenFault::Failed(io::Error::other("no name")));
         };
         let disk = Memory::new(self.alloc, bytes, self.left);
-        let opened = open_file(self.alloc, disk, Rules::Four, false)?;
+        let opened = open_file(self.alloc, disk, Rules::Five, false)?;
         Ok(AccountFile { name, opened })
     }
 }

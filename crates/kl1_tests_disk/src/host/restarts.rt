@@ -21,10 +21,14 @@ const REPLIES: &[u8] = b"+ welcome alice\n+ loaded f\n+ shoen 1\n+ 1\n+ no\n+ 2\
 
 /// The file after it: the run has grown after it was written.
 const FILE: &[u8] =
-    b"journal 4 0 0\nload 3a2d206d6f64756c6520662e0a67285229203a2d2074727565207c2031203d20322c2052203d206f6b2e\nstart 10 0 10 f:g(_1)\nrun 1\nrun 2\n";
+    b"journal 5 0 0\nload 3a2d206d6f64756c6520662e0a67285229203a2d2074727565207c2031203d20322c2052203d206f6b2e\nstart 10 0 10 f:g(_1)\nrun 1\nrun 2\n";
 
 /// The file after the next start: the text of the account's journal.
 const TEXT: &[u8] =
+    b"journal 5 0 0\nload 3a2d206d6f64756c6520662e0a67285229203a2d2074727565207c2031203d20322c2052203d206f6b2e\nstart 10 0 10 f:g(_1)\nrun 3\n";
+
+/// The file as a host by the fourth rules left it.
+const BEFORE: &[u8] =
     b"journal 4 0 0\nload 3a2d206d6f64756c6520662e0a67285229203a2d2074727565207c2031203d20322c2052203d206f6b2e\nstart 10 0 10 f:g(_1)\nrun 3\n";
 
 /// A second conversation, which sees what the first has done.
@@ -35,10 +39,10 @@ const SEEN: &[u8] =
     b"+ welcome alice\n+ f:g(ok)\n+ 3\nload 3a2d206d6f64756c6520662e0a67285229203a2d2074727565207c2031203d20322c2052203d206f6b2e\nstart 10 0 10 f:g(_1)\nrun 3\n+ reset\n+ bye\n";
 
 /// The file after a reset: the names that were used.
-const RESET: &[u8] = b"journal 4 0 3\nname f\nname g\nname ok\n";
+const RESET: &[u8] = b"journal 5 0 3\nname f\nname g\nname ok\n";
 
 /// The text of an account in which nothing has happened.
-const FRESH: &[u8] = b"journal 4 0 0\n";
+const FRESH: &[u8] = b"journal 5 0 0\n";
 
 /// Whether a host that was sent lines replied with these bytes, and left these files of its two accounts.
 fn is_so(outcome: &Outcome, replies: &[u8], files: [&[u8]; 2]) -> bool {
@@ -70,7 +74,8 @@ where
     }
 }
 
-/// What an account has done is there after a restart, and the file is the text of its journal again; after a reset it has the names.
+/// What an account has done is there after a restart, and the file is the text of its journal again; after a reset it has the names. A file of
+/// the fourth rules goes on by the fifth.
 pub(crate) fn accounts_go_on_after_a_restart<R>(rt: &R, alloc: Global) -> bool
 where
     R: Net<Listener = TcpListener, Stream = TcpStream> + Threads + Wait + Clock + Sync,
@@ -78,6 +83,7 @@ where
     let (bob, welcome) = (b"login bob k2\nlogout\n", b"+ welcome bob\n+ bye\n");
     leaves(rt, alloc, [b"", b""], LINES, REPLIES, [FILE, FRESH])
         && leaves(rt, alloc, [FILE, FRESH], bob, welcome, [TEXT, FRESH])
+        && leaves(rt, alloc, [BEFORE, FRESH], b"", b"", [TEXT, FRESH])
         && leaves(rt, alloc, [TEXT, FRESH], AGAIN, SEEN, [RESET, FRESH])
         && leaves(rt, alloc, [RESET, FRESH], b"", b"", [RESET, FRESH])
 }
@@ -122,7 +128,7 @@ pub(crate) fn refused_entry_ends_the_start<R>(rt: &R, alloc: Global) -> bool
 where
     R: Net<Listener = TcpListener, Stream = TcpStream> + Threads + Wait + Clock + Sync,
 {
-    let text = b"journal 4 0 1\nname f\nstart 10 0 10 true\nreduce 7 1\nrun 1\n";
+    let text = b"journal 5 0 1\nname f\nstart 10 0 10 true\nreduce 7 1\nrun 1\n";
     matches!(
         hosted(rt, alloc, &[FRESH, text], ENOUGH, b""),
         Err(StartFault::Unaccepted {

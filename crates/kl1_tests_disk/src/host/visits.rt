@@ -13,7 +13,7 @@ use std::time::{Clock, Duration};
 const ENOUGH: usize = 100_000;
 
 /// The text of an account in which nothing has happened.
-const FRESH: &[u8] = b"journal 4 0 0\n";
+const FRESH: &[u8] = b"journal 5 0 0\n";
 
 /// What lets in, and what comes back.
 const LOGIN: &[u8] = b"login alice k1\n";
@@ -88,7 +88,7 @@ where
     };
     let lines = b"login alice k1\nstart 10 0 9 true\nrun 5\nlogout\n";
     let replies = b"+ welcome alice\n+ shoen 1\n+ 1\n+ bye\n";
-    let file = b"journal 4 0 0\nstart 10 0 9 true\nrun 1\n";
+    let file = b"journal 5 0 0\nstart 10 0 9 true\nrun 1\n";
     leaves(rt, alloc, lines, Visit::Whole, setup, replies, file)
 }
 
@@ -103,6 +103,6 @@ where
     };
     let lines = b"login alice k1\nload 12\n:- module f.\nload 12\n:- module g.\nmodules\nlogout\n";
     let replies = b"+ welcome alice\n+ loaded f\n- 10 memory\n+ 1\nf 12 0\n+ bye\n";
-    let file = b"journal 4 0 0\nload 3a2d206d6f64756c6520662e\n";
+    let file = b"journal 5 0 0\nload 3a2d206d6f64756c6520662e\n";
     leaves(rt, alloc, lines, Visit::Whole, setup, replies, file)
 }

@@ -1,4 +1,5 @@
-use Rattle.std.proofs.Common.{◌+◌, sym, subst, arith}
+use Rattle.std.proofs.Common.{◌+◌, ◌<◌, sym, subst, arith}
+use Rattle.kl1_model.specs.declared.limits.TheConstants.{MOST_RUN}
 use Rattle.kl1_model_server.specs.Journal.{Journal}
 use Rattle.kl1_model_server.specs.laws.HistoryLaws.{EndsInRun}
 use Rattle.kl1_journal_stamps.specs.Stamps.{MayFollow}
@@ -15,5 +16,6 @@ invariant_of-self g c = (
 
 pub invariant_of-self-2 : goal.invariant_of-self-2
 invariant_of-self-2 g c =
-    let on = run_goes_on c.self.inside.shown.last c.self.inside.generation c.self.inside.run (c.self.inside.run + 1) c.self.inside.journal.journal c.reserve.new.self.journal c.put_reduction.new.self.journal c.reserve.ensures.same c.put_reduction.ensures (omega arith) c.self.invariant.1 c.self.invariant.2 in
+    let less : c.self.inside.run < MOST_RUN = omega (arith, c.if-self.false) in
+    let on = run_goes_on c.self.inside.shown.last c.self.inside.generation c.self.inside.run (c.self.inside.run + 1) c.self.inside.journal.journal c.reserve.new.self.journal c.put_reduction.new.self.journal c.reserve.ensures.same c.put_reduction.ensures (omega arith) less c.self.invariant.1 c.self.invariant.2 in
     (c.self.invariant.0, on.0, on.1)
