@@ -83,7 +83,6 @@ found_copy m c k gs hs p = record {
   shoens = rw (p.held, p.back) p.shoens;
   hung = p.hung;
   formed = p.copy.copied.formed;
-  bare = p.copy.copied.bare;
   count = p.copy.copied.count;
   rising = p.copy.copied.rising;
   ends = p.copy.ends;
@@ -141,7 +140,7 @@ module _ (m : Machine) (c : MachineCopy) (mark : Point) (r : Tabled CellName) (t
       settled = λ f fits.
           subst (λ (gs : List (Goal CellName)). AreSettled f c.store.hooks c.store.held program t.shoens gs) (sym parts.goals)
           (subst (λ (hs : List (Shoen CellName)). AreSettled f c.store.hooks c.store.held program hs (goals.with_cells ys 0 m.goals.goals)) (sym parts.shoens)
-          (settled_moved f m.store.held c.store.held m.store.hooks c.store.hooks back program m.shoens.shoens m.goals.goals ys zs copy.formed copy.bare copy.rising copy.count copy.goals copy.shoens i.inside.shoens copy.hung (rest.settled f fits)));
+          (settled_moved f m.store.held c.store.held m.store.hooks c.store.hooks back program m.shoens.shoens m.goals.goals ys zs copy.formed copy.rising copy.count copy.goals copy.shoens i.inside.shoens copy.hung (rest.settled f fits)));
       enabled =
           subst (λ (gs : List (Goal CellName)). AreEnabled t.shoens t.work gs) (sym parts.goals)
           (subst (λ (hs : List (Shoen CellName)). AreEnabled hs t.work (goals.with_cells ys 0 m.goals.goals)) (sym parts.shoens)

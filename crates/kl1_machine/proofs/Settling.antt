@@ -206,25 +206,25 @@ stay_below n (w ∷ ws) e = (one (cases_lt w n), stay_below n ws (rest_same (lif
     one (inl lt) = lt
     one (inr le) = absurd (omega (arith, high_rises n w le, first_same (lift_from n w) w (map (lift_from n) ws) ws e))
 
-cell_stays : (f : Reading) (h : Held CellName) (x : Cell CellName) → IsFormed h → h.bindings ≡ [] → IsIn h x → renamed (lift_from h.variables) (meaning f h x) ≡ meaning f h x
-cell_stays f h x formed bare inside = own_variables (lift_from h.variables) f h x (low_stays h.variables) formed bare inside
+cell_stays : (f : Reading) (h : Held CellName) (x : Cell CellName) → IsFormed h → IsIn h x → renamed (lift_from h.variables) (meaning f h x) ≡ meaning f h x
+cell_stays f h x formed inside = own_variables (lift_from h.variables) f h x (low_stays h.variables) formed inside
 
-task_stays : (f : Reading) (h : Held CellName) (t : Task CellName) → IsFormed h → h.bindings ≡ [] → IsTaskIn h t → task_renamed (lift_from h.variables) (task_with (meaning f h) t) ≡ task_with (meaning f h) t
-task_stays f h Monitor formed bare inside = refl
-task_stays f h (Reduces q) formed bare inside = ap reduces (aim_stays q.module_name)
+task_stays : (f : Reading) (h : Held CellName) (t : Task CellName) → IsFormed h → IsTaskIn h t → task_renamed (lift_from h.variables) (task_with (meaning f h) t) ≡ task_with (meaning f h) t
+task_stays f h Monitor formed inside = refl
+task_stays f h (Reduces q) formed inside = ap reduces (aim_stays q.module_name)
   where
     aim_stays : (m : Option CellName) → renamed (lift_from h.variables) (told_in (meaning f h) m (meaning f h q.cell)) ≡ told_in (meaning f h) m (meaning f h q.cell)
-    aim_stays None = cell_stays f h q.cell formed bare inside
+    aim_stays None = cell_stays f h q.cell formed inside
     aim_stays (Some m) =
         let P : Term → Term → Term = λ t u. structure (codes ":") (more t (more u none)) in
-        ap₂ P (ap (renamed (lift_from h.variables)) (term_of-Atom f h m) ∙ sym (term_of-Atom f h m)) (cell_stays f h q.cell formed bare inside)
-task_stays f h (Substitutes x) formed bare inside = ap substitutes (cell_stays f h x formed bare inside)
+        ap₂ P (ap (renamed (lift_from h.variables)) (term_of-Atom f h m) ∙ sym (term_of-Atom f h m)) (cell_stays f h q.cell formed inside)
+task_stays f h (Substitutes x) formed inside = ap substitutes (cell_stays f h x formed inside)
 
-control_stays : (f : Reading) (h : Held CellName) (n : ℕ) (hs : List (Shoen CellName)) → IsFormed h → h.bindings ≡ [] → AreShoensIn h hs →
+control_stays : (f : Reading) (h : Held CellName) (n : ℕ) (hs : List (Shoen CellName)) → IsFormed h → AreShoensIn h hs →
     option_map (control_renamed (lift_from h.variables)) (control_with (meaning f h) hs n) ≡ control_with (meaning f h) hs n
-control_stays f h n [] formed bare inside = refl
-control_stays f h n (k ∷ hs) formed bare inside =
-    by (numbers.has_number n k) (ap Some (sym (control_is (lift_from h.variables) (meaning f h k.control)) ∙ ap control_of (cell_stays f h k.control formed bare inside.0.control))) (control_stays f h n hs formed bare inside.1)
+control_stays f h n [] formed inside = refl
+control_stays f h n (k ∷ hs) formed inside =
+    by (numbers.has_number n k) (ap Some (sym (control_is (lift_from h.variables) (meaning f h k.control)) ∙ ap control_of (cell_stays f h k.control formed inside.0.control))) (control_stays f h n hs formed inside.1)
   where
     front : Option (Shoen CellName) → Option Control
     front o = front_with (meaning f h) (option_map (λ j. j.control) o)
@@ -265,7 +265,6 @@ there_first g gs = record { goal = g; found = ap (λ c. if c then Some g else fi
 -- a machine's parts, and what was copied of them
 record Copies (old new : Held CellName) (hooks copied : List Hook) (back : List ℕ) (hs : List (Shoen CellName)) (zs : List (Cell CellName)) (all : List (Goal CellName)) : Type 0 where
   formed : IsFormed new
-  bare : new.bindings ≡ []
   rising : AreRising 0 back
   count : length back ≡ new.variables
   stand : StandEach old new back (shoens.cells_of hs) zs
@@ -290,7 +289,7 @@ goal_settled f old new hooks copied back program hs zs ys xs all g at c stand th
     let ws = awaited_by_task rules modules K U in
     let own : map L ws ≡ ws =
     sym (task_waits L rules modules K U (lifts_rise new.variables))
-    ∙ ap₂ (awaited_by_task rules modules) (control_stays f new g.shoen (shoens.with_cells zs 0 hs) c.formed c.bare c.inside) (task_stays f new (goals.task_at ys at g.task) c.formed c.bare (task_inside old new back g.task xs ys at stand)) in
+    ∙ ap₂ (awaited_by_task rules modules) (control_stays f new g.shoen (shoens.with_cells zs 0 hs) c.formed c.inside) (task_stays f new (goals.task_at ys at g.task) c.formed (task_inside old new back g.task xs ys at stand)) in
     let waits : map B ws ≡ awaited_by_task rules modules C T = sym (task_waits B rules modules K U up) ∙ ap₂ (awaited_by_task rules modules) control task in
     record {
       standing = is.standing ∙ (ap₂ (task_clause rules modules) (sym control) (sym task) ∙ task_clause_renamed B rules modules K U up);
@@ -309,12 +308,11 @@ goals_settled f old new hooks copied back program hs zs ys all (g ∷ gs) at c s
 
 -- the goals of a machine stand in its copy as they should
 pub settled_moved : (f : Reading) (old new : Held CellName) (hooks copied : List Hook) (back : List ℕ) (program : Program) (hs : List (Shoen CellName)) (gs : List (Goal CellName)) (ys zs : List (Cell CellName)) →
-    IsFormed new → new.bindings ≡ [] → AreRising 0 back → length back ≡ new.variables → StandEach old new back (goals.cells_of gs) ys → StandEach old new back (shoens.cells_of hs) zs → AreShoensIn old hs →
+    IsFormed new → AreRising 0 back → length back ≡ new.variables → StandEach old new back (goals.cells_of gs) ys → StandEach old new back (shoens.cells_of hs) zs → AreShoensIn old hs →
     HangsForEach hooks gs back copied → AreSettled f hooks old program hs gs → AreSettled f copied new program (shoens.with_cells zs 0 hs) (goals.with_cells ys 0 gs)
-settled_moved f old new hooks copied back program hs gs ys zs formed bare rising count goals_stand shoens_stand inside hung is =
+settled_moved f old new hooks copied back program hs gs ys zs formed rising count goals_stand shoens_stand inside hung is =
     let c : Copies old new hooks copied back hs zs gs = record {
       formed = formed;
-      bare = bare;
       rising = rising;
       count = count;
       stand = shoens_stand;

@@ -23,13 +23,12 @@ use Rattle.kl1_machine.specs.Rested.{IsRested}
 abbrev pub HangsForEach : List Hook → List (Goal CellName) → List ℕ → List Hook → Type 0
 HangsForEach hooks goals back copied = (k : Hook) (g : Goal CellName) → Contains hooks k → find (has_number k.number) goals ≡ Some g → HangsIn back copied k.variable k.number
 
--- a copy of what a machine reaches: the cells of its goals and its shoens stand in it, and no variable of it is bound
+-- a copy of what a machine reaches: the cells of its goals and its shoens stand in it
 pub record IsCopyFor (m : Machine) (c : MachineCopy) : Type 0 where
   pub goals : StandEach m.store.held c.store.held c.back.items (goals.cells_of m.goals.goals) c.goals.items
   pub shoens : StandEach m.store.held c.store.held c.back.items (shoens.cells_of m.shoens.shoens) c.shoens.items
   pub hung : HangsForEach m.store.hooks m.goals.goals c.back.items c.store.hooks
   pub formed : IsFormed c.store.held
-  pub bare : c.store.held.bindings ≡ []
   pub count : length c.back.items ≡ c.store.held.variables
   pub rising : AreRising 0 c.back.items
   pub ends : HasEnds m.store.held.variables c.back.items

@@ -42,3 +42,4 @@ pub mod Resting
 pub mod Resuming
 pub mod Fingering
 pub mod Occurrences
+pub mod Values

@@ -1,7 +1,7 @@
 -- The places of bindings, for each variable.
-use Rattle.std.proofs.Common.{◌≡◌, ℕ, zero, suc, ◌-◌, ◌<◌, ◌≤◌, ◌==◌, false, List, [], ◌∷◌, ◌++◌, length, length-append, length-take, get_or, set, take, drop, map, refl, sym, ◌∙◌, ap, subst, arith, ◌⊎◌, inl, inr, get_or-set_same, get_or-set_other}
+use Rattle.std.proofs.Common.{◌≡◌, ℕ, zero, suc, ◌-◌, ◌<◌, ◌≤◌, ◌==◌, Bool, true, false, ◌||◌, List, [], ◌∷◌, ◌++◌, length, length-append, length-take, get_or, set, take, drop, map, refl, sym, ◌∙◌, ap, subst, arith, ◌⊎◌, inl, inr, get_or-set_same, get_or-set_other}
 use Rattle.std.specs.Prelude.{Option, Some, slice_get, unwrap_or}
-use Rattle.std.proofs.lemmas.Bool.{cases_eq, cases_lt, ne_eqb, eqb-false, or_parts, or_from}
+use Rattle.std.proofs.lemmas.Bool.{cases_eq, cases_lt, ne_eqb, eqb-false, eq-eqb, or_parts, or_from}
 use Rattle.std.proofs.lemmas.List.{get_or-take, get_or_append_left, get_or-append_right, get_or_past, get_or_default, drop-map}
 use Rattle.std.proofs.lemmas.Option.{slice_get_within}
 use Rattle.kl1_store.specs.declared.cell.Cell.{Cell}
@@ -92,6 +92,26 @@ found_there v zero (w ∷ vs) (x ∷ xs) d e h one = if_same x (found v (binding
 found_there v (suc p) (w ∷ vs) (x ∷ xs) d e h one =
     if_other x (found v (bindings_in vs xs)) w v (λ s. let z = one 0 (ap Some s) in omega (arith, z))
     ∙ found_there v p vs xs d (omega (arith, e)) h (λ q r. let z = one (suc q) r in omega (arith, z))
+
+-- a variable that stands nowhere among the first ones has none of their bindings
+pub not_among : {N : Type 0} (v n : ℕ) (vs : List ℕ) (xs : List (Cell N)) → ((p : ℕ) → p < n → slice_get vs p ≡ Some v → ⊥) → is_bound v (take n (bindings_in vs xs)) ≡ false
+not_among v zero vs xs h = refl
+not_among v (suc n) [] xs h = refl
+not_among v (suc n) (w ∷ vs) [] h = refl
+not_among v (suc n) (w ∷ vs) (x ∷ xs) h =
+    or_from (w == v) (is_bound v (take n (bindings_in vs xs))) (ne_eqb w v (λ e. h 0 (omega arith) (ap Some e))) (not_among v n vs xs (λ p lt e. h (suc p) (omega (arith, lt)) e))
+
+or_bound : (b c : Bool) → c ≡ true → (b || c) ≡ true
+or_bound true c e = refl
+or_bound false c e = e
+
+-- one that stands among them has
+pub among : {N : Type 0} (v p n : ℕ) (vs : List ℕ) (xs : List (Cell N)) → length vs ≡ length xs → p < n → slice_get vs p ≡ Some v → is_bound v (take n (bindings_in vs xs)) ≡ true
+among v p zero vs xs e lt q = absurd (omega (arith, lt))
+among v p (suc n) [] xs e lt q = absurd (cc)
+among v p (suc n) (w ∷ vs) [] e lt q = absurd (omega (arith, e))
+among v zero (suc n) (w ∷ vs) (x ∷ xs) e lt q = ap (λ b. b || is_bound v (take n (bindings_in vs xs))) (eq-eqb w v (some_same w v q))
+among v (suc p) (suc n) (w ∷ vs) (x ∷ xs) e lt q = or_bound (w == v) (is_bound v (take n (bindings_in vs xs))) (among v p n vs xs (omega (arith, e)) (omega (arith, lt)) q)
 
 pub value_unbound : {N : Type 0} (places vs : List ℕ) (xs : List (Cell N)) (v : ℕ) → ArePlaced places vs → get_or places v 0 ≡ 0 → Variable v ≡ found v (bindings_in vs xs)
 value_unbound places vs xs v h e =

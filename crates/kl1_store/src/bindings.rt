@@ -157,6 +157,22 @@ impl<N: NameValue> Bindings<N> {
         self.values.get(place as usize - 1)
     }
 
+    /// Whether the binding of a variable is among the first `count`.
+    #[inline]
+    pub fn is_bound_before(&self, variable: u32, count: usize) -> bool
+        requires { variable < self.now.variables }
+        ensures { result ≡ is_bound variable (take count self.now.bindings) }
+    {
+        let place = self.places[variable as usize] as usize;
+        if place == 0 {
+            return false;
+        }
+        if place <= count {
+            return true;
+        }
+        false
+    }
+
     /// The variables that were bound after the first `from` ones.
     pub fn bound_from(&self, from: usize) -> &[u32]
         ensures { result.now ≡ variables_of (drop from self.now.bindings) }

@@ -308,6 +308,15 @@ impl<N: NameValue> Cells<N> {
         at
     }
 
+    /// Whether the binding of a variable is among the first `count`.
+    #[inline]
+    pub fn is_bound_before(&self, variable: u32, count: usize) -> bool
+        requires { variable < self.now.held.variables }
+        ensures { result ≡ is_bound variable (take count self.now.held.bindings) }
+    {
+        self.bindings.is_bound_before(variable, count)
+    }
+
     /// The variables of the bindings after the first `from`.
     pub fn bound_from(&self, from: usize) -> &[u32]
         ensures { result.now ≡ variables_of (drop from self.now.held.bindings) }

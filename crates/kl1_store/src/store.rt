@@ -13,6 +13,7 @@ ghost use Rattle.kl1_store.specs.Remembers.{Remembers};
 ghost use Rattle.kl1_store.specs.Hooks.{Kept, hanging_on, told_by, point_of, HasGrown};
 ghost use Rattle.kl1_store.specs.Tops.{firsts, others};
 
+mod bound;
 mod build_one;
 mod build_three;
 mod constants;

@@ -1,69 +1,61 @@
--- Cells that were copied stand for what they were copied from, one structure after another.
-use Rattle.std.proofs.Common.{◌≡◌, ℕ, zero, suc, ◌+◌, ◌-◌, replicate, drop, ◌<◌, ◌≤◌, ◌==◌, Bool, true, false, List, [], ◌∷◌, ◌++◌, length, take, get_or, set, refl, sym, ap, ◌∙◌, ◌⊎◌, inl, inr, arith, subst, ℤ, length-append}
+-- Cells that were copied follow what they were copied from, one structure after another.
+use Rattle.std.proofs.Common.{◌≡◌, ℕ, zero, suc, ◌+◌, ◌-◌, drop, ◌<◌, ◌≤◌, List, [], ◌∷◌, ◌++◌, length, take, get_or, set, refl, sym, ap, ◌∙◌, ◌⊎◌, inl, inr, arith, subst, ℤ, length-append}
 use Rattle.std.specs.Prelude.{Some, slice_get}
 use Rattle.std.proofs.lemmas.Bool.{cases_eq}
-use Rattle.std.proofs.lemmas.List.{length-replicate, take_all, take_more_set, drop-set-lt, length-set, get_or-set_same, get_or-set_other}
-use Rattle.kl1_model.specs.Term.{Term, variable, integer, atom, structure, Terms, none, more, each_substituted}
+use Rattle.std.proofs.lemmas.List.{take_all, take_more_set, drop-set-lt, length-set, get_or-set_same, get_or-set_other}
+use Rattle.kl1_model.specs.Term.{Term, structure, more, substituted, each_substituted}
 use Rattle.kl1_store.specs.declared.cell.Cell.{Cell}
 use Rattle.kl1_store.specs.declared.cell.Cell.TheVariants.{Variable, Integer, Atom, Structure}
-use Rattle.kl1_store.specs.Held.{Shape, Held, nothing_held, with_variable, with_structure, is_bound, IsWalked, IsIn, AreIn, AreWithin, arguments_of, shape_arguments, arguments_held}
+use Rattle.kl1_store.specs.Held.{Shape, Held, with_variable, with_structure, IsIn, AreIn, arguments_of, shape_arguments, arguments_held}
 use Rattle.kl1_store.specs.Meaning.{term_of, terms_of}
 use Rattle.kl1_store.specs.Places.{arguments_among}
 use Rattle.kl1_store.specs.Sound.{IsFormed}
 use Rattle.kl1_store.proofs.Meanings.{some-same}
-use Rattle.kl1_store.proofs.Growing.{IsWithin-more, IsFormed-structure, IsFormed-variable}
-use Rattle.kl1_store.proofs.Terms.{term_of-structure, term_of-Integer, term_of-Atom, term_of-unbound, term_of-Structure, arguments_in, within_at}
+use Rattle.kl1_store.proofs.Growing.{IsFormed-structure, IsFormed-variable}
+use Rattle.kl1_store.proofs.Terms.{term_of-Integer, term_of-Atom, term_of-Structure}
 use Rattle.kl1_store_copy.specs.Numbers.{after, numbered}
-use Rattle.kl1_store_copy.specs.Copies.{renumbered, StandsFor, StandEach, IsNumber, AreCopied, HasNone}
-use Rattle.kl1_store_copy.proofs.Rising.{before_push, last_pushed, rising_push, below_last}
+use Rattle.kl1_store_copy.specs.Copies.{StandsFor, StandEach, value_of, Follows, FollowEach, IsNumber, AreCopied}
+use Rattle.kl1_store_copy.proofs.Following.{follows_variable, new_follows, follows_structure}
+use Rattle.kl1_store_copy.proofs.Rising.{before_push, last_pushed, after_push, rising_push, below_last}
 
 -- ---- one cell
 
--- what stands for a cell stands for any cell of its meaning
-pub stands_alike : {N : Type 0} (old new : Held N) (back : List ℕ) (w x y : Cell N) → ((f : N → List ℕ) → term_of f old w ≡ term_of f old x) → StandsFor old new back w y → StandsFor old new back x y
-stands_alike old new back w x y same s = record { inside = s.inside; means = λ f. s.means f ∙ same f }
+-- what follows a cell follows any cell of its meaning
+pub follows_alike : {N : Type 0} (old new : Held N) (back : List ℕ) (w x y : Cell N) → ((f : N → List ℕ) → term_of f old w ≡ term_of f old x) → IsIn old x → Follows old new back w y → Follows old new back x y
+follows_alike old new back w x y same known s = record { known = known; inside = s.inside; means = λ f. s.means f ∙ same f }
 
-pub stands_integer : {N : Type 0} (old new : Held N) (back : List ℕ) (i : ℤ) → StandsFor old new back (Integer i) (Integer i)
-stands_integer old new back i = record { inside = tt; means = λ f. ap (renumbered back) (term_of-Integer f new i) ∙ sym (term_of-Integer f old i) }
-
-pub stands_atom : {N : Type 0} (old new : Held N) (back : List ℕ) (a : N) → StandsFor old new back (Atom a) (Atom a)
-stands_atom old new back a = record { inside = tt; means = λ f. ap (renumbered back) (term_of-Atom f new a) ∙ sym (term_of-Atom f old a) }
-
-pub stands_variable : {N : Type 0} (old new : Held N) (back variables structures : List ℕ) (v w : ℕ) → AreCopied old new back variables structures →
-    is_bound v old.bindings ≡ false → get_or variables v 0 ≡ suc w → StandsFor old new back (Variable v) (Variable w)
-stands_variable old new back variables structures v w c unbound e =
+-- what was found for a cell, and what follows that
+pub found_variable : {N : Type 0} (old new : Held N) (back variables structures : List ℕ) (v w : ℕ) (found x : Cell N) → AreCopied old new back variables structures → IsIn old x →
+    found ≡ Variable v → ((f : N → List ℕ) → term_of f old found ≡ term_of f old x) → get_or variables v 0 ≡ suc w → Follows old new back x (Variable w)
+found_variable {N = N} old new back variables structures v w found x c known is same e =
     let k = c.numbers v w e in
-    let there : w < length back = k.there in
-    let free : is_bound w new.bindings ≡ false = ap (λ bs. is_bound w bs) c.bare in
-    record {
-      inside = omega (arith, there, c.count);
-      means = λ f. ap (renumbered back) (term_of-unbound f new w free) ∙ ap variable k.is ∙ sym (term_of-unbound f old v unbound);
-    }
+    let P : ℕ → Type 0 = λ n. Follows old new back (Variable n) (Variable w) in
+    follows_alike old new back (Variable v) x (Variable w) (λ f. ap (term_of f old) (sym is) ∙ same f) known (subst P k.is (c.follow w k.there))
 
--- what a walk found, and where that stands
-pub walked_variable : {N : Type 0} (old new : Held N) (back variables structures : List ℕ) (v w : ℕ) (found x : Cell N) → AreCopied old new back variables structures → IsWalked old found →
-    found ≡ Variable v → ((f : N → List ℕ) → term_of f old found ≡ term_of f old x) → get_or variables v 0 ≡ suc w → StandsFor old new back x (Variable w)
-walked_variable {N = N} old new back variables structures v w found x c walked is same e =
-    let W : Cell N → Type 0 = λ y. IsWalked old y in
-    let unbound : is_bound v old.bindings ≡ false = subst W is walked in
-    stands_alike old new back (Variable v) x (Variable w) (λ f. ap (term_of f old) (sym is) ∙ same f) (stands_variable old new back variables structures v w c unbound e)
+pub found_structure : {N : Type 0} (old new : Held N) (back variables structures : List ℕ) (s p : ℕ) (found x : Cell N) → AreCopied old new back variables structures → IsIn old x →
+    found ≡ Structure s → ((f : N → List ℕ) → term_of f old found ≡ term_of f old x) → get_or structures s 0 ≡ suc p → Follows old new back x (Structure p)
+found_structure old new back variables structures s p found x c known is same e =
+    follows_alike old new back (Structure s) x (Structure p) (λ f. ap (term_of f old) (sym is) ∙ same f) known (c.stand s p e)
 
-pub walked_structure : {N : Type 0} (old new : Held N) (back variables structures : List ℕ) (s p : ℕ) (found x : Cell N) → AreCopied old new back variables structures →
-    found ≡ Structure s → ((f : N → List ℕ) → term_of f old found ≡ term_of f old x) → get_or structures s 0 ≡ suc p → StandsFor old new back x (Structure p)
-walked_structure old new back variables structures s p found x c is same e =
-    stands_alike old new back (Structure s) x (Structure p) (λ f. ap (term_of f old) (sym is) ∙ same f) (c.stand s p e)
+pub found_integer : {N : Type 0} (old new : Held N) (back : List ℕ) (i : ℤ) (found x : Cell N) → IsIn old x →
+    found ≡ Integer i → ((f : N → List ℕ) → term_of f old found ≡ term_of f old x) → Follows old new back x found
+found_integer {N = N} old new back i found x known is same =
+    let P : Cell N → Type 0 = λ y. Follows old new back x y in
+    subst P (sym is) (record {
+      known = known;
+      inside = tt;
+      means = λ f. ap (substituted (value_of f old back)) (term_of-Integer f new i) ∙ sym (term_of-Integer f old i) ∙ ap (term_of f old) (sym is) ∙ same f;
+    })
 
-pub walked_integer : {N : Type 0} (old new : Held N) (back : List ℕ) (i : ℤ) (found x : Cell N) →
-    found ≡ Integer i → ((f : N → List ℕ) → term_of f old found ≡ term_of f old x) → StandsFor old new back x found
-walked_integer {N = N} old new back i found x is same =
-    let P : Cell N → Type 0 = λ y. StandsFor old new back x y in
-    subst P (sym is) (stands_alike old new back (Integer i) x (Integer i) (λ f. ap (term_of f old) (sym is) ∙ same f) (stands_integer old new back i))
-
-pub walked_atom : {N : Type 0} (old new : Held N) (back : List ℕ) (a : N) (found x : Cell N) →
-    found ≡ Atom a → ((f : N → List ℕ) → term_of f old found ≡ term_of f old x) → StandsFor old new back x found
-walked_atom {N = N} old new back a found x is same =
-    let P : Cell N → Type 0 = λ y. StandsFor old new back x y in
-    subst P (sym is) (stands_alike old new back (Atom a) x (Atom a) (λ f. ap (term_of f old) (sym is) ∙ same f) (stands_atom old new back a))
+pub found_atom : {N : Type 0} (old new : Held N) (back : List ℕ) (a : N) (found x : Cell N) → IsIn old x →
+    found ≡ Atom a → ((f : N → List ℕ) → term_of f old found ≡ term_of f old x) → Follows old new back x found
+found_atom {N = N} old new back a found x known is same =
+    let P : Cell N → Type 0 = λ y. Follows old new back x y in
+    subst P (sym is) (record {
+      known = known;
+      inside = tt;
+      means = λ f. ap (substituted (value_of f old back)) (term_of-Atom f new a) ∙ sym (term_of-Atom f old a) ∙ ap (term_of f old) (sym is) ∙ same f;
+    })
 
 -- ---- several cells
 
@@ -74,22 +66,29 @@ stand_push old new back [] (z ∷ ys) x y h s = absurd h
 stand_push old new back (z ∷ xs) [] x y h s = absurd h
 stand_push old new back (a ∷ xs) (b ∷ ys) x y h s = (h.0, stand_push old new back xs ys x y h.1 s)
 
--- the cells that stand for others are of the copy
-pub stand_inside : {N : Type 0} (old new : Held N) (back : List ℕ) (xs ys : List (Cell N)) → StandEach old new back xs ys → AreIn new ys
-stand_inside old new back [] [] h = tt
-stand_inside old new back [] (y ∷ ys) h = absurd h
-stand_inside old new back (x ∷ xs) [] h = absurd h
-stand_inside old new back (x ∷ xs) (y ∷ ys) h = (h.0.inside, stand_inside old new back xs ys h.1)
+follow_push : {N : Type 0} (old new : Held N) (back : List ℕ) (xs ys : List (Cell N)) (x y : Cell N) →
+    FollowEach old new back xs ys → Follows old new back x y → FollowEach old new back (xs ++ x ∷ []) (ys ++ y ∷ [])
+follow_push old new back [] [] x y h s = (s, tt)
+follow_push old new back [] (z ∷ ys) x y h s = absurd h
+follow_push old new back (z ∷ xs) [] x y h s = absurd h
+follow_push old new back (a ∷ xs) (b ∷ ys) x y h s = (h.0, follow_push old new back xs ys x y h.1 s)
+
+-- the cells that follow others are of the copy
+pub follow_inside : {N : Type 0} (old new : Held N) (back : List ℕ) (xs ys : List (Cell N)) → FollowEach old new back xs ys → AreIn new ys
+follow_inside old new back [] [] h = tt
+follow_inside old new back [] (y ∷ ys) h = absurd h
+follow_inside old new back (x ∷ xs) [] h = absurd h
+follow_inside old new back (x ∷ xs) (y ∷ ys) h = (h.0.inside, follow_inside old new back xs ys h.1)
 
 -- they mean the same, side by side
-each_means : {N : Type 0} (old new : Held N) (back : List ℕ) (f : N → List ℕ) (xs ys : List (Cell N)) → StandEach old new back xs ys →
-    each_substituted (λ w. variable (numbered back w)) (terms_of f new ys) ≡ terms_of f old xs
+each_means : {N : Type 0} (old new : Held N) (back : List ℕ) (f : N → List ℕ) (xs ys : List (Cell N)) → FollowEach old new back xs ys →
+    each_substituted (value_of f old back) (terms_of f new ys) ≡ terms_of f old xs
 unfolding terms_of
 each_means old new back f [] [] h = refl
 each_means old new back f [] (y ∷ ys) h = absurd h
 each_means old new back f (x ∷ xs) [] h = absurd h
 each_means old new back f (x ∷ xs) (y ∷ ys) h =
-    ap (λ t. more t (each_substituted (λ w. variable (numbered back w)) (terms_of f new ys))) (h.0.means f)
+    ap (λ t. more t (each_substituted (value_of f old back) (terms_of f new ys))) (h.0.means f)
     ∙ ap (more (term_of f old x)) (each_means old new back f xs ys h.1)
 
 -- ---- an argument more
@@ -108,78 +107,79 @@ stand_next {N = N} old new back xs ys zs i x y e h s z =
     let n : suc i ≡ i + 1 = omega arith in
     subst R (sym z) (subst Q n (subst P (sym (one_taken xs i x e)) (stand_push old new back (take i xs) ys x y h s)))
 
+pub follow_next : {N : Type 0} (old new : Held N) (back : List ℕ) (xs ys zs : List (Cell N)) (i : ℕ) (x y : Cell N) →
+    slice_get xs i ≡ Some x → FollowEach old new back (take i xs) ys → Follows old new back x y → zs ≡ ys ++ y ∷ [] → FollowEach old new back (take (i + 1) xs) zs
+follow_next {N = N} old new back xs ys zs i x y e h s z =
+    let P : List (Cell N) → Type 0 = λ l. FollowEach old new back l (ys ++ y ∷ []) in
+    let Q : ℕ → Type 0 = λ n. FollowEach old new back (take n xs) (ys ++ y ∷ []) in
+    let R : List (Cell N) → Type 0 = λ l. FollowEach old new back (take (i + 1) xs) l in
+    let n : suc i ≡ i + 1 = omega arith in
+    subst R (sym z) (subst Q n (subst P (sym (one_taken xs i x e)) (follow_push old new back (take i xs) ys x y h s)))
+
 -- ---- a structure more
 
 at_end : {X : Type 0} (xs : List X) (x : X) → slice_get (xs ++ x ∷ []) (length xs) ≡ Some x
 at_end [] x = refl
 at_end (y ∷ xs) x = at_end xs x
 
--- beside one structure more a cell stands for what it stood for
-still_stands : {N : Type 0} (old new : Held N) (back : List ℕ) (name : N) (arguments : List (Cell N)) (x y : Cell N) → IsFormed new →
-    StandsFor old new back x y → StandsFor old (with_structure new name arguments) back x y
-still_stands {N = N} old new back name arguments x y formed s =
-    let shape : Shape N = record { name = name; arguments = arguments } in
-    record {
-      inside = IsWithin-more new.variables (length new.structures) new.variables (length (new.structures ++ shape ∷ [])) y (omega arith) (omega (arith, length-append new.structures (shape ∷ []))) s.inside;
-      means = λ f. ap (renumbered back) (term_of-structure f new name arguments y formed s.inside) ∙ s.means f;
-    }
-
 still_each : {N : Type 0} (old new : Held N) (back : List ℕ) (name : N) (arguments : List (Cell N)) (xs ys : List (Cell N)) → IsFormed new →
-    StandEach old new back xs ys → StandEach old (with_structure new name arguments) back xs ys
+    FollowEach old new back xs ys → FollowEach old (with_structure new name arguments) back xs ys
 still_each old new back name arguments [] [] formed h = tt
 still_each old new back name arguments [] (y ∷ ys) formed h = absurd h
 still_each old new back name arguments (x ∷ xs) [] formed h = absurd h
 still_each old new back name arguments (x ∷ xs) (y ∷ ys) formed h =
-    (still_stands old new back name arguments x y formed h.0, still_each old new back name arguments xs ys formed h.1)
+    (follows_structure old new back name arguments x y formed h.0, still_each old new back name arguments xs ys formed h.1)
 
--- a structure of what stands for its arguments stands for it
-new_stands : {N : Type 0} (old new : Held N) (back : List ℕ) (s : ℕ) (name : N) (row : List (Cell N)) → IsFormed old → IsFormed new →
-    slice_get old.structures s ≡ Some (record { name = name; arguments = arguments_of old s }) → StandEach old new back (arguments_of old s) row →
-    StandsFor old (with_structure new name row) back (Structure s) (Structure (length new.structures))
-new_stands {N = N} old new back s name row formed_old formed at h =
+-- a structure of what follows its arguments follows it
+new_follows_structure : {N : Type 0} (old new : Held N) (back : List ℕ) (s : ℕ) (name : N) (row : List (Cell N)) → IsFormed old → IsFormed new → s < length old.structures →
+    slice_get old.structures s ≡ Some (record { name = name; arguments = arguments_of old s }) → FollowEach old new back (arguments_of old s) row →
+    Follows old (with_structure new name row) back (Structure s) (Structure (length new.structures))
+new_follows_structure {N = N} old new back s name row formed_old formed known at h =
     let shape : Shape N = record { name = name; arguments = row } in
     let next : Held N = with_structure new name row in
     let p = length new.structures in
-    let formed_next : IsFormed next = IsFormed-structure new name row formed (stand_inside old new back (arguments_of old s) row h) in
+    let formed_next : IsFormed next = IsFormed-structure new name row formed (follow_inside old new back (arguments_of old s) row h) in
     let there : slice_get next.structures p ≡ Some shape = at_end new.structures shape in
     let row_is : arguments_of next p ≡ row = ap shape_arguments there in
     let is : slice_get next.structures p ≡ Some (record { name = name; arguments = arguments_of next p }) = there ∙ ap (λ l. Some (record { name = name; arguments = l })) (sym row_is) in
     let each = still_each old new back name row (arguments_of old s) row formed h in
     record {
+      known = known;
       inside = omega (arith, length-append new.structures (shape ∷ []));
       means = λ f.
-          ap (renumbered back) (term_of-Structure f next p name formed_next is ∙ ap (λ l. structure (f name) (terms_of f next l)) row_is)
+          ap (substituted (value_of f old back)) (term_of-Structure f next p name formed_next is ∙ ap (λ l. structure (f name) (terms_of f next l)) row_is)
           ∙ ap (structure (f name)) (each_means old next back f (arguments_of old s) row each)
           ∙ sym (term_of-Structure f old s name formed_old at);
     }
 
 -- the copy of a structure is noted, and all else is as it was
 pub copied_next : {N : Type 0} (old new after : Held N) (back variables structures noted : List ℕ) (s n : ℕ) (name : N) (row : List (Cell N)) →
-    AreCopied old new back variables structures → IsFormed old →
-    slice_get old.structures s ≡ Some (record { name = name; arguments = arguments_of old s }) → StandEach old new back (arguments_of old s) row →
+    AreCopied old new back variables structures → IsFormed old → s < length old.structures →
+    slice_get old.structures s ≡ Some (record { name = name; arguments = arguments_of old s }) → FollowEach old new back (arguments_of old s) row →
     s < length structures → after ≡ with_structure new name row → n ≡ length new.structures → noted ≡ set structures s (n + 1) →
     AreCopied old after back variables noted
-copied_next {N = N} old new after back variables structures noted s n name row c formed_old at h lt grown is set_at =
+copied_next {N = N} old new after back variables structures noted s n name row c formed_old known at h lt grown is set_at =
     let P : Held N → Type 0 = λ k. AreCopied old k back variables noted in
     subst P (sym grown) (record {
-      formed = IsFormed-structure new name row c.formed (stand_inside old new back (arguments_of old s) row h);
-      bare = c.bare;
+      formed = IsFormed-structure new name row c.formed (follow_inside old new back (arguments_of old s) row h);
       count = c.count;
       rising = c.rising;
+      few = c.few;
       numbers = c.numbers;
       placed = c.placed;
-      stand = λ t p e. stands t p (cases_eq t s) (ap (λ l. get_or l t 0) (sym set_at) ∙ e);
+      follow = λ w there. follows_structure old new back name row (Variable (numbered back w)) (Variable w) c.formed (c.follow w there);
+      stand = λ t p e. stand t p (cases_eq t s) (ap (λ l. get_or l t 0) (sym set_at) ∙ e);
     })
   where
-    stands : (t p : ℕ) → (t ≡ s) ⊎ (t ≡ s → ⊥) → get_or (set structures s (n + 1)) t 0 ≡ suc p → StandsFor old (with_structure new name row) back (Structure t) (Structure p)
-    stands t p (inl same) e =
+    stand : (t p : ℕ) → (t ≡ s) ⊎ (t ≡ s → ⊥) → get_or (set structures s (n + 1)) t 0 ≡ suc p → Follows old (with_structure new name row) back (Structure t) (Structure p)
+    stand t p (inl same) e =
         let q : suc p ≡ n + 1 = sym e ∙ ap (λ k. get_or (set structures s (n + 1)) k 0) same ∙ get_or-set_same structures s (n + 1) 0 lt in
         let place : length new.structures ≡ p = omega (arith, q, is) in
-        let A : ℕ → Type 0 = λ k. StandsFor old (with_structure new name row) back (Structure s) (Structure k) in
-        let B : ℕ → Type 0 = λ k. StandsFor old (with_structure new name row) back (Structure k) (Structure p) in
-        subst B (sym same) (subst A place (new_stands old new back s name row formed_old c.formed at h))
-    stands t p (inr other) e =
-        still_stands old new back name row (Structure t) (Structure p) c.formed (c.stand t p (sym (get_or-set_other structures s t (n + 1) 0 other) ∙ e))
+        let A : ℕ → Type 0 = λ k. Follows old (with_structure new name row) back (Structure s) (Structure k) in
+        let B : ℕ → Type 0 = λ k. Follows old (with_structure new name row) back (Structure k) (Structure p) in
+        subst B (sym same) (subst A place (new_follows_structure old new back s name row formed_old c.formed known at h))
+    stand t p (inr other) e =
+        follows_structure old new back name row (Structure t) (Structure p) c.formed (c.stand t p (sym (get_or-set_other structures s t (n + 1) 0 other) ∙ e))
 
 -- ---- a variable more
 
@@ -187,24 +187,25 @@ inside_or_last : (n i : ℕ) → i < n + 1 → (i < n) ⊎ (i ≡ n)
 inside_or_last n i lt = grind arith
 
 -- a variable is one that was copied, or the last
-either : (back : List ℕ) (v w : ℕ) → w < length (back ++ v ∷ []) → (w < length back) ⊎ (w ≡ length back)
+pub either : (back : List ℕ) (v w : ℕ) → w < length (back ++ v ∷ []) → (w < length back) ⊎ (w ≡ length back)
 either back v w lt = inside_or_last (length back) w (omega (arith, lt, length-append back (v ∷ [])))
 
 -- a variable is noted that lies above those that were
 pub copied_variable : {N : Type 0} (old new next : Held N) (back variables structures longer noted : List ℕ) (v n : ℕ) →
-    AreCopied old new back variables structures → HasNone structures → after 0 back ≤ v → v < length variables →
+    AreCopied old new back variables structures → after 0 back ≤ v → v < old.variables → v < length variables →
     next ≡ with_variable new → n ≡ new.variables → longer ≡ back ++ v ∷ [] → noted ≡ set variables v (n + 1) → AreCopied old next longer noted structures
-copied_variable {N = N} old new next back variables structures longer noted v n c bare above lt grown is pushed set_at =
+copied_variable {N = N} old new next back variables structures longer noted v n c above within lt grown is pushed set_at =
     let P : Held N → Type 0 = λ k. AreCopied old k longer noted structures in
     let Q : List ℕ → Type 0 = λ l. AreCopied old (with_variable new) l noted structures in
     subst P (sym grown) (subst Q (sym pushed) (record {
       formed = IsFormed-variable new c.formed;
-      bare = c.bare;
       count = omega (arith, c.count, length-append back (v ∷ []));
       rising = rising_push 0 back v c.rising above;
+      few = omega (arith, after_push 0 back v, within);
       numbers = λ u w e. number u w (cases_eq u v) (ap (λ l. get_or l u 0) (sym set_at) ∙ e);
       placed = λ w there. ap (λ l. get_or l (numbered (back ++ v ∷ []) w) 0) set_at ∙ place w (either back v w there);
-      stand = λ s p e. absurd (bare s p e);
+      follow = λ w there. follow w (either back v w there);
+      stand = λ s p e. follows_variable old new back v (Structure s) (Structure p) c.formed c.count (c.stand s p e);
     }))
   where
     number : (u w : ℕ) → (u ≡ v) ⊎ (u ≡ v → ⊥) → get_or (set variables v (n + 1)) u 0 ≡ suc w → IsNumber (back ++ v ∷ []) u w
@@ -226,40 +227,14 @@ copied_variable {N = N} old new next back variables structures longer noted v n 
         let count : n + 1 ≡ suc w = omega (arith, last, is, c.count) in
         ap (λ k. get_or (set variables v (n + 1)) k 0) (last_pushed 0 back v w last) ∙ get_or-set_same variables v (n + 1) 0 lt ∙ count
 
--- ---- the beginning
-
--- of nothing nothing was copied
-pub copied_none : {N : Type 0} (old new : Held N) (back variables structures : List ℕ) → new ≡ nothing_held → back ≡ [] → HasNone variables → HasNone structures →
-    AreCopied old new back variables structures
-copied_none {N = N} old new back variables structures empty nothing no_variable no_structure =
-    let P : Held N → Type 0 = λ k. AreCopied old k back variables structures in
-    let Q : List ℕ → Type 0 = λ l. AreCopied old nothing_held l variables structures in
-    subst P (sym empty) (subst Q (sym nothing) (record {
-      formed = record { built = tt; bound = tt };
-      bare = refl;
-      count = refl;
-      rising = tt;
-      numbers = λ v w e. absurd (no_variable v w e);
-      placed = λ w lt. absurd (omega (arith, lt));
-      stand = λ s p e. absurd (no_structure s p e);
-    }))
-
--- zeros note nothing
-zeros : (n : ℕ) → HasNone (replicate n 0)
-zeros zero i p e = absurd (omega (arith, e))
-zeros (suc n) zero p e = absurd (omega (arith, e))
-zeros (suc n) (suc i) p e = zeros n i p e
-
--- a list that was filled with 0 has noted nothing
-pub filled_none : (xs : List ℕ) (n k : ℕ) → xs ≡ [] → k ≡ 0 → HasNone (take n xs ++ replicate (n - k) 0)
-filled_none [] zero k e z = zeros (zero - k)
-filled_none [] (suc n) k e z = zeros (suc n - k)
-filled_none (y ∷ xs) n k e z = absurd (cc)
-
-pub filled_length : (xs : List ℕ) (n k : ℕ) → xs ≡ [] → k ≡ 0 → length (take n xs ++ replicate (n - k) 0) ≡ n
-filled_length [] zero k e z = length-replicate (zero - k) 0 ∙ omega arith
-filled_length [] (suc n) k e z = length-replicate (suc n - k) 0 ∙ omega (arith, z)
-filled_length (y ∷ xs) n k e z = absurd (cc)
+    follow : (w : ℕ) → (w < length back) ⊎ (w ≡ length back) → Follows old (with_variable new) (back ++ v ∷ []) (Variable (numbered (back ++ v ∷ []) w)) (Variable w)
+    follow w (inl there) =
+        let A : ℕ → Type 0 = λ k. Follows old (with_variable new) (back ++ v ∷ []) (Variable k) (Variable w) in
+        subst A (sym (before_push 0 back v w there)) (follows_variable old new back v (Variable (numbered back w)) (Variable w) c.formed c.count (c.follow w there))
+    follow w (inr last) =
+        let A : ℕ → Type 0 = λ k. Follows old (with_variable new) (back ++ v ∷ []) (Variable k) (Variable w) in
+        let B : ℕ → Type 0 = λ k. Follows old (with_variable new) (back ++ v ∷ []) (Variable v) (Variable k) in
+        subst A (sym (last_pushed 0 back v w last)) (subst B (sym last) (new_follows old new back v c.formed c.count within))
 
 -- ---- cells one after another
 

@@ -1,5 +1,9 @@
 pub mod Rising
+pub mod Following
 pub mod Copying
+pub mod Tables
+pub mod Catching
+pub mod Halves
 pub mod Placing
 pub mod Hanging
 pub mod Own

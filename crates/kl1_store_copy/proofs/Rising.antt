@@ -1,7 +1,7 @@
 -- Numbers that rise, and how they go on.
-use Rattle.std.proofs.Common.{◌≡◌, ℕ, zero, suc, ◌+◌, ◌<◌, ◌≤◌, List, [], ◌∷◌, ◌++◌, length, map, get_or, refl, sym, ap, ◌∙◌, ◌⊎◌, inl, inr, arith, length-append}
+use Rattle.std.proofs.Common.{◌≡◌, ℕ, zero, suc, ◌+◌, ◌-◌, ◌<◌, ◌≤◌, List, [], ◌∷◌, ◌++◌, length, map, get_or, refl, sym, ap, ◌∙◌, ◌⊎◌, inl, inr, arith, length-append}
 use Rattle.kl1_store_copy.specs.Numbers.{after, AreRising, number_from, numbered}
-use Rattle.kl1_store_copy.specs.Copies.{HasEnds, AreUpTo}
+use Rattle.kl1_store_copy.specs.Copies.{HasEnds, IsGone}
 
 -- the numbers that were there stay beside one more
 pub before_push : (next : ℕ) (back : List ℕ) (v w : ℕ) → w < length back → number_from next (back ++ v ∷ []) w ≡ number_from next back w
@@ -105,10 +105,9 @@ is_there next (x ∷ back) (suc w) d lt = is_there (suc x) back w d (omega arith
 
 -- ---- variables gone over
 
--- none as yet
-pub upto_none : (count : ℕ) (back : List ℕ) → back ≡ [] → AreUpTo 0 count back
-upto_none count [] e = record { below = omega arith; first = λ lt. absurd (omega (arith, lt)); last = λ e. e }
-upto_none count (v ∷ back) e = absurd (cc)
+some : (v : ℕ) → (v ≡ 0 → ⊥) → 0 < v
+some zero not = absurd (not refl)
+some (suc v) not = omega arith
 
 first_pushed : (back : List ℕ) (v : ℕ) → AreRising 0 back → after 0 back ≤ v → (0 < v → (0 < length back) × (numbered back 0 ≡ 0)) → numbered (back ++ v ∷ []) 0 ≡ 0
 first_pushed [] zero h le known = refl
@@ -116,31 +115,27 @@ first_pushed [] (suc v) h le known = absurd (omega (arith, (known (omega arith))
 first_pushed (x ∷ back) zero h le known = absurd (omega (arith, after_least (suc x) back h.1, le))
 first_pushed (x ∷ back) (suc v) h le known = (known (omega arith)).1
 
+-- none as yet
+pub none_gone : (back : List ℕ) → back ≡ [] → IsGone 0 back
+none_gone [] e = record { below = omega arith; first = λ lt. absurd (omega (arith, lt)) }
+none_gone (v ∷ back) e = absurd (cc)
+
 -- a variable more, which was copied
-pub upto_push : (variable count : ℕ) (back : List ℕ) → AreRising 0 back → AreUpTo variable count back → AreUpTo (variable + 1) count (back ++ variable ∷ [])
-upto_push variable count back h u = record {
+pub gone_push : (variable : ℕ) (back : List ℕ) → AreRising 0 back → IsGone variable back → IsGone (variable + 1) (back ++ variable ∷ [])
+gone_push variable back h u = record {
   below = omega (arith, after_push 0 back variable);
   first = λ _. (omega (arith, length-append back (variable ∷ [])), first_pushed back variable h u.below u.first);
-  last = λ e. after_push 0 back variable ∙ omega (arith, e);
 }
 
--- a variable more, which wasn't, as it is neither the first nor the last
-pub upto_skip : (variable count : ℕ) (back : List ℕ) → (variable ≡ 0 → ⊥) → (variable + 1 ≡ count → ⊥) → AreUpTo variable count back → AreUpTo (variable + 1) count back
-upto_skip variable count back other not_last u = record {
-  below = omega (arith, u.below);
-  first = λ _. u.first (some variable other);
-  last = λ e. absurd (not_last e);
-}
-  where
-    some : (v : ℕ) → (v ≡ 0 → ⊥) → 0 < v
-    some zero not = absurd (not refl)
-    some (suc v) not = omega arith
+-- a variable more, which wasn't and isn't the first
+pub gone_skip : (variable : ℕ) (back : List ℕ) → (variable ≡ 0 → ⊥) → IsGone variable back → IsGone (variable + 1) back
+gone_skip variable back other u = record { below = omega (arith, u.below); first = λ _. u.first (some variable other) }
 
--- all were gone over
-pub upto_all : (count : ℕ) (back : List ℕ) → AreRising 0 back → AreUpTo count count back → HasEnds count back
-upto_all zero back h u = record { first = none back h (u.last refl); last = u.last refl }
-  where
-    none : (l : List ℕ) → AreRising 0 l → after 0 l ≡ 0 → numbered l 0 ≡ 0
-    none [] r e = refl
-    none (x ∷ l) r e = absurd (omega (arith, after_least (suc x) l r.1, e))
-upto_all (suc n) back h u = record { first = (u.first (omega arith)).1; last = u.last refl }
+-- the last variable more
+pub ends_push : (variable count : ℕ) (back : List ℕ) → AreRising 0 back → suc variable ≡ count → IsGone variable back → HasEnds count (back ++ variable ∷ [])
+ends_push variable count back h last u = record { first = first_pushed back variable h u.below u.first; last = after_push 0 back variable ∙ last }
+
+-- of no variables there is no last one
+pub ends_none : (count : ℕ) (back : List ℕ) → AreRising 0 back → count ≡ 0 → IsGone (count - 1) back → HasEnds count back
+ends_none count [] h none u = record { first = refl; last = sym none }
+ends_none count (x ∷ back) h none u = absurd (omega (arith, after_least (suc x) back h.1, u.below, none))

@@ -1,23 +1,21 @@
 // A copy of a part of a store.
 
+mod binding;
 mod hanging;
+mod room;
 mod structures;
 mod variables;
 
-ghost use Rattle.std.specs.Prelude.{◌≡◌, [], suc, get_or, IfOk, IfSome, IsTrue, MatchOption};
+ghost use Rattle.std.specs.Prelude.{◌≡◌, suc, get_or, IfSome, IsTrue, MatchOption};
 ghost use Rattle.kl1_store.specs.Held.{IsIn, AreIn};
-ghost use Rattle.kl1_store_copy.specs.Copies.{StandsFor, StandEach, IsSoFar, IsCopyOf};
+ghost use Rattle.kl1_store_copy.specs.Copies.{Follows, StandEach, IsSoFar, IsCopyOf};
 
-use crate::survey::Survey;
 use kl1_store::{Cell, Store};
 use kl1_text::NameValue;
-use std::alloc::{AllocError, Global};
 
-/// How many variables, structures and bindings a copy has room for beyond twice the structures in it, if the store holds as many.
-const LEAST: usize = 65_536;
-
-/// The copy of what was found of a store, in which no variable is bound; for each of its variables the number in the store (`back`); and
-/// for each variable and each structure of the store its number in the copy, counted from 1, or 0 if it isn't there.
+/// The copy of what was found of a store: for each of its variables the number in the store (`back`); and for each variable and each
+/// structure of the store its number in the copy, counted from 1, or 0 if it isn't there. No variable of it is bound but those that the
+/// store has bound since the copy was begun.
 ///
 /// The store's first variable and its last are always there, whether something reaches them or not: so the next variable of the copy is
 /// the next one of the store.
@@ -25,30 +23,17 @@ const LEAST: usize = 65_536;
 pub struct Copied<N: NameValue> {
     pub store: Store<N>,
     pub back: Vec<u32>,
-    variables: Vec<u32>,
-    structures: Vec<u32>,
+    pub(crate) variables: Vec<u32>,
+    pub(crate) structures: Vec<u32>,
 }
 
 impl<N: NameValue> Copied<N> {
-    /// Copies what was found of a store. If more is needed than was found, or it was found in another order, nothing comes of it.
-    pub fn of(alloc: Global, old: &Store<N>, survey: Survey) -> Result<Option<Self>, AllocError>
-        ensures { IfOk result (λ found. IfSome found (λ copied. IsCopyOf old.now.held copied × (copied.store.hooks ≡ []))) }
-    {
-        let mut copied = Copied::blank(alloc, old, survey.order.len())?;
-        copied.put_variables(old, &survey.variables)?;
-        if !copied.put_structures(alloc, old, &survey.order)? {
-            return Ok(None);
-        }
-        copied.keep_fingers(old);
-        Ok(Some(copied))
-    }
-
     /// Where a cell of the store stands in the copy; `None` if it isn't there.
     #[inline]
     pub fn moved(&self, old: &Store<N>, cell: Cell<N>) -> Option<Cell<N>>
         requires copy { IsSoFar old.now.held self.now }
         requires inside { IsIn old.now.held cell }
-        ensures { IfSome result (StandsFor old.now.held self.now.store.held self.now.back.items cell) }
+        ensures { IfSome result (Follows old.now.held self.now.store.held self.now.back.items cell) }
     {
         let walked = old.walk(cell);
         match walked {
@@ -59,15 +44,35 @@ impl<N: NameValue> Copied<N> {
             Cell::Integer(_) => Some(walked),
             Cell::Atom(_) => Some(walked),
             Cell::Structure(structure) => match place_in(&self.structures, structure) {
-                None => None,
+                None => self.on_the_way(old, cell),
                 Some(place) => Some(Cell::Structure(place)),
             },
         }
     }
 
+    /// The first variable that was copied of those that a cell stands for one after another, if what it stands for in the end came since
+    /// the copy was begun.
+    fn on_the_way(&self, old: &Store<N>, cell: Cell<N>) -> Option<Cell<N>>
+        requires copy { IsSoFar old.now.held self.now }
+        requires inside { IsIn old.now.held cell }
+        ensures { IfSome result (Follows old.now.held self.now.store.held self.now.back.items cell) }
+    {
+        let mut at = cell;
+        while let Cell::Variable(variable) = at {
+            if let Some(place) = place_in(&self.variables, variable) {
+                return Some(Cell::Variable(place));
+            }
+            let Some(next) = old.value(variable) else {
+                return None;
+            };
+            at = next;
+        }
+        None
+    }
+
     /// Puts where each of some cells stands in the copy in its place. If one isn't there, it says so.
     pub fn move_each(&self, old: &Store<N>, cells: &mut Vec<Cell<N>>) -> bool
-        requires copy { IsSoFar old.now.held self.now }
+        requires copy { IsCopyOf old.now.held self.now }
         requires inside { AreIn old.now.held cells.old.items }
         ensures { IsTrue result → StandEach old.now.held self.now.store.held self.now.back.items cells.old.items cells.new.items }
     {

@@ -20,7 +20,7 @@ struct Visit {
 ///
 /// No clause says so: who copies looks whether all that is needed was found in such an order, and gives up if it wasn't.
 #[derive(Drop)]
-pub struct Survey {
+pub(crate) struct Survey {
     pub(crate) variables: Vec<bool>,
     structures: Vec<bool>,
     pub(crate) order: Vec<u32>,
@@ -28,23 +28,52 @@ pub struct Survey {
 }
 
 impl Survey {
-    /// Nothing was found as yet of a store, with a place for all that it holds.
-    pub fn new<N: NameValue>(alloc: Global, store: &Store<N>) -> Result<Self, AllocError> {
-        let sizes = store.mark().sizes;
-        let mut variables = Vec::new(alloc);
-        variables.resize(sizes.variables as usize, false)?;
-        let mut structures = Vec::new(alloc);
-        structures.resize(sizes.structures as usize, false)?;
+    /// Nothing was found as yet. Memory comes for so many variables and structures, and a place for none.
+    pub(crate) fn new(
+        alloc: Global,
+        variables: usize,
+        structures: usize,
+    ) -> Result<Self, AllocError> {
         Ok(Survey {
-            variables,
-            structures,
+            variables: Vec::with_capacity(alloc, variables)?,
+            structures: Vec::with_capacity(alloc, structures)?,
             order: Vec::new(alloc),
             stack: Vec::new(alloc),
         })
     }
 
+    /// Makes places for so many variables and structures, at most `most` more of each; whether all have one.
+    pub(crate) fn cover(
+        &mut self,
+        variables: usize,
+        structures: usize,
+        most: usize,
+    ) -> Result<bool, AllocError> {
+        let all = cover(&mut self.variables, variables, most)?;
+        Ok(cover(&mut self.structures, structures, most)? && all)
+    }
+
+    /// Finds all that is reached from a cell.
+    pub(crate) fn reach<N: NameValue>(
+        &mut self,
+        store: &Store<N>,
+        cell: Cell<N>,
+    ) -> Result<(), AllocError>
+        requires { IsIn store.now.held cell }
+    {
+        self.find(store, cell)?;
+        // Each structure is left once, and each argument is looked at once.
+        for _step in 0..usize::MAX {
+            if self.is_done() {
+                return Ok(());
+            }
+            self.step(store)?;
+        }
+        Ok(())
+    }
+
     /// Finds all that is reached from some cells.
-    pub fn reach_each<N: NameValue>(
+    pub(crate) fn reach_each<N: NameValue>(
         &mut self,
         store: &Store<N>,
         cells: &[Cell<N>],
@@ -59,32 +88,32 @@ impl Survey {
         Ok(())
     }
 
-    /// Finds all that is reached from a cell.
-    pub fn reach<N: NameValue>(&mut self, store: &Store<N>, cell: Cell<N>) -> Result<(), AllocError>
-        requires { IsIn store.now.held cell }
-    {
-        self.find(store, cell)?;
-        let arguments = store.arguments();
-        // Each structure is left once, and each argument is looked at once: the stack is empty before the count runs out.
-        let most = self.structures.len().saturating_add(arguments);
-        for _step in 0..most {
-            let Some(last) = self.stack.len().checked_sub(1) else {
-                return Ok(());
-            };
-            let visit = self.stack[last];
-            if visit.next < visit.end && (visit.next as usize) < arguments {
-                self.stack[last].next = visit.next + 1;
-                self.find(store, store.argument_at(visit.next))?;
-            } else {
-                self.order.push(visit.structure)?;
-                self.stack.truncate(last);
-            }
+    /// Whether all that is reached from what was found was found.
+    pub(crate) fn is_done(&self) -> bool {
+        self.stack.is_empty()
+    }
+
+    /// Looks at one argument of the last structure that was found, or leaves it after its last.
+    pub(crate) fn step<N: NameValue>(&mut self, store: &Store<N>) -> Result<(), AllocError> {
+        let Some(last) = self.stack.len().checked_sub(1) else {
+            return Ok(());
+        };
+        let visit = self.stack[last];
+        if visit.next < visit.end && (visit.next as usize) < store.arguments() {
+            self.stack[last].next = visit.next + 1;
+            return self.find(store, store.argument_at(visit.next));
         }
+        self.order.push(visit.structure)?;
+        self.stack.truncate(last);
         Ok(())
     }
 
     /// Finds what a cell stands for. A structure that wasn't found before is put on the stack.
-    fn find<N: NameValue>(&mut self, store: &Store<N>, cell: Cell<N>) -> Result<(), AllocError>
+    pub(crate) fn find<N: NameValue>(
+        &mut self,
+        store: &Store<N>,
+        cell: Cell<N>,
+    ) -> Result<(), AllocError>
         requires { IsIn store.now.held cell }
     {
         match store.walk(cell) {
@@ -122,4 +151,13 @@ impl Survey {
         })?;
         Ok(())
     }
+}
+
+/// Makes a list of marks as long as it is to be, by at most `most` marks more, none of which is set; whether it is.
+fn cover(marks: &mut Vec<bool>, count: usize, most: usize) -> Result<bool, AllocError> {
+    let next = marks.len().saturating_add(most).min(count);
+    if next > marks.len() {
+        marks.resize(next, false)?;
+    }
+    Ok(marks.len() >= count)
 }

@@ -31,6 +31,7 @@ use kl1_goals_moves::Trial;
 use kl1_machine::Machine;
 use kl1_match::Scratch;
 use kl1_store::Qualified;
+use kl1_store_copy::HalfCopy;
 use kl1_text::{AtomText, CellName};
 use kl1_user_effects::PathScan;
 use kl1_user_events::{ClauseNo, GoalNo};
@@ -39,7 +40,7 @@ use std::marker::Model;
 
 /// One account, whose names are numbers of a table of names and whose modules refer to codes in a source of codes: its cells,
 /// goals, shoens, modules and names, and the numbers by which its variables are known; and how many bytes its cells take when what nothing
-/// reaches is looked for.
+/// reaches is looked for, and the copy of the rest, if one is being made.
 #[derive(Drop)]
 pub struct Account<C: CodeSource> {
     name: AccountName,
@@ -50,6 +51,7 @@ pub struct Account<C: CodeSource> {
     run: u32,
     sessions: u64,
     due: u64,
+    half: Option<HalfCopy<CellName>>,
     trial: Trial<CellName>,
     scan: PathScan,
     cells: Vec<Qualified<CellName>>,

@@ -2,13 +2,14 @@
 
 ghost use Rattle.std.specs.Prelude.{◌≡◌, ◌+◌, ◌<◌, length, take, IfOk, IfSome, OnOk};
 ghost use Rattle.kl1_store_copy.specs.Copies.{IsCopyOf};
+ghost use Rattle.kl1_store_copy.specs.Halves.{IsHalf};
 ghost use Rattle.kl1_machine.specs.Collecting.{IsCopyFor, IsCollected, HangsForEach};
 ghost use Rattle.kl1_machine.specs.Machines.{IsMachine};
 
 use crate::machine::Machine;
 use kl1_goals::GoalTable;
 use kl1_store::{Cell, Store};
-use kl1_store_copy::{Copied, Survey};
+use kl1_store_copy::{Copied, HalfCopy};
 use kl1_text::CellName;
 use std::alloc::{AllocError, Global};
 
@@ -23,19 +24,44 @@ pub struct MachineCopy {
 }
 
 impl Machine {
-    /// A copy of what the goals and the shoens reach; `None` if the search left something out.
+    /// A copy of what the goals and the shoens reach, made at once; `None` if the search left something out.
     pub fn copied(&self, alloc: Global) -> Result<Option<MachineCopy>, AllocError>
         requires { IsMachine self.now }
         ensures { IfOk result (λ found. IfSome found (IsCopyFor self.now)) }
     {
+        let half = HalfCopy::begin(alloc, &self.store, Vec::new(alloc))?;
+        self.finish_copy(alloc, half)
+    }
+
+    /// Begins a copy of what the goals and the shoens reach, to be made in slices between events.
+    pub fn begin_copy(&self, alloc: Global) -> Result<HalfCopy<CellName>, AllocError>
+        requires { IsMachine self.now }
+        ensures { IfOk result (IsHalf self.now.store.held) }
+    {
+        let mut roots = Vec::new(alloc);
+        self.goals.add_cells(&mut roots)?;
+        self.shoens.add_cells(&mut roots)?;
+        HalfCopy::begin(alloc, &self.store, roots)
+    }
+
+    /// Finishes a copy of what the goals and the shoens reach now; `None` if the search left something out.
+    pub fn finish_copy(
+        &self,
+        alloc: Global,
+        begun: HalfCopy<CellName>,
+    ) -> Result<Option<MachineCopy>, AllocError>
+        requires machine { IsMachine self.now }
+        requires half { IsHalf self.now.store.held begun }
+        ensures { IfOk result (λ found. IfSome found (IsCopyFor self.now)) }
+    {
+        let mut half = begun;
         let mut goals = Vec::new(alloc);
         self.goals.add_cells(&mut goals)?;
         let mut shoens = Vec::new(alloc);
         self.shoens.add_cells(&mut shoens)?;
-        let mut survey = Survey::new(alloc, &self.store)?;
-        survey.reach_each(&self.store, &goals)?;
-        survey.reach_each(&self.store, &shoens)?;
-        let Some(mut copied) = Copied::of(alloc, &self.store, survey)? else {
+        half.reach_each(&self.store, &goals)?;
+        half.reach_each(&self.store, &shoens)?;
+        let Some(mut copied) = half.finish(alloc, &self.store)? else {
             return Ok(None);
         };
         if !copied.move_each(&self.store, &mut goals) {

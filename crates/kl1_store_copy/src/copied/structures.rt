@@ -1,9 +1,9 @@
 // The structures of a copy, and its places in lists.
 
-ghost use Rattle.std.specs.Prelude.{◌≡◌, ◌<◌, true, length, IfOk, OnOk};
+ghost use Rattle.std.specs.Prelude.{◌≡◌, ◌<◌, ◌≤◌, true, length, IfOk, OnOk};
 ghost use Rattle.kl1_store.specs.Held.{arguments_of};
 ghost use Rattle.kl1_store.specs.Fingers.{IsFinger};
-ghost use Rattle.kl1_store_copy.specs.Copies.{StandEach, IsSoFar};
+ghost use Rattle.kl1_store_copy.specs.Copies.{FollowEach, IsSoFar, IsCopyOf};
 
 use crate::copied::Copied;
 use kl1_store::{Cell, Finger, Store};
@@ -14,34 +14,32 @@ use std::alloc::{AllocError, Global};
 const MOST: u32 = 0xffff_fffe;
 
 impl<N: NameValue> Copied<N> {
-    /// Copies structures, in an order in which each stands after those that its arguments stand for; if it isn't one, it says so. After
-    /// an error the copy is of no use.
+    /// Copies the structures from one place of an order to another, in which each stands after those that its arguments stand for; if it
+    /// isn't one, it says so. After an error the copy is of no use.
     pub(crate) fn put_structures(
         &mut self,
         alloc: Global,
         old: &Store<N>,
         order: &Vec<u32>,
+        from: usize,
+        to: usize,
     ) -> Result<bool, AllocError>
         requires copy { IsSoFar old.now.held self.old }
-        requires fits { length self.old.structures.items ≡ length old.now.held.structures }
+        requires within { to ≤ length order.now.items }
         ensures copy { OnOk result (IsSoFar old.now.held self.new) }
         ensures back { self.new.back ≡ self.old.back }
         ensures hooks { self.new.store.hooks ≡ self.old.store.hooks }
     {
         let mut row = Vec::new(alloc);
-        for place in 0..order.len() {
-            let structure = order[place];
-            if structure as usize >= self.structures.len() {
-                return Ok(false);
-            }
-            if !self.put(old, structure, &mut row)? {
+        for place in from..to {
+            if !self.put(old, order[place], &mut row)? {
                 return Ok(false);
             }
         }
         Ok(true)
     }
 
-    /// Copies a structure, if what its arguments stand for was copied before. After an error the copy is of no use.
+    /// Copies a structure, if it has a place and what its arguments stand for was copied before. After an error the copy is of no use.
     fn put(
         &mut self,
         old: &Store<N>,
@@ -49,13 +47,16 @@ impl<N: NameValue> Copied<N> {
         row: &mut Vec<Cell<N>>,
     ) -> Result<bool, AllocError>
         requires copy { IsSoFar old.now.held self.old }
-        requires structure { structure < length old.now.held.structures }
-        requires fits { structure < length self.old.structures.items }
         ensures copy { OnOk result (IsSoFar old.now.held self.new) }
         ensures back { self.new.back ≡ self.old.back }
-        ensures fits { length self.new.structures.items ≡ length self.old.structures.items }
         ensures hooks { self.new.store.hooks ≡ self.old.store.hooks }
     {
+        if structure as usize >= self.structures.len() {
+            return Ok(false);
+        }
+        if !old.holds(Cell::Structure(structure)) {
+            return Ok(false);
+        }
         // Only for the proof: what the store holds is formed.
         let _ = old.mark();
         let head = old.look(structure);
@@ -81,7 +82,7 @@ impl<N: NameValue> Copied<N> {
         requires copy { IsSoFar old.now.held self.now }
         requires structure { structure < length old.now.held.structures }
         requires count { count ≡ length (arguments_of old.now.held structure) }
-        ensures { IfOk result (λ all. all ≡ true → StandEach old.now.held self.now.store.held self.now.back.items (arguments_of old.now.held structure) row.new.items) }
+        ensures { IfOk result (λ all. all ≡ true → FollowEach old.now.held self.now.store.held self.now.back.items (arguments_of old.now.held structure) row.new.items) }
     {
         // Only for the proof: what the store holds is formed.
         let _ = old.mark();
@@ -98,8 +99,8 @@ impl<N: NameValue> Copied<N> {
 
     /// Keeps the places in lists that the store keeps, as far as these are in the copy, so that no list is walked from its front again.
     pub(crate) fn keep_fingers(&mut self, old: &Store<N>)
-        requires { IsSoFar old.now.held self.old }
-        ensures copy { IsSoFar old.now.held self.new }
+        requires { IsCopyOf old.now.held self.old }
+        ensures copy { IsCopyOf old.now.held self.new }
         ensures back { self.new.back ≡ self.old.back }
         ensures hooks { self.new.store.hooks ≡ self.old.store.hooks }
     {
@@ -112,9 +113,9 @@ impl<N: NameValue> Copied<N> {
 
     /// Keeps a place in a list that the store keeps, if the list is in the copy.
     fn keep_finger(&mut self, old: &Store<N>, finger: Finger<N>)
-        requires copy { IsSoFar old.now.held self.old }
+        requires copy { IsCopyOf old.now.held self.old }
         requires right { IsFinger N.built old.now.held finger }
-        ensures copy { IsSoFar old.now.held self.new }
+        ensures copy { IsCopyOf old.now.held self.new }
         ensures back { self.new.back ≡ self.old.back }
         ensures hooks { self.new.store.hooks ≡ self.old.store.hooks }
     {

@@ -1,143 +1,118 @@
 // The variables of a copy.
 
-ghost use Rattle.std.specs.Prelude.{◌≡◌, ◌+◌, ◌<◌, ◌≤◌, [], ◌∷◌, ◌++◌, true, length, IfOk, OnOk};
-ghost use Rattle.kl1_store.specs.Held.{Held};
-ghost use Rattle.kl1_store_copy.specs.Copies.{IsSoFar, HasNone, HasEnds, AreUpTo};
-ghost use Rattle.kl1_store_copy.specs.Numbers.{after, AreRising};
+ghost use Rattle.std.specs.Prelude.{◌≡◌, ◌+◌, ◌<◌, ◌≤◌, ◌-◌, [], ◌∷◌, ◌++◌, true, length, IfOk, OnOk};
+ghost use Rattle.kl1_store_copy.specs.Copies.{IsSoFar, HasEnds, IsGone, AreOpen, AreOpenBut};
+ghost use Rattle.kl1_store_copy.specs.Numbers.{after};
 
-use crate::copied::{Copied, LEAST};
+use crate::copied::Copied;
 use kl1_store::Store;
 use kl1_text::NameValue;
-use std::alloc::{AllocError, Global};
+use std::alloc::AllocError;
 
-/// The greatest number of a variable or a structure whose place can be noted.
+/// The greatest number of a variable whose place can be noted.
 const MOST: u32 = 0xffff_fffe;
 
 impl<N: NameValue> Copied<N> {
-    /// A copy of nothing of a store, with room for `living` structures and for what may come to it until the next copy.
-    pub(crate) fn blank(alloc: Global, old: &Store<N>, living: usize) -> Result<Self, AllocError>
-        ensures copy { IfOk result (IsSoFar old.now.held) }
-        ensures back { IfOk result (λ copied. copied.back.items ≡ []) }
-        ensures none { IfOk result (λ copied. HasNone copied.structures.items) }
-        ensures variables { IfOk result (λ copied. length copied.variables.items ≡ old.now.held.variables) }
-        ensures structures { IfOk result (λ copied. length copied.structures.items ≡ length old.now.held.structures) }
-        ensures hooks { IfOk result (λ copied. copied.store.hooks ≡ []) }
-    {
-        let sizes = old.mark().sizes;
-        let mut variables = Vec::new(alloc);
-        variables.resize(sizes.variables as usize, 0)?;
-        let mut structures = Vec::new(alloc);
-        structures.resize(sizes.structures as usize, 0)?;
-        let mut store = Store::new(alloc);
-        make_room(&mut store, old, living)?;
-        Ok(Copied {
-            store,
-            back: Vec::new(alloc),
-            variables,
-            structures,
-        })
-    }
-
-    /// Copies the variables that were found, and the first and the last, into a copy of nothing, in the order of their numbers. After an
-    /// error the copy is of no use.
+    /// Copies the variables that were found, and the first, in the order of their numbers, from one that comes after those that were gone
+    /// over; but none that is bound by the first `since` bindings. If a place is missing, it says so. After that or an error the copy is of
+    /// no use.
     pub(crate) fn put_variables(
         &mut self,
         old: &Store<N>,
         found: &Vec<bool>,
-    ) -> Result<(), AllocError>
+        since: usize,
+        from: u32,
+        to: u32,
+    ) -> Result<bool, AllocError>
         requires copy { IsSoFar old.now.held self.old }
-        requires none { HasNone self.old.structures.items }
-        requires back { self.old.back.items ≡ [] }
-        requires fits { length self.old.variables.items ≡ old.now.held.variables }
+        requires gone { IsGone from self.old.back.items }
+        requires open { AreOpen since old.now.held self.old.back.items }
+        requires order { from ≤ to }
+        requires within { to ≤ old.now.held.variables }
         ensures copy { OnOk result (IsSoFar old.now.held self.new) }
-        ensures ends { OnOk result (HasEnds old.now.held.variables self.new.back.items) }
-        ensures structures { self.new.structures ≡ self.old.structures }
+        ensures gone { IfOk result (λ all. all ≡ true → IsGone to self.new.back.items) }
+        ensures open { IfOk result (λ all. all ≡ true → AreOpen since old.now.held self.new.back.items) }
         ensures hooks { self.new.store.hooks ≡ self.old.store.hooks }
     {
-        let count = old.mark().sizes.variables;
-        for variable in 0..count {
-            self.put_if_found(found, variable, count)?;
+        for variable in from..to {
+            if !self.put_if_found(old, found, since, variable)? {
+                return Ok(false);
+            }
         }
-        Ok(())
+        Ok(true)
     }
 
-    /// Copies a variable of `count` if it was found, or is the first or the last, into a copy in which those before it were gone over. After
-    /// an error the copy is of no use.
+    /// Copies a variable if it was found or is the first, and isn't bound by the first `since` bindings.
     fn put_if_found(
         &mut self,
+        old: &Store<N>,
         found: &Vec<bool>,
+        since: usize,
         variable: u32,
-        count: u32,
-    ) -> Result<(), AllocError>
-        requires none { HasNone self.old.structures.items }
-        requires within { variable < count }
-        requires rising { AreRising 0 self.old.back.items }
-        requires upto { AreUpTo variable count self.old.back.items }
-        requires fits { variable < length self.old.variables.items }
-        ensures copy { OnOk result ((old : Held N) → IsSoFar old self.old → IsSoFar old self.new) }
-        ensures upto { OnOk result (AreUpTo (variable + 1) count self.new.back.items) }
-        ensures fits { length self.new.variables.items ≡ length self.old.variables.items }
-        ensures structures { self.new.structures ≡ self.old.structures }
+    ) -> Result<bool, AllocError>
+        requires copy { IsSoFar old.now.held self.old }
+        requires gone { IsGone variable self.old.back.items }
+        requires open { AreOpen since old.now.held self.old.back.items }
+        requires within { variable < old.now.held.variables }
+        ensures copy { OnOk result (IsSoFar old.now.held self.new) }
+        ensures gone { IfOk result (λ all. all ≡ true → IsGone (variable + 1) self.new.back.items) }
+        ensures open { IfOk result (λ all. all ≡ true → AreOpen since old.now.held self.new.back.items) }
         ensures hooks { self.new.store.hooks ≡ self.old.store.hooks }
     {
-        if !is_copied(found, variable, count) {
-            return Ok(());
+        if !is_copied(found, variable) {
+            return Ok(true);
         }
-        self.put_variable(variable)?;
-        Ok(())
+        if old.is_bound_before(variable, since) {
+            // Nothing ever binds the first variable.
+            return Ok(variable != 0);
+        }
+        self.put_variable(old, variable)
     }
 
-    /// Copies a variable into a copy that has no structures yet, and no variable from this one on. No cell of the copy is it if it is
-    /// bound. After an error the copy is of no use.
-    fn put_variable(&mut self, variable: u32) -> Result<(), AllocError>
-        requires none { HasNone self.old.structures.items }
-        requires above { after 0 self.old.back.items ≤ variable }
-        requires fits { variable < length self.old.variables.items }
-        ensures copy { OnOk result ((old : Held N) → IsSoFar old self.old → IsSoFar old self.new) }
-        ensures back { OnOk result (self.new.back.items ≡ self.old.back.items ++ variable ∷ []) }
-        ensures fits { length self.new.variables.items ≡ length self.old.variables.items }
-        ensures structures { self.new.structures ≡ self.old.structures }
+    /// Copies the last of `count` variables, which may be bound.
+    pub(crate) fn put_last(&mut self, old: &Store<N>, count: u32) -> Result<bool, AllocError>
+        requires copy { IsSoFar old.now.held self.old }
+        requires gone { IsGone (count - 1) self.old.back.items }
+        requires count { count ≡ old.now.held.variables }
+        ensures copy { OnOk result (IsSoFar old.now.held self.new) }
+        ensures ends { IfOk result (λ all. all ≡ true → HasEnds count self.new.back.items) }
+        ensures open { IfOk result (λ all. all ≡ true → (since : _) → AreOpen since old.now.held self.old.back.items → AreOpenBut (count - 1) since old.now.held self.new.back.items) }
         ensures hooks { self.new.store.hooks ≡ self.old.store.hooks }
     {
+        if count == 0 {
+            return Ok(true);
+        }
+        self.put_variable(old, count - 1)
+    }
+
+    /// Copies a variable, if it has a place, into a copy that has none from this one on. After an error the copy is of no use.
+    fn put_variable(&mut self, old: &Store<N>, variable: u32) -> Result<bool, AllocError>
+        requires copy { IsSoFar old.now.held self.old }
+        requires above { after 0 self.old.back.items ≤ variable }
+        requires within { variable < old.now.held.variables }
+        ensures copy { OnOk result (IsSoFar old.now.held self.new) }
+        ensures back { IfOk result (λ all. all ≡ true → self.new.back.items ≡ self.old.back.items ++ variable ∷ []) }
+        ensures hooks { self.new.store.hooks ≡ self.old.store.hooks }
+    {
+        if variable as usize >= self.variables.len() {
+            return Ok(false);
+        }
         let number = self.store.fresh()?;
         self.back.push(variable)?;
         if number > MOST {
             return Err(AllocError);
         }
         self.variables[variable as usize] = number + 1;
-        Ok(())
+        Ok(true)
     }
 }
 
-/// Makes room in a copy for as much as the store has, but for no more than twice what lives and `LEAST`: as much may come to it until
-/// the next copy, and its lists needn't grow step by step.
-fn make_room<N: NameValue>(
-    store: &mut Store<N>,
-    old: &Store<N>,
-    living: usize,
-) -> Result<(), AllocError>
-    ensures held { store.new.held ≡ store.old.held }
-    ensures hooks { store.new.hooks ≡ store.old.hooks }
-{
-    let point = old.mark();
-    let most = living.saturating_mul(2).saturating_add(LEAST);
-    store.reserve(
-        most.min(point.sizes.variables as usize),
-        most.min(point.sizes.structures as usize),
-        most.saturating_mul(3).min(old.arguments()),
-        most.min(point.sizes.bindings),
-    )?;
-    store.reserve_hooks(most.min(point.hooks))
-}
-
-/// Whether a variable of `count` is to be copied: it was found, or it is the first or the last.
+/// Whether a variable is to be copied: it was found, or it is the first.
 #[inline]
-fn is_copied(found: &Vec<bool>, variable: u32, count: u32) -> bool
-    requires { variable < count }
-    ensures first { variable ≡ 0 → result ≡ true }
-    ensures last { variable + 1 ≡ count → result ≡ true }
+fn is_copied(found: &Vec<bool>, variable: u32) -> bool
+    ensures { variable ≡ 0 → result ≡ true }
 {
-    if variable == 0 || variable + 1 == count {
+    if variable == 0 {
         return true;
     }
     let place = variable as usize;

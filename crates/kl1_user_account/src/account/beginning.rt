@@ -140,6 +140,7 @@ impl<C: CodeSource> Account<C> {
             run: 0,
             sessions,
             due: 0,
+            half: None,
             trial: Trial::new(alloc),
             scan: PathScan::new(alloc),
             cells: Vec::new(alloc),

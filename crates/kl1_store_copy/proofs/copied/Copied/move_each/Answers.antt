@@ -4,6 +4,7 @@ use Rattle.kl1_store.specs.declared.cell.Cell.{Cell}
 use Rattle.kl1_store.proofs.Terms.{within_at}
 use Rattle.kl1_store_copy.specs.Copies.{StandEach}
 use Rattle.kl1_store_copy.proofs.Copying.{still_there, moved_more}
+use Rattle.kl1_store_copy.proofs.Following.{stands}
 use Rattle.kl1_store_copy.proofs.copied.Copied.move_each.Goals as goal
 
 pub loop-place-init : goal.loop-place-init
@@ -21,4 +22,5 @@ loop-place-preserved g c =
     let i = c.loop-place.invariant in
     let k = c.args.self.now in
     moved_more c.args.old.now.held k.store.held k.back.items c.args.cells.now.items c.loop-place.cells.items c.loop-place.place c.index.result.now c.in-Some.moved
-    (omega (arith, c.loop-place-test.true, c.len-place-end.ensures, i.length, c.args.cells.now.ok.0)) c.index.ensures c.in-Some.ensures i
+    (omega (arith, c.loop-place-test.true, c.len-place-end.ensures, i.length, c.args.cells.now.ok.0)) c.index.ensures
+    (stands c.args.old.now.held k.store.held k.back.items c.index.result.now c.in-Some.moved c.requires.copy.copied.formed c.requires.copy.copied.count c.requires.copy.caught c.in-Some.ensures) i

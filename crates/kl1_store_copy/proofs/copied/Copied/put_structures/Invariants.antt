@@ -1,4 +1,4 @@
-use Rattle.std.proofs.Common.{◌≡◌, length}
+use Rattle.std.proofs.Common.{◌≡◌, ◌≤◌, length}
 use Rattle.kl1_store_copy.specs.Copies.{IsSoFar}
 use Rattle.kl1_store_copy.proofs.copied.Copied.put_structures.Given as goal
 
@@ -6,7 +6,6 @@ use Rattle.kl1_store_copy.proofs.copied.Copied.put_structures.Given as goal
 abbrev pub invariant-loop-place : goal.invariant-loop-place
 invariant-loop-place g l = record {
   copy : IsSoFar l.old.held l.self;
-  fits : length l.self.structures.items ≡ length l.old.held.structures;
   back : l.self.back ≡ l.fn.self.back;
   hooks : l.self.store.hooks ≡ l.fn.self.store.hooks;
 }

@@ -3,8 +3,8 @@ use Rattle.kl1_store_copy.proofs.Copying.{copied_variable}
 use Rattle.kl1_store_copy.proofs.copied.Copied.put_variable.Goals as goal
 
 pub returns-clause-copy : goal.returns-clause-copy
-returns-clause-copy g c = λ old so_far.
+returns-clause-copy g c =
     let k = c.args.self.now in
-    copied_variable old k.store.held c.fresh.new.self.held k.back.items k.variables.items k.structures.items
+    copied_variable c.args.old.now.held k.store.held c.fresh.new.self.held k.back.items k.variables.items k.structures.items
     c.push.new.self.items _ c.args.variable c.in_ok-number.number
-    so_far c.requires.none c.requires.above c.requires.fits c.in_ok-number.ensures.ok.1 c.in_ok-number.ensures.ok.0 c.in_ok-push.ensures.items refl
+    c.requires.copy c.requires.above c.requires.within ? c.in_ok-number.ensures.ok.1 c.in_ok-number.ensures.ok.0 c.in_ok-push.ensures.items refl

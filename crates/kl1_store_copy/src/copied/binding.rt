@@ -1,0 +1,81 @@
+// The variables of a copy that the store has bound since the copy was begun.
+
+ghost use Rattle.std.specs.Prelude.{◌≡◌, ◌<◌, ◌-◌, ◌≤◌, true, false, [], List, length, IfOk, OnOk};
+ghost use Rattle.kl1_store.specs.Held.{IsLower};
+ghost use Rattle.kl1_store_copy.specs.Copies.{IsSoFar, AreOpenBut, IsCaughtUp, IsBoundToo};
+
+use crate::copied::{Copied, place_in};
+use kl1_store::{Cell, Store};
+use kl1_text::NameValue;
+use std::alloc::AllocError;
+
+impl<N: NameValue> Copied<N> {
+    /// Binds each variable of the copy that the store has bound after its first `since` bindings, and the last one if it is bound, to where
+    /// its value stands. If one isn't there, it says so. After an error the copy is of no use.
+    pub(crate) fn bind_each(&mut self, old: &Store<N>, since: usize) -> Result<bool, AllocError>
+        requires copy { IsSoFar old.now.held self.old }
+        requires open { AreOpenBut (old.now.held.variables - 1) since old.now.held self.old.back.items }
+        ensures copy { OnOk result (IsSoFar old.now.held self.new) }
+        ensures caught { IfOk result (λ all. all ≡ true → IsCaughtUp old.now.held self.new) }
+        ensures back { self.new.back ≡ self.old.back }
+        ensures hooks { self.new.store.hooks ≡ self.old.store.hooks }
+    {
+        if let Some(last) = old.mark().sizes.variables.checked_sub(1) {
+            if !self.bind_too(old, last)? {
+                return Ok(false);
+            }
+        }
+        let mut left = old.bound_since(since);
+        while let [variable, more @ ..] = left {
+            if !self.bind_too(old, *variable)? {
+                return Ok(false);
+            }
+            left = more;
+        }
+        Ok(true)
+    }
+
+    /// Binds what a variable of the store was copied to, if it was and isn't bound yet, to where the value stands if the store has bound it.
+    /// If the value isn't there, it says so.
+    fn bind_too(&mut self, old: &Store<N>, variable: u32) -> Result<bool, AllocError>
+        requires copy { IsSoFar old.now.held self.old }
+        requires within { variable < old.now.held.variables }
+        ensures copy { OnOk result (IsSoFar old.now.held self.new) }
+        ensures bound { IfOk result (λ all. all ≡ true → IsBoundToo variable old.now.held self.old self.new) }
+        ensures back { self.new.back ≡ self.old.back }
+        ensures variables { self.new.variables ≡ self.old.variables }
+        ensures hooks { self.new.store.hooks ≡ self.old.store.hooks }
+    {
+        let Some(place) = place_in(&self.variables, variable) else {
+            return Ok(true);
+        };
+        if self.store.value(place).is_some() {
+            return Ok(true);
+        }
+        let Some(value) = old.value(variable) else {
+            return Ok(true);
+        };
+        let Some(moved) = self.moved(old, value) else {
+            return Ok(false);
+        };
+        // Only for the proof: what the stores hold is formed.
+        let _ = (old.mark(), self.store.mark());
+        let walked = self.store.walk(moved);
+        // What is copied keeps its order: a variable is bound to a lower one in both.
+        if !is_below(place, walked) {
+            return Ok(false);
+        }
+        self.store.bind(place, walked)?;
+        Ok(true)
+    }
+}
+
+/// Whether a cell is no variable, or one below this.
+fn is_below<N: NameValue>(variable: u32, cell: Cell<N>) -> bool
+    ensures { result ≡ true → IsLower variable cell }
+{
+    match cell {
+        Cell::Variable(other) => other < variable,
+        _ => true,
+    }
+}
