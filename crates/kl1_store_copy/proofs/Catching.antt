@@ -1,5 +1,7 @@
 -- A copy catches up with its store: variables that the store has bound since it was begun are bound in it.
 use Rattle.std.proofs.Common.{◌≡◌, ℕ, zero, suc, ◌+◌, ◌-◌, ◌<◌, ◌≤◌, ◌==◌, Bool, true, false, ◌||◌, List, [], ◌∷◌, ◌++◌, length, get_or, take, drop, refl, sym, ap, ◌∙◌, ◌⊎◌, inl, inr, arith, subst}
+use Rattle.std.specs.List.{AllByRecursion}
+use Rattle.std.specs.Prelude.{Result, Ok, Err, IfOk}
 use Rattle.std.proofs.lemmas.Bool.{cases_eq, eq-eqb, ne_eqb, or_parts, or_from, false≢true, true≢false}
 use Rattle.std.proofs.lemmas.List.{take_all, take-take, take-append-drop}
 use Rattle.kl1_model.specs.Term.{substituted, occurs}
@@ -16,7 +18,7 @@ use Rattle.kl1_store_copy.specs.Numbers.{after, AreRising, numbered}
 use Rattle.kl1_store_copy.specs.Copies.{value_of, Follows, IsNumber, AreCopied, IsSoFar, AreUnboundToo, IsCaughtUp, AreOpen, AreOpenBut, IsBoundToo}
 use Rattle.kl1_store_copy.proofs.Copying.{either}
 use Rattle.kl1_store_copy.proofs.Following.{follows_binding, value_free}
-use Rattle.kl1_store_copy.proofs.Rising.{before_push, last_pushed, one_place}
+use Rattle.kl1_store_copy.proofs.Rising.{before_push, last_pushed, below_last, one_place}
 
 -- ---- bound among the first bindings
 
@@ -184,3 +186,42 @@ bound_now {N = N} old c d v place z so at same grown =
       bound = λ w lt is free. absurd (false≢true (sym (parts w free).1 ∙ eq-eqb place w (sym (here w lt is))));
       still = λ w e. (parts w e).0;
     }
+
+-- ---- the last variable, and those that were bound since
+
+-- of no variables none was copied
+pub none_last : {N : Type 0} (old : Held N) (c : Copied N) (v : ℕ) → IsSoFar old c → old.variables ≡ 0 → IsBoundToo v old c c
+none_last old c v so none = record {
+  bound = λ w lt is free. absurd (omega (arith, below_last 0 c.back.items old.variables w so.rising lt so.few, none));
+  still = λ w e. e;
+}
+
+-- an answer that says more, if all was done
+pub all_weaker : {E P Q : Type 0} (r : Result Bool E) → (P → Q) → IfOk r (λ all. all ≡ true → P) → IfOk r (λ all. all ≡ true → Q)
+all_weaker (Ok b) f h = λ e. f (h e)
+all_weaker (Err e) f h = tt
+
+bound_within : {N : Type 0} (vs : ℕ) (ss : List (Shape N)) (before bs : List (Binding N)) → Bound vs ss before bs → AllByRecursion (λ v. v < vs) (variables_of bs)
+bound_within vs ss before [] h = tt
+bound_within vs ss before (b ∷ bs) h = (h.0.inside, bound_within vs ss (before ++ b ∷ []) bs h.1)
+
+dropped_within : {N : Type 0} (vs n : ℕ) (bs : List (Binding N)) → AllByRecursion (λ v. v < vs) (variables_of bs) → AllByRecursion (λ v. v < vs) (variables_of (drop n bs))
+dropped_within vs zero bs h = h
+dropped_within vs (suc n) [] h = tt
+dropped_within vs (suc n) (b ∷ bs) h = dropped_within vs n bs h.1
+
+-- the variables that were bound since are the store's
+pub since_within : {N : Type 0} (old : Held N) (since : ℕ) (left : List ℕ) → IsFormed old → left ≡ variables_of (drop since old.bindings) → AllByRecursion (λ v. v < old.variables) left
+since_within old since left formed is =
+    let P : List ℕ → Type 0 = λ l. AllByRecursion (λ v. v < old.variables) l in
+    subst P (sym is) (dropped_within old.variables since old.bindings (bound_within old.variables old.structures [] old.bindings formed.bound))
+
+pub first_within : (count v : ℕ) (left : List ℕ) → 1 ≤ length left → v ≡ get_or left 0 v → AllByRecursion (λ w. w < count) left → v < count
+first_within count v [] le is h = absurd (omega (arith, le))
+first_within count v (n ∷ left) le is h = omega (arith, h.0, is)
+
+pub others_within : (count : ℕ) (left : List ℕ) → 1 ≤ length left → AllByRecursion (λ w. w < count) left → AllByRecursion (λ w. w < count) (take (length left - 1) (drop 1 left))
+others_within count [] le h = absurd (omega (arith, le))
+others_within count (n ∷ left) le h =
+    let P : List ℕ → Type 0 = λ l. AllByRecursion (λ w. w < count) l in
+    subst P (sym (take_all (length (n ∷ left) - 1) left (omega arith))) h.1

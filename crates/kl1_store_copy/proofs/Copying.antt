@@ -268,7 +268,8 @@ first_left (y ∷ xs) (suc k) x lt = first_left xs k x (omega (arith, lt))
 head_same : {X : Type 0} (x y : X) (xs ys : List X) → x ∷ xs ≡ y ∷ ys → x ≡ y
 head_same x y xs ys e = cc
 
-there : {X : Type 0} (xs : List X) (k : ℕ) (x d : X) → k < length xs → x ≡ get_or xs k d → slice_get xs k ≡ Some x
+-- a cell at a place
+pub there : {X : Type 0} (xs : List X) (k : ℕ) (x d : X) → k < length xs → x ≡ get_or xs k d → slice_get xs k ≡ Some x
 there [] k x d lt e = absurd (omega (arith, lt))
 there (y ∷ xs) zero x d lt e = ap Some (sym e)
 there (y ∷ xs) (suc k) x d lt e = there xs k x d (omega (arith, lt)) e

@@ -1,5 +1,5 @@
 -- Cells of a copy that follow cells of a store that goes on: as the store grows, and as the copy does.
-use Rattle.std.proofs.Common.{◌≡◌, ℕ, zero, suc, ◌+◌, ◌<◌, ◌≤◌, ◌==◌, Bool, true, false, ◌||◌, List, [], ◌∷◌, ◌++◌, length, get_or, take, refl, sym, ap, ap₂, ◌∙◌, ◌⊎◌, inl, inr, arith, subst, ℤ, length-append}
+use Rattle.std.proofs.Common.{◌≡◌, ℕ, zero, suc, ◌+◌, ◌<◌, ◌≤◌, ◌==◌, Bool, true, false, ◌||◌, List, [], ◌∷◌, ◌++◌, length, length-take, get_or, take, refl, sym, ap, ap₂, ◌∙◌, ◌⊎◌, inl, inr, arith, subst, ℤ, length-append}
 use Rattle.std.specs.Prelude.{Some, slice_get}
 use Rattle.std.proofs.lemmas.Bool.{cases_lt, false≢true, eq-eqb, ne_eqb}
 use Rattle.kl1_model.specs.Term.{Term, variable, integer, atom, structure, Terms, none, more, occurs, occurs_in, replace, substituted, each_substituted}
@@ -84,6 +84,9 @@ unbound_beyond h v le formed = unbound_above h.variables h.structures [] h.bindi
 
 -- ---- the store grows
 
+pub as_long : {X : Type 0} (xs ys : List X) → take (length xs) ys ≡ xs → length xs ≤ length ys
+as_long xs ys p = let e = ap length p in omega (arith, e, length-take (length xs) ys)
+
 -- what the copy's variables mean after the store has grown
 values_later : {N : Type 0} (f : N → List ℕ) (old next : Held N) (back : List ℕ) (later : IsLater f old next) (w : ℕ) → AreRising 0 back → after 0 back ≤ old.variables → w < length back →
     value_of f next back w ≡ substituted (values_of later.replacements) (value_of f old back w)
@@ -93,7 +96,7 @@ values_later f old next back later w rising few lt =
 pub follows_later : {N : Type 0} (old next new : Held N) (back : List ℕ) (x y : Cell N) → IsFormed old → Grown old next → IsFormed new → length back ≡ new.variables → AreRising 0 back → after 0 back ≤ old.variables →
     Follows old new back x y → Follows next new back x y
 follows_later {N = N} old next new back x y formed grown formed_new count rising few p = record {
-  known = IsWithin-more old.variables (length old.structures) next.variables (length next.structures) x grown.variables (longer old.structures next.structures grown.structures) p.known;
+  known = IsWithin-more old.variables (length old.structures) next.variables (length next.structures) x grown.variables (as_long old.structures next.structures grown.structures) p.known;
   inside = p.inside;
   means = λ f.
       let later = is_later f old next formed grown in
@@ -106,14 +109,6 @@ follows_later {N = N} old next new back x y formed grown formed_new count rising
       ∙ sym (replaced_is later.replacements (term_of f old x))
       ∙ sym (later.means x p.known);
 }
-  where
-    longer : {X : Type 0} (xs ys : List X) → take (length xs) ys ≡ xs → length xs ≤ length ys
-    longer [] ys e = omega arith
-    longer (z ∷ xs) [] e = absurd (cc)
-    longer (z ∷ xs) (u ∷ ys) e = let r = longer xs ys (rest_same (take (length xs) ys) xs u z e) in omega (arith, r)
-      where
-        rest_same : (ls ms : List _) (a b : _) → a ∷ ls ≡ b ∷ ms → ls ≡ ms
-        rest_same ls ms a b e = cc
 
 -- ---- the copy grows
 
@@ -160,26 +155,28 @@ follows_binding old new back w z x y is p = record {
   means = λ f. ap (substituted (value_of f old back)) (term_of-binding f new w z y) ∙ substituted-replace (value_of f old back) w (term_of f new z) (term_of f new y) (is f) ∙ p.means f;
 }
 
--- the variable isn't in that cell, if the cell is no variable or a lower one
-pub value_free : {N : Type 0} (f : N → List ℕ) (old new : Held N) (back : List ℕ) (w : ℕ) (z : Cell N) → IsFormed new → IsIn new z → IsWalked new z → IsLower w z →
-    value_of f old back w ≡ substituted (value_of f old back) (term_of f new z) → occurs w (term_of f new z) ≡ false
-value_free f old new back w (Variable u) formed inside walked lower is = ap (occurs w) (term_of-unbound f new u walked) ∙ ne_eqb u w (λ e. omega (arith, e, lower))
-value_free f old new back w (Integer i) formed inside walked lower is = ap (occurs w) (term_of-Integer f new i)
-value_free f old new back w (Atom a) formed inside walked lower is = ap (occurs w) (term_of-Atom f new a)
-value_free f old new back w (Structure p) formed inside walked lower is = by (occurs_in w ts) refl
+-- a variable isn't in the structure that means what it means
+not_inside : {N : Type 0} (f : N → List ℕ) (old new : Held N) (back : List ℕ) (w p : ℕ) (name : N) → IsFormed new → slice_get new.structures p ≡ Some (record { name = name; arguments = arguments_of new p }) →
+    value_of f old back w ≡ substituted (value_of f old back) (term_of f new (Structure p)) → occurs w (term_of f new (Structure p)) ≡ false
+not_inside {N = N} f old new back w p name formed at is = by (occurs_in w ts) refl
   where
-    n : _
-    n = named new p inside
-
     ts : Terms
     ts = terms_of f new (arguments_of new p)
 
-    term : term_of f new (Structure p) ≡ structure (f n.0) ts
-    term = term_of-Structure f new p n.0 formed n.1
+    term : term_of f new (Structure p) ≡ structure (f name) ts
+    term = term_of-Structure f new p name formed at
 
     by : (b : Bool) → occurs_in w ts ≡ b → occurs w (term_of f new (Structure p)) ≡ false
-    by true o = absurd (no_cycle (value_of f old back) w (f n.0) ts o (is ∙ ap (substituted (value_of f old back)) term))
+    by true o = absurd (no_cycle (value_of f old back) w (f name) ts o (is ∙ ap (substituted (value_of f old back)) term))
     by false o = ap (occurs w) term ∙ o
+
+-- the variable isn't in that cell, if the cell is no variable or a lower one
+pub value_free : {N : Type 0} (f : N → List ℕ) (old new : Held N) (back : List ℕ) (w : ℕ) (z : Cell N) → IsFormed new → IsIn new z → IsWalked new z → IsLower w z →
+    value_of f old back w ≡ substituted (value_of f old back) (term_of f new z) → occurs w (term_of f new z) ≡ false
+value_free f old new back w (Variable u) formed inside walked lower is = ap (occurs w) (term_of-unbound f new u walked) ∙ ne_eqb w u (λ e. omega (arith, e, lower))
+value_free f old new back w (Integer i) formed inside walked lower is = ap (occurs w) (term_of-Integer f new i)
+value_free f old new back w (Atom a) formed inside walked lower is = ap (occurs w) (term_of-Atom f new a)
+value_free f old new back w (Structure p) formed inside walked lower is = let n = named new p inside in not_inside f old new back w p n.0 formed n.1 is
 
 -- ---- the copy has caught up
 

@@ -136,6 +136,6 @@ pub ends_push : (variable count : ℕ) (back : List ℕ) → AreRising 0 back �
 ends_push variable count back h last u = record { first = first_pushed back variable h u.below u.first; last = after_push 0 back variable ∙ last }
 
 -- of no variables there is no last one
-pub ends_none : (count : ℕ) (back : List ℕ) → AreRising 0 back → count ≡ 0 → IsGone (count - 1) back → HasEnds count back
-ends_none count [] h none u = record { first = refl; last = sym none }
-ends_none count (x ∷ back) h none u = absurd (omega (arith, after_least (suc x) back h.1, u.below, none))
+pub ends_none : (count last : ℕ) (back : List ℕ) → AreRising 0 back → count ≡ 0 → last ≡ count - 1 → IsGone last back → HasEnds count back
+ends_none count last [] h none is u = record { first = refl; last = sym none }
+ends_none count last (x ∷ back) h none is u = absurd (omega (arith, after_least (suc x) back h.1, u.below, none, is))

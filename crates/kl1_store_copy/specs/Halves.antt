@@ -1,16 +1,23 @@
 -- Copies that are made in slices.
-use Rattle.std.specs.Prelude.{◌≡◌, ◌-◌, ◌≤◌, [], length}
+use Rattle.std.specs.Prelude.{◌≡◌, ℕ, ◌-◌, ◌≤◌, List, [], length}
+use Rattle.kl1_store.specs.declared.cell.Cell.{Cell}
 use Rattle.kl1_store.specs.Held.{Held, AreIn}
+use Rattle.kl1_store_copy.specs.declared.copied.Copied.{Copied}
 use Rattle.kl1_store_copy.specs.declared.half_copy.HalfCopy.{HalfCopy}
 use Rattle.kl1_store_copy.specs.Copies.{IsSoFar, IsGone, AreOpen}
 
--- a copy that was begun and goes on is one of a store that has grown since then: so it stays one while the store grows
-pub record IsHalf {N : Type 0} (old : Held N) (h : HalfCopy N) : Type 0 where
-  pub copied : IsSoFar old h.copied
-  pub gone : IsGone h.variables h.copied.back.items
-  pub few : h.variables ≤ h.since.sizes.variables - 1
-  pub open : AreOpen h.since.sizes.bindings old h.copied.back.items
-  pub variables : h.since.sizes.variables ≤ old.variables
-  pub bindings : h.since.sizes.bindings ≤ length old.bindings
-  pub roots : AreIn old h.roots.items
-  pub hooks : h.copied.store.hooks ≡ []
+-- what was copied of a store, of which what is reached from some cells is searched, since it had `count` variables and `since` bindings; all
+-- variables below `next` were gone over
+pub record AreHalf {N : Type 0} (old : Held N) (c : Copied N) (roots : List (Cell N)) (count since next : ℕ) : Type 0 where
+  pub copied : IsSoFar old c
+  pub gone : IsGone next c.back.items
+  pub few : next ≤ count - 1
+  pub open : AreOpen since old c.back.items
+  pub known : count ≤ old.variables
+  pub past : since ≤ length old.bindings
+  pub inside : AreIn old roots
+  pub hooks : c.store.hooks ≡ []
+
+-- a copy that was begun and goes on. It is one still when the store has grown
+abbrev pub IsHalf : {N : Type 0} → Held N → HalfCopy N → Type 0
+IsHalf old h = AreHalf old h.copied h.roots.items h.since.sizes.variables h.since.sizes.bindings h.variables

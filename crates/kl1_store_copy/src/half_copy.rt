@@ -39,9 +39,11 @@ impl<N: NameValue> HalfCopy<N> {
         let since = old.mark();
         let variables = since.sizes.variables as usize;
         let structures = since.sizes.structures as usize;
+        let survey = Survey::new(alloc, variables, structures)?;
+        let copied = Copied::blank(alloc, variables, structures)?;
         Ok(HalfCopy {
-            survey: Survey::new(alloc, variables, structures)?,
-            copied: Copied::blank(alloc, variables, structures)?,
+            survey,
+            copied,
             since,
             roots,
             found: 0,
@@ -57,13 +59,14 @@ impl<N: NameValue> HalfCopy<N> {
         &mut self,
         alloc: Global,
         old: &Store<N>,
-        most: usize,
+        most: u32,
     ) -> Result<Option<bool>, AllocError>
         requires { IsHalf old.now.held self.old }
         ensures { IfOk result (λ found. IfSome found (λ ready. IsHalf old.now.held self.new)) }
     {
         // To clear a place takes a sixteenth of the time of a structure, and to go over a variable a quarter.
-        if !self.cover(old, self.since, most.saturating_mul(16))? {
+        let places = (most as usize).saturating_mul(16);
+        if !self.cover(old, self.since, places)? {
             return Ok(Some(false));
         }
         if !self.search(old, most)? {
@@ -75,7 +78,7 @@ impl<N: NameValue> HalfCopy<N> {
             return self.put_variables(old, most.saturating_mul(4));
         }
         if self.structures < self.survey.order.len() {
-            return self.put_structures(alloc, old, most);
+            return self.put_structures(alloc, old, most as usize);
         }
         Ok(Some(true))
     }
@@ -97,9 +100,7 @@ impl<N: NameValue> HalfCopy<N> {
         ensures { IfOk result (λ found. IfSome found (λ copied. IsCopyOf old.now.held copied × (copied.store.hooks ≡ []))) }
     {
         let mut half = self;
-        if let Some(last) = old.mark().sizes.variables.checked_sub(1) {
-            half.reach_each(old, &[Cell::Variable(last)])?;
-        }
+        half.reach_last(old)?;
         half.make_room(old)?;
         half.catch_up(alloc, old)
     }

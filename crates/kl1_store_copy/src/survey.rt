@@ -42,15 +42,17 @@ impl Survey {
         })
     }
 
-    /// Makes places for so many variables and structures, at most `most` more of each; whether all have one.
+    /// Makes places for so many variables and structures, at most `most` more in each table; whether all have one.
     pub(crate) fn cover(
         &mut self,
         variables: usize,
         structures: usize,
         most: usize,
     ) -> Result<bool, AllocError> {
-        let all = cover(&mut self.variables, variables, most)?;
-        Ok(cover(&mut self.structures, structures, most)? && all)
+        if !cover(&mut self.variables, variables, most)? {
+            return Ok(false);
+        }
+        cover(&mut self.structures, structures, most)
     }
 
     /// Finds all that is reached from a cell.
@@ -99,7 +101,8 @@ impl Survey {
             return Ok(());
         };
         let visit = self.stack[last];
-        if visit.next < visit.end && (visit.next as usize) < store.arguments() {
+        let arguments = store.arguments();
+        if visit.next < visit.end && (visit.next as usize) < arguments {
             self.stack[last].next = visit.next + 1;
             return self.find(store, store.argument_at(visit.next));
         }
@@ -156,8 +159,9 @@ impl Survey {
 /// Makes a list of marks as long as it is to be, by at most `most` marks more, none of which is set; whether it is.
 fn cover(marks: &mut Vec<bool>, count: usize, most: usize) -> Result<bool, AllocError> {
     let next = marks.len().saturating_add(most).min(count);
-    if next > marks.len() {
-        marks.resize(next, false)?;
+    if next <= marks.len() {
+        return Ok(true);
     }
-    Ok(marks.len() >= count)
+    marks.resize(next, false)?;
+    Ok(next >= count)
 }

@@ -2,7 +2,7 @@
 
 use kl1_model::BuiltIn;
 use kl1_store::{Cell, Store};
-use kl1_store_copy::{Copied, Survey};
+use kl1_store_copy::{Copied, HalfCopy};
 use kl1_text::{CellName, NameValue};
 use std::alloc::{AllocError, Global};
 
@@ -12,21 +12,31 @@ pub(crate) fn list_name() -> CellName {
 }
 
 /// A list of `count` integers from 0 as a stream makes it: each cell is bound to the tail of the one before it, and beside each stands a
-/// structure that nothing reaches. The first cell and the last tail.
+/// structure that nothing reaches. The first cell and the last tail; the store's first variable is used by nobody.
 pub(crate) fn stream(
     store: &mut Store<CellName>,
     count: u32,
 ) -> Result<(Cell<CellName>, Cell<CellName>), AllocError> {
+    let _unused = store.fresh()?;
     let first = Cell::Variable(store.fresh()?);
     let mut tail = first;
     for number in 0..count {
-        let next = Cell::Variable(store.fresh()?);
-        let _dead = store.build_pair(list_name(), Cell::Integer(1), Cell::Integer(2))?;
-        let cell = store.build_pair(list_name(), Cell::Integer(i64::from(number)), next)?;
-        bind(store, tail, Cell::Structure(cell))?;
-        tail = next;
+        tail = longer(store, tail, number)?;
     }
     Ok((first, tail))
+}
+
+/// Puts one integer more at the end of a stream: its new tail.
+pub(crate) fn longer(
+    store: &mut Store<CellName>,
+    tail: Cell<CellName>,
+    number: u32,
+) -> Result<Cell<CellName>, AllocError> {
+    let next = Cell::Variable(store.fresh()?);
+    let _dead = store.build_pair(list_name(), Cell::Integer(1), Cell::Integer(2))?;
+    let cell = store.build_pair(list_name(), Cell::Integer(i64::from(number)), next)?;
+    bind(store, tail, Cell::Structure(cell))?;
+    Ok(next)
 }
 
 /// Makes two cells one.
@@ -58,11 +68,11 @@ pub(crate) fn copied(
     store: &Store<CellName>,
     root: Cell<CellName>,
 ) -> Result<Option<Copied<CellName>>, AllocError> {
-    let mut survey = Survey::new(alloc, store)?;
+    let mut half = HalfCopy::begin(alloc, store, Vec::new(alloc))?;
     if store.holds(root) {
-        survey.reach(store, root)?;
+        half.reach_each(store, &[root])?;
     }
-    Copied::of(alloc, store, survey)
+    half.finish(alloc, store)
 }
 
 /// An argument of a structure, counted from 0; the integer -1 if it isn't there.

@@ -1,8 +1,8 @@
 // The rows.
 
-use crate::making::{are_one, argument, bind, copied, is_integer, list_name, stream, tower};
+use crate::making::{are_one, argument, bind, copied, is_integer, list_name, longer, stream, tower};
 use kl1_store::{Cell, Finger, Store};
-use kl1_store_copy::{Copied, Survey};
+use kl1_store_copy::{Copied, HalfCopy};
 use kl1_text::CellName;
 use std::alloc::{AllocError, Global};
 
@@ -16,13 +16,18 @@ pub(crate) fn put_rows(alloc: Global, out: &mut Vec<u8>) -> Result<(), AllocErro
     )?;
     put(
         out,
-        b"an_order_of_another_store_is_given_up",
-        other_order(alloc)?,
+        b"a_store_whose_first_variable_is_bound_is_given_up",
+        first_bound(alloc)?,
     )?;
     put(
         out,
-        b"what_came_after_the_search_is_given_up",
-        later(alloc)?,
+        b"what_comes_between_slices_is_copied",
+        in_slices(alloc, 1)? && in_slices(alloc, 7)? && in_slices(alloc, 37)? && in_slices(alloc, 100_000)?,
+    )?;
+    put(
+        out,
+        b"what_is_bound_between_slices_keeps_its_order",
+        bound_between(alloc)?,
     )?;
     put(out, b"a_variable_bound_to_another_is_that", alias(alloc)?)?;
     put(
@@ -102,39 +107,67 @@ fn tower_of_60(alloc: Global) -> Result<bool, AllocError> {
     Ok(at.is_variable(0) && copy.store.mark().sizes.structures == 60)
 }
 
-/// A store whose second structure has the first in it.
-fn upward(alloc: Global) -> Result<(Store<CellName>, Cell<CellName>), AllocError> {
+fn first_bound(alloc: Global) -> Result<bool, AllocError> {
     let mut store = Store::new(alloc);
-    let name = list_name();
-    let low = store.build_pair(name, Cell::Integer(1), Cell::Integer(2))?;
-    let low = Cell::Structure(low);
-    let high = store.build_pair(name, low, low)?;
-    Ok((store, Cell::Structure(high)))
+    let first = Cell::Variable(store.fresh()?);
+    bind(&mut store, first, Cell::Integer(7))?;
+    Ok(copied(alloc, &store, first)?.is_none())
 }
 
-fn other_order(alloc: Global) -> Result<bool, AllocError> {
-    let (upward, top) = upward(alloc)?;
-    let mut survey = Survey::new(alloc, &upward)?;
-    survey.reach(&upward, top)?;
-    // The first structure has the second in it, by a variable that is bound to that.
-    let mut downward = Store::new(alloc);
-    let name = list_name();
-    let variable = Cell::Variable(downward.fresh()?);
-    let _high = downward.build_pair(name, variable, variable)?;
-    let low = downward.build_pair(name, Cell::Integer(1), Cell::Integer(2))?;
-    bind(&mut downward, variable, Cell::Structure(low))?;
-    Ok(Copied::of(alloc, &downward, survey)?.is_none())
+/// Whether a stream that grows by an element after each slice is copied whole.
+fn in_slices(alloc: Global, most: u32) -> Result<bool, AllocError> {
+    let mut store = Store::new(alloc);
+    let (first, tail) = stream(&mut store, 300)?;
+    let mut roots = Vec::new(alloc);
+    roots.push(first)?;
+    roots.push(tail)?;
+    let mut half = HalfCopy::begin(alloc, &store, roots)?;
+    let mut end = tail;
+    let mut count = 300;
+    for _slice in 0..2_000 {
+        match half.go_on(alloc, &store, most)? {
+            None => return Ok(false),
+            Some(true) => break,
+            Some(false) => {}
+        }
+        end = longer(&mut store, end, count)?;
+        count += 1;
+    }
+    half.reach_each(&store, &[first, end])?;
+    let Some(copy) = half.finish(alloc, &store)? else {
+        return Ok(false);
+    };
+    let list = place_of(&store, &copy, first);
+    Ok(counts_up(&copy.store, list, count))
 }
 
-fn later(alloc: Global) -> Result<bool, AllocError> {
+fn bound_between(alloc: Global) -> Result<bool, AllocError> {
     let mut store = Store::new(alloc);
-    let (first, tail) = stream(&mut store, 10)?;
-    let mut survey = Survey::new(alloc, &store)?;
-    survey.reach(&store, first)?;
-    let name = list_name();
-    let end = store.build_pair(name, Cell::Integer(10), Cell::Integer(11))?;
-    bind(&mut store, tail, Cell::Structure(end))?;
-    Ok(Copied::of(alloc, &store, survey)?.is_none())
+    let _unused = store.fresh()?;
+    let low = Cell::Variable(store.fresh()?);
+    let high = Cell::Variable(store.fresh()?);
+    let other = Cell::Variable(store.fresh()?);
+    let row = store.build_three(list_name(), low, high, other)?;
+    let mut roots = Vec::new(alloc);
+    roots.push(Cell::Structure(row))?;
+    let mut half = HalfCopy::begin(alloc, &store, roots)?;
+    for _slice in 0..20 {
+        let _ready = half.go_on(alloc, &store, 1)?;
+    }
+    bind(&mut store, high, low)?;
+    let new = Cell::Variable(store.fresh()?);
+    bind(&mut store, other, new)?;
+    let pair = Cell::Structure(store.build_pair(list_name(), new, Cell::Integer(1))?);
+    bind(&mut store, low, pair)?;
+    half.reach_each(&store, &[Cell::Structure(row)])?;
+    let Some(copy) = half.finish(alloc, &store)? else {
+        return Ok(false);
+    };
+    let place = place_of(&store, &copy, Cell::Structure(row));
+    let first = argument(&copy.store, place, 0);
+    let second = argument(&copy.store, place, 1);
+    let third = argument(&copy.store, place, 2);
+    Ok(are_one(first, second) && third.variable().is_some())
 }
 
 fn alias(alloc: Global) -> Result<bool, AllocError> {

@@ -1,7 +1,7 @@
 // The variables of a copy that the store has bound since the copy was begun.
 
-ghost use Rattle.std.specs.Prelude.{◌≡◌, ◌<◌, ◌-◌, ◌≤◌, true, false, [], List, length, IfOk, OnOk};
-ghost use Rattle.kl1_store.specs.Held.{IsLower};
+ghost use Rattle.std.specs.Prelude.{◌≡◌, ◌<◌, ◌-◌, true, IfOk, OnOk};
+ghost use Rattle.kl1_store.specs.Held.{is_bound, IsLower};
 ghost use Rattle.kl1_store_copy.specs.Copies.{IsSoFar, AreOpenBut, IsCaughtUp, IsBoundToo};
 
 use crate::copied::{Copied, place_in};
@@ -20,11 +20,11 @@ impl<N: NameValue> Copied<N> {
         ensures back { self.new.back ≡ self.old.back }
         ensures hooks { self.new.store.hooks ≡ self.old.store.hooks }
     {
-        if let Some(last) = old.mark().sizes.variables.checked_sub(1) {
-            if !self.bind_too(old, last)? {
-                return Ok(false);
-            }
+        if !self.bind_last(old)? {
+            return Ok(false);
         }
+        // Only for the proof: what the store holds is formed.
+        let _ = old.mark();
         let mut left = old.bound_since(since);
         while let [variable, more @ ..] = left {
             if !self.bind_too(old, *variable)? {
@@ -35,6 +35,21 @@ impl<N: NameValue> Copied<N> {
         Ok(true)
     }
 
+    /// Binds what the last variable of the store was copied to, if it is bound.
+    fn bind_last(&mut self, old: &Store<N>) -> Result<bool, AllocError>
+        requires { IsSoFar old.now.held self.old }
+        ensures copy { OnOk result (IsSoFar old.now.held self.new) }
+        ensures bound { IfOk result (λ all. all ≡ true → IsBoundToo (old.now.held.variables - 1) old.now.held self.old self.new) }
+        ensures back { self.new.back ≡ self.old.back }
+        ensures hooks { self.new.store.hooks ≡ self.old.store.hooks }
+    {
+        let count = old.mark().sizes.variables;
+        if count == 0 {
+            return Ok(true);
+        }
+        self.bind_too(old, count - 1)
+    }
+
     /// Binds what a variable of the store was copied to, if it was and isn't bound yet, to where the value stands if the store has bound it.
     /// If the value isn't there, it says so.
     fn bind_too(&mut self, old: &Store<N>, variable: u32) -> Result<bool, AllocError>
@@ -43,13 +58,12 @@ impl<N: NameValue> Copied<N> {
         ensures copy { OnOk result (IsSoFar old.now.held self.new) }
         ensures bound { IfOk result (λ all. all ≡ true → IsBoundToo variable old.now.held self.old self.new) }
         ensures back { self.new.back ≡ self.old.back }
-        ensures variables { self.new.variables ≡ self.old.variables }
         ensures hooks { self.new.store.hooks ≡ self.old.store.hooks }
     {
         let Some(place) = place_in(&self.variables, variable) else {
             return Ok(true);
         };
-        if self.store.value(place).is_some() {
+        if is_bound(&self.store, place) {
             return Ok(true);
         }
         let Some(value) = old.value(variable) else {
@@ -58,8 +72,6 @@ impl<N: NameValue> Copied<N> {
         let Some(moved) = self.moved(old, value) else {
             return Ok(false);
         };
-        // Only for the proof: what the stores hold is formed.
-        let _ = (old.mark(), self.store.mark());
         let walked = self.store.walk(moved);
         // What is copied keeps its order: a variable is bound to a lower one in both.
         if !is_below(place, walked) {
@@ -77,5 +89,16 @@ fn is_below<N: NameValue>(variable: u32, cell: Cell<N>) -> bool
     match cell {
         Cell::Variable(other) => other < variable,
         _ => true,
+    }
+}
+
+/// Whether a variable of a store is bound.
+fn is_bound<N: NameValue>(store: &Store<N>, variable: u32) -> bool
+    requires { variable < store.now.held.variables }
+    ensures { result ≡ is_bound variable store.now.held.bindings }
+{
+    match store.value(variable) {
+        None => false,
+        Some(_value) => true,
     }
 }

@@ -31,7 +31,7 @@ impl<N: NameValue> Copied<N> {
         })
     }
 
-    /// Makes places for so many variables and structures of the store, at most `most` more of each; whether all have one.
+    /// Makes places for so many variables and structures of the store, at most `most` more in each table; whether all have one.
     pub(crate) fn cover(
         &mut self,
         variables: usize,
@@ -40,10 +40,12 @@ impl<N: NameValue> Copied<N> {
     ) -> Result<bool, AllocError>
         ensures copy { OnOk result ((old : Held N) → IsSoFar old self.old → IsSoFar old self.new) }
         ensures back { self.new.back ≡ self.old.back }
-        ensures store { self.new.store ≡ self.old.store }
+        ensures hooks { self.new.store.hooks ≡ self.old.store.hooks }
     {
-        let all = cover(&mut self.variables, variables, most)?;
-        Ok(cover(&mut self.structures, structures, most)? && all)
+        if !cover(&mut self.variables, variables, most)? {
+            return Ok(false);
+        }
+        cover(&mut self.structures, structures, most)
     }
 
     /// Makes room for as much as the store has, but for no more than twice the `living` structures and `LEAST`: as much may come to the copy
@@ -70,8 +72,9 @@ fn cover(places: &mut Vec<u32>, count: usize, most: usize) -> Result<bool, Alloc
     ensures { OnOk result ((n : ℕ) → get_or places.new.items n 0 ≡ get_or places.old.items n 0) }
 {
     let next = places.len().saturating_add(most).min(count);
-    if next > places.len() {
-        places.resize(next, 0)?;
+    if next <= places.len() {
+        return Ok(true);
     }
-    Ok(places.len() >= count)
+    places.resize(next, 0)?;
+    Ok(next >= count)
 }

@@ -51,7 +51,8 @@ impl<N: NameValue> Copied<N> {
         ensures back { self.new.back ≡ self.old.back }
         ensures hooks { self.new.store.hooks ≡ self.old.store.hooks }
     {
-        if structure as usize >= self.structures.len() {
+        let index = structure as usize;
+        if index >= self.structures.len() {
             return Ok(false);
         }
         if !old.holds(Cell::Structure(structure)) {
@@ -67,7 +68,7 @@ impl<N: NameValue> Copied<N> {
         if number > MOST {
             return Err(AllocError);
         }
-        self.structures[structure as usize] = number + 1;
+        self.structures[index] = number + 1;
         Ok(true)
     }
 

@@ -1,6 +1,6 @@
 // The variables of a copy.
 
-ghost use Rattle.std.specs.Prelude.{◌≡◌, ◌+◌, ◌<◌, ◌≤◌, ◌-◌, [], ◌∷◌, ◌++◌, true, length, IfOk, OnOk};
+ghost use Rattle.std.specs.Prelude.{◌≡◌, ◌+◌, ◌<◌, ◌≤◌, ◌-◌, ◌∷◌, ◌++◌, [], true, ℕ, length, IfOk, OnOk};
 ghost use Rattle.kl1_store_copy.specs.Copies.{IsSoFar, HasEnds, IsGone, AreOpen, AreOpenBut};
 ghost use Rattle.kl1_store_copy.specs.Numbers.{after};
 
@@ -63,26 +63,27 @@ impl<N: NameValue> Copied<N> {
             return Ok(true);
         }
         if old.is_bound_before(variable, since) {
-            // Nothing ever binds the first variable.
-            return Ok(variable != 0);
+            // One that was found was unbound when it was, and nothing ever binds the first.
+            return Ok(false);
         }
         self.put_variable(old, variable)
     }
 
-    /// Copies the last of `count` variables, which may be bound.
-    pub(crate) fn put_last(&mut self, old: &Store<N>, count: u32) -> Result<bool, AllocError>
+    /// Copies the last variable, which may be bound, if there is one.
+    pub(crate) fn put_last(&mut self, old: &Store<N>, last: u32) -> Result<bool, AllocError>
         requires copy { IsSoFar old.now.held self.old }
-        requires gone { IsGone (count - 1) self.old.back.items }
-        requires count { count ≡ old.now.held.variables }
+        requires gone { IsGone last self.old.back.items }
+        requires last { last ≡ old.now.held.variables - 1 }
         ensures copy { OnOk result (IsSoFar old.now.held self.new) }
-        ensures ends { IfOk result (λ all. all ≡ true → HasEnds count self.new.back.items) }
-        ensures open { IfOk result (λ all. all ≡ true → (since : _) → AreOpen since old.now.held self.old.back.items → AreOpenBut (count - 1) since old.now.held self.new.back.items) }
+        ensures ends { IfOk result (λ all. all ≡ true → HasEnds old.now.held.variables self.new.back.items) }
+        ensures open { IfOk result (λ all. all ≡ true → (since : ℕ) → AreOpen since old.now.held self.old.back.items → AreOpenBut last since old.now.held self.new.back.items) }
         ensures hooks { self.new.store.hooks ≡ self.old.store.hooks }
     {
+        let count = old.mark().sizes.variables;
         if count == 0 {
             return Ok(true);
         }
-        self.put_variable(old, count - 1)
+        self.put_variable(old, last)
     }
 
     /// Copies a variable, if it has a place, into a copy that has none from this one on. After an error the copy is of no use.
@@ -94,7 +95,8 @@ impl<N: NameValue> Copied<N> {
         ensures back { IfOk result (λ all. all ≡ true → self.new.back.items ≡ self.old.back.items ++ variable ∷ []) }
         ensures hooks { self.new.store.hooks ≡ self.old.store.hooks }
     {
-        if variable as usize >= self.variables.len() {
+        let index = variable as usize;
+        if index >= self.variables.len() {
             return Ok(false);
         }
         let number = self.store.fresh()?;
@@ -102,7 +104,7 @@ impl<N: NameValue> Copied<N> {
         if number > MOST {
             return Err(AllocError);
         }
-        self.variables[variable as usize] = number + 1;
+        self.variables[index] = number + 1;
         Ok(true)
     }
 }

@@ -6,7 +6,7 @@ ghost use Rattle.kl1_store_copy.specs.Halves.{IsHalf};
 
 use crate::copied::Copied;
 use crate::half_copy::HalfCopy;
-use kl1_store::{Point, Store};
+use kl1_store::{Cell, Point, Store};
 use kl1_text::NameValue;
 use std::alloc::{AllocError, Global};
 
@@ -23,26 +23,55 @@ impl<N: NameValue> HalfCopy<N> {
     {
         let variables = point.sizes.variables as usize;
         let structures = point.sizes.structures as usize;
-        let all = self.survey.cover(variables, structures, most)?;
-        Ok(self.copied.cover(variables, structures, most)? && all)
+        if !self.survey.cover(variables, structures, most)? {
+            return Ok(false);
+        }
+        self.copied.cover(variables, structures, most)
     }
 
     /// Looks at no more than `most` cells; whether all that is reached from the first cells was found.
-    pub(crate) fn search(&mut self, old: &Store<N>, most: usize) -> Result<bool, AllocError>
+    pub(crate) fn search(&mut self, old: &Store<N>, most: u32) -> Result<bool, AllocError>
         requires { IsHalf old.now.held self.old }
         ensures { OnOk result (IsHalf old.now.held self.new) }
     {
         for _step in 0..most {
-            if !self.survey.is_done() {
-                self.survey.step(old)?;
-            } else if self.found < self.roots.len() {
-                self.survey.find(old, self.roots[self.found])?;
-                self.found += 1;
-            } else {
+            if !self.look(old)? {
                 return Ok(true);
             }
         }
         Ok(false)
+    }
+
+    /// Looks at one cell more; whether there was one.
+    fn look(&mut self, old: &Store<N>) -> Result<bool, AllocError>
+        requires { IsHalf old.now.held self.old }
+        ensures { OnOk result (IsHalf old.now.held self.new) }
+    {
+        if !self.survey.is_done() {
+            self.survey.step(old)?;
+            return Ok(true);
+        }
+        let place = self.found;
+        if place >= self.roots.len() {
+            return Ok(false);
+        }
+        let root = self.roots[place];
+        self.survey.find(old, root)?;
+        self.found = place + 1;
+        Ok(true)
+    }
+
+    /// Finds what is reached from the last variable, which is always copied, and has what it is bound to beside it.
+    pub(crate) fn reach_last(&mut self, old: &Store<N>) -> Result<(), AllocError>
+        requires { IsHalf old.now.held self.old }
+        ensures { OnOk result (IsHalf old.now.held self.new) }
+    {
+        self.cover(old, old.mark(), usize::MAX)?;
+        let count = old.mark().sizes.variables;
+        if count == 0 {
+            return Ok(());
+        }
+        self.survey.reach(old, Cell::Variable(count - 1))
     }
 
     /// Makes room once for what was found.
@@ -61,15 +90,15 @@ impl<N: NameValue> HalfCopy<N> {
     pub(crate) fn put_variables(
         &mut self,
         old: &Store<N>,
-        most: usize,
+        most: u32,
     ) -> Result<Option<bool>, AllocError>
-        requires half { IsHalf old.now.held self.old }
-        requires left { self.old.variables < self.old.since.sizes.variables - 1 }
+        requires { IsHalf old.now.held self.old }
         ensures { IfOk result (λ found. IfSome found (λ ready. IsHalf old.now.held self.new)) }
     {
         let from = self.variables;
         let last = self.since.sizes.variables.saturating_sub(1);
-        let to = (from as usize).saturating_add(most).min(last as usize) as u32;
+        let most = most.min(last.saturating_sub(from));
+        let to = from + most;
         let since = self.since.sizes.bindings;
         if !self
             .copied
@@ -124,12 +153,11 @@ impl<N: NameValue> HalfCopy<N> {
             has_room: _has_room,
         } = self;
         let since = since.sizes.bindings;
-        let count = old.mark().sizes.variables;
-        let last = count.saturating_sub(1);
+        let last = old.mark().sizes.variables.saturating_sub(1);
         if !copied.put_variables(old, &survey.variables, since, variables, last)? {
             return Ok(None);
         }
-        if !copied.put_last(old, count)? {
+        if !copied.put_last(old, last)? {
             return Ok(None);
         }
         let all = survey.order.len();

@@ -15,6 +15,15 @@ reach_each-requires-2-clause-inside c =
     let all = started c.new-shoens.result.items (shoens.cells_of m.shoens.shoens) c.add_cells-2.new.cells.items c.new-shoens.ensures.items c.in_ok-add_cells-2.ensures in
     rw (c.deref-2.ensures.value, all) (shoens_in m.store.held m.shoens.shoens c.requires.machine.inside.shoens)
 
+pub reach_each-requires-clause-half : goal.reach_each-requires-clause-half
+reach_each-requires-clause-half c = c.requires.half
+
+pub reach_each-requires-2-clause-half : goal.reach_each-requires-2-clause-half
+reach_each-requires-2-clause-half c = c.in_ok-reach_each.ensures
+
+pub finish-requires : goal.finish-requires
+finish-requires c = c.in_ok-reach_each-2.ensures
+
 pub move_each-requires-clause-copy : goal.move_each-requires-clause-copy
 move_each-requires-clause-copy c = let found = rw c.in-Some.is at c.in_ok-copied.ensures in found.0
 

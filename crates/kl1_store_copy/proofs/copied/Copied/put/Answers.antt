@@ -1,4 +1,4 @@
-use Rattle.std.proofs.Common.{sym, subst, refl, List}
+use Rattle.std.proofs.Common.{sym, subst, refl, List, arith}
 use Rattle.kl1_store.specs.declared.cell.Cell.{Cell}
 use Rattle.kl1_store.specs.Held.{arguments_of, AreIn}
 use Rattle.kl1_store_copy.specs.Copies.{FollowEach}
@@ -7,6 +7,9 @@ use Rattle.kl1_store_copy.proofs.copied.Copied.put.Goals as goal
 
 pub look-requires : goal.look-requires
 look-requires g c = c.holds.ensures.0 c.if-not-holds.false
+
+pub fill_row-requires-clause-structure : goal.fill_row-requires-clause-structure
+fill_row-requires-clause-structure g c = c.holds.ensures.0 c.if-not-holds.false
 
 pub build-requires : goal.build-requires
 build-requires g c =
@@ -21,4 +24,5 @@ returns-clause-copy g c =
     let k = c.args.self.now in
     let P : List (Cell g.row.N.Denot) → Type 0 = λ l. FollowEach old k.store.held k.back.items (arguments_of old c.args.structure) l in
     copied_next old k.store.held c.build.new.self.held k.back.items k.variables.items k.structures.items _ c.args.structure c.in_ok-number.number c.look-head.result.name c.as_slice.result.now
-    c.requires.copy c.mark.ensures.formed (c.holds.ensures.0 c.if-not-holds.false) c.look-head.ensures.name (subst P (sym c.as_slice.ensures.value) (c.in_ok-fill_row.ensures c.if-not-branch.false)) ? c.in_ok-number.ensures.ok.1 c.in_ok-number.ensures.ok.0 refl
+    c.requires.copy c.mark.ensures.formed (c.holds.ensures.0 c.if-not-holds.false) c.look-head.ensures.name (subst P (sym c.as_slice.ensures.value) (c.in_ok-fill_row.ensures c.if-not-branch.false))
+    (omega (arith, c.if-index-len.false, c.len.ensures, k.structures.ok.0)) c.in_ok-number.ensures.ok.1 c.in_ok-number.ensures.ok.0 refl
