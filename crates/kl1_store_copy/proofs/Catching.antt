@@ -46,25 +46,29 @@ none_at_all v (suc n) (b ∷ bs) e h = let p = or_parts (b.variable == v) (is_bo
 -- ---- variables that are open
 
 pub open_push : {N : Type 0} (since : ℕ) (old : Held N) (back longer : List ℕ) (v : ℕ) → longer ≡ back ++ v ∷ [] → is_bound v (take since old.bindings) ≡ false → AreOpen since old back → AreOpen since old longer
-open_push {N = N} since old back longer v pushed free open = let P : List ℕ → Type 0 = λ l. AreOpen since old l in subst P (sym pushed) (λ w lt. by w (either back v w lt))
+open_push {N = N} since old back longer v pushed free unbound = let P : List ℕ → Type 0 = λ l. AreOpen since old l in subst P (sym pushed) (λ w lt. by w (either back v w lt))
   where
     by : (w : ℕ) → (w < length back) ⊎ (w ≡ length back) → is_bound (numbered (back ++ v ∷ []) w) (take since old.bindings) ≡ false
-    by w (inl there) = ap (λ n. is_bound n (take since old.bindings)) (before_push 0 back v w there) ∙ open w there
+    by w (inl there) = ap (λ n. is_bound n (take since old.bindings)) (before_push 0 back v w there) ∙ loose w there
     by w (inr last) = ap (λ n. is_bound n (take since old.bindings)) (last_pushed 0 back v w last) ∙ free
 
 -- the last one may be bound
 pub open_last : {N : Type 0} (since : ℕ) (old : Held N) (back longer : List ℕ) (v : ℕ) → longer ≡ back ++ v ∷ [] → AreOpen since old back → AreOpenBut v since old longer
-open_last {N = N} since old back longer v pushed open = let P : List ℕ → Type 0 = λ l. AreOpenBut v since old l in subst P (sym pushed) (λ w lt other. by w other (either back v w lt))
+open_last {N = N} since old back longer v pushed unbound = let P : List ℕ → Type 0 = λ l. AreOpenBut v since old l in subst P (sym pushed) (λ w lt other. by w other (either back v w lt))
   where
     by : (w : ℕ) → (numbered (back ++ v ∷ []) w ≡ v → ⊥) → (w < length back) ⊎ (w ≡ length back) → is_bound (numbered (back ++ v ∷ []) w) (take since old.bindings) ≡ false
-    by w other (inl there) = ap (λ n. is_bound n (take since old.bindings)) (before_push 0 back v w there) ∙ open w there
+    by w other (inl there) = ap (λ n. is_bound n (take since old.bindings)) (before_push 0 back v w there) ∙ loose w there
     by w other (inr last) = absurd (other (last_pushed 0 back v w last))
 
+-- so may it be if it was there
+pub open_but : {N : Type 0} (last since : ℕ) (old : Held N) (back : List ℕ) → AreOpen since old back → AreOpenBut last since old back
+open_but last since old back loose = λ w lt other. loose w lt
+
 pub open_later : {N : Type 0} (since : ℕ) (old next : Held N) (back : List ℕ) → Grown old next → since ≤ length old.bindings → AreOpen since old back → AreOpen since next back
-open_later {N = N} since old next back grown le open =
+open_later {N = N} since old next back grown le loose =
     λ w lt.
     let same : take since next.bindings ≡ take since old.bindings = sym (take-take since (length old.bindings) next.bindings le) ∙ ap (take since) grown.bindings in
-    ap (is_bound (numbered back w)) same ∙ open w lt
+    ap (is_bound (numbered back w)) same ∙ loose w lt
 
 -- ---- a binding more
 
@@ -115,10 +119,10 @@ AreCaughtBut left old c = (w : ℕ) → w < length c.back.items → is_bound w c
 -- at first these are the last variable and those that were bound since the copy was begun
 pub caught_first : {N : Type 0} (since last : ℕ) (old : Held N) (c d : Copied N) (left : List ℕ) → left ≡ variables_of (drop since old.bindings) → AreOpenBut last since old c.back.items → d.back ≡ c.back → IsBoundToo last old c d →
     AreCaughtBut left old d
-caught_first {N = N} since last old c d left is open same bound =
+caught_first {N = N} since last old c d left is loose same bound =
     let P : List ℕ → Type 0 = λ l. AreCaughtBut l old d in
     let O : _ → Type 0 = λ b. AreOpenBut last since old b.items in
-    let opened : AreOpenBut last since old d.back.items = subst O (sym same) open in
+    let opened : AreOpenBut last since old d.back.items = subst O (sym same) loose in
     subst P (sym is) (λ w lt free other. by w lt free other opened (cases_eq (numbered d.back.items w) last))
   where
     by : (w : ℕ) → w < length d.back.items → is_bound w d.store.held.bindings ≡ false → IsNoneOf (variables_of (drop since old.bindings)) (numbered d.back.items w) → AreOpenBut last since old d.back.items →

@@ -1,5 +1,5 @@
 -- A copy that is made in slices stays right while its store grows.
-use Rattle.std.proofs.Common.{◌≡◌, ℕ, ◌-◌, ◌<◌, ◌≤◌, List, [], length, sym, ◌∙◌, subst, arith}
+use Rattle.std.proofs.Common.{◌≡◌, ℕ, ◌<◌, ◌≤◌, List, [], length, sym, ◌∙◌, subst, arith}
 use Rattle.std.specs.Global.{Vec}
 use Rattle.kl1_store.specs.declared.cell.Cell.{Cell}
 use Rattle.kl1_store.specs.declared.cell.Cell.TheVariants.{Variable, Structure}
@@ -33,7 +33,7 @@ half_later old next h formed grown p = record {
   copied = copied_later old next h.copied.store.held h.copied.back.items h.copied.variables.items h.copied.structures.items formed grown p.copied;
   gone = p.gone;
   few = p.few;
-  open = open_later h.since.sizes.bindings old next h.copied.back.items grown p.past p.open;
+  unbound = open_later h.since.sizes.bindings old next h.copied.back.items grown p.past p.unbound;
   known = omega (arith, p.known, grown.variables);
   past = omega (arith, p.past, as_long old.bindings next.bindings grown.bindings);
   inside = AreWithin-more old.variables (length old.structures) next.variables (length next.structures) h.roots.items grown.variables (as_long old.structures next.structures grown.structures) p.inside;
@@ -49,7 +49,7 @@ half_begun {N = N} old c roots count since so nothing hooks all bound inside = r
   copied = so;
   gone = none_gone c.back.items nothing;
   few = omega arith;
-  open = let P : List ℕ → Type 0 = λ l. AreOpen since old l in subst P (sym nothing) (λ w lt. absurd (omega (arith, lt)));
+  unbound = let P : List ℕ → Type 0 = λ l. AreOpen since old l in subst P (sym nothing) (λ w lt. absurd (omega (arith, lt)));
   known = omega (arith, all);
   past = omega (arith, bound);
   inside = inside;
@@ -63,7 +63,7 @@ half_more {N = N} old c d roots count since next h so back hooks = record {
   copied = so;
   gone = let P : Vec ℕ → Type 0 = λ b. IsGone next b.items in subst P (sym back) h.gone;
   few = h.few;
-  open = let P : Vec ℕ → Type 0 = λ b. AreOpen since old b.items in subst P (sym back) h.open;
+  unbound = let P : Vec ℕ → Type 0 = λ b. AreOpen since old b.items in subst P (sym back) h.unbound;
   known = h.known;
   past = h.past;
   inside = h.inside;
@@ -71,13 +71,13 @@ half_more {N = N} old c d roots count since next h so back hooks = record {
 }
 
 -- variables were gone over
-pub half_put : {N : Type 0} (old : Held N) (c d : Copied N) (roots : List (Cell N)) (count since next to : ℕ) → AreHalf old c roots count since next → IsSoFar old d → IsGone to d.back.items → AreOpen since old d.back.items → to ≤ count - 1 →
+pub half_put : {N : Type 0} (old : Held N) (c d : Copied N) (roots : List (Cell N)) (count since next to : ℕ) → AreHalf old c roots count since next → IsSoFar old d → IsGone to d.back.items → AreOpen since old d.back.items → to ≤ count →
     d.store.hooks ≡ c.store.hooks → AreHalf old d roots count since to
-half_put old c d roots count since next to h so gone open few hooks = record {
+half_put old c d roots count since next to h so gone loose few hooks = record {
   copied = so;
   gone = gone;
   few = few;
-  open = open;
+  unbound = loose;
   known = h.known;
   past = h.past;
   inside = h.inside;

@@ -1,7 +1,7 @@
 -- Numbers that rise, and how they go on.
 use Rattle.std.proofs.Common.{◌≡◌, ℕ, zero, suc, ◌+◌, ◌-◌, ◌<◌, ◌≤◌, List, [], ◌∷◌, ◌++◌, length, map, get_or, refl, sym, ap, ◌∙◌, ◌⊎◌, inl, inr, arith, length-append}
 use Rattle.kl1_store_copy.specs.Numbers.{after, AreRising, number_from, numbered}
-use Rattle.kl1_store_copy.specs.Copies.{HasEnds, IsGone}
+use Rattle.kl1_store_copy.specs.Copies.{HasFirst, HasEnds, IsGone}
 
 -- the numbers that were there stay beside one more
 pub before_push : (next : ℕ) (back : List ℕ) (v w : ℕ) → w < length back → number_from next (back ++ v ∷ []) w ≡ number_from next back w
@@ -109,7 +109,7 @@ some : (v : ℕ) → (v ≡ 0 → ⊥) → 0 < v
 some zero not = absurd (not refl)
 some (suc v) not = omega arith
 
-first_pushed : (back : List ℕ) (v : ℕ) → AreRising 0 back → after 0 back ≤ v → (0 < v → (0 < length back) × (numbered back 0 ≡ 0)) → numbered (back ++ v ∷ []) 0 ≡ 0
+first_pushed : (back : List ℕ) (v : ℕ) → AreRising 0 back → after 0 back ≤ v → (0 < v → HasFirst back) → numbered (back ++ v ∷ []) 0 ≡ 0
 first_pushed [] zero h le known = refl
 first_pushed [] (suc v) h le known = absurd (omega (arith, (known (omega arith)).0))
 first_pushed (x ∷ back) zero h le known = absurd (omega (arith, after_least (suc x) back h.1, le))
@@ -132,10 +132,41 @@ pub gone_skip : (variable : ℕ) (back : List ℕ) → (variable ≡ 0 → ⊥) 
 gone_skip variable back other u = record { below = omega (arith, u.below); first = λ _. u.first (some variable other) }
 
 -- the last variable more
-pub ends_push : (variable count : ℕ) (back : List ℕ) → AreRising 0 back → suc variable ≡ count → IsGone variable back → HasEnds count (back ++ variable ∷ [])
-ends_push variable count back h last u = record { first = first_pushed back variable h u.below u.first; last = after_push 0 back variable ∙ last }
+pub ends_push : (variable count : ℕ) (back : List ℕ) → AreRising 0 back → suc variable ≡ count → after 0 back ≤ variable → (0 < variable → HasFirst back) → HasEnds count (back ++ variable ∷ [])
+ends_push variable count back h last below known = record { first = first_pushed back variable h below known; last = after_push 0 back variable ∙ last }
+
+-- the number after the last is one more
+pub after_last : (next : ℕ) (back : List ℕ) (i d : ℕ) → length back ≡ suc i → after next back ≡ suc (get_or back i d)
+after_last next [] i d e = absurd (omega (arith, e))
+after_last next (x ∷ []) zero d e = refl
+after_last next (x ∷ []) (suc i) d e = absurd (omega (arith, e))
+after_last next (x ∷ y ∷ back) zero d e = absurd (omega (arith, e))
+after_last next (x ∷ y ∷ back) (suc i) d e = after_last (suc x) (y ∷ back) i d (omega (arith, e))
+
+pub after_none : (back : List ℕ) (v : ℕ) → length back ≡ 0 → after 0 back ≡ suc v → ⊥
+after_none [] v e is = omega (arith, is)
+after_none (x ∷ back) v e is = omega (arith, e)
+
+-- it was there already
+pub ends_there : (count : ℕ) (back : List ℕ) → AreRising 0 back → after 0 back ≡ count → 0 < count → (0 < count - 1 → HasFirst back) → HasEnds count back
+ends_there count [] h last some known = absurd (omega (arith, last, some))
+ends_there count (zero ∷ back) h last some known = record { first = refl; last = last }
+ends_there count (suc x ∷ back) h last some known =
+    let more = after_least (suc (suc x)) back h.1 in
+    record { first = (known (omega (arith, more, last))).1; last = last }
 
 -- of no variables there is no last one
-pub ends_none : (count last : ℕ) (back : List ℕ) → AreRising 0 back → count ≡ 0 → last ≡ count - 1 → IsGone last back → HasEnds count back
-ends_none count last [] h none is u = record { first = refl; last = sym none }
-ends_none count last (x ∷ back) h none is u = absurd (omega (arith, after_least (suc x) back h.1, u.below, none, is))
+pub ends_none : (count : ℕ) (back : List ℕ) → AreRising 0 back → count ≡ 0 → after 0 back ≤ count → HasEnds count back
+ends_none count [] h none few = record { first = refl; last = sym none }
+ends_none count (x ∷ back) h none few = absurd (omega (arith, after_least (suc x) back h.1, few, none))
+
+either_way : (a v n : ℕ) → a ≤ n → v ≡ n - 1 → 0 < n → (a ≤ v) ⊎ (a ≡ suc v)
+either_way a v n few is some = grind arith
+
+-- another one comes before it
+pub not_last : (back : List ℕ) (last count : ℕ) → (after 0 back ≡ suc last → ⊥) → after 0 back ≤ count → last ≡ count - 1 → 0 < count → after 0 back ≤ last
+not_last back last count other few is some = by (either_way (after 0 back) last count few is some)
+  where
+    by : (after 0 back ≤ last) ⊎ (after 0 back ≡ suc last) → after 0 back ≤ last
+    by (inl le) = le
+    by (inr e) = absurd (other e)

@@ -89,10 +89,14 @@ pub record IsCopyOf {N : Type 0} (old : Held N) (c : Copied N) : Type 0 where
 
 -- ---- on the way
 
+-- the first variable is among those with these numbers
+abbrev pub HasFirst : List ℕ → Type 0
+HasFirst back = (0 < length back) × (numbered back 0 ≡ 0)
+
 -- of the variables those below a number were gone over: none but these was copied, and of them the first
 pub record IsGone (variable : ℕ) (back : List ℕ) : Type 0 where
   pub below : after 0 back ≤ variable
-  pub first : 0 < variable → (0 < length back) × (numbered back 0 ≡ 0)
+  pub first : 0 < variable → HasFirst back
 
 -- none that was copied is bound by the store's first bindings
 abbrev pub AreOpen : {N : Type 0} → ℕ → Held N → List ℕ → Type 0

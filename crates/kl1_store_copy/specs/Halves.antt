@@ -1,5 +1,5 @@
 -- Copies that are made in slices.
-use Rattle.std.specs.Prelude.{◌≡◌, ℕ, ◌-◌, ◌≤◌, List, [], length}
+use Rattle.std.specs.Prelude.{◌≡◌, ℕ, ◌≤◌, List, [], length}
 use Rattle.kl1_store.specs.declared.cell.Cell.{Cell}
 use Rattle.kl1_store.specs.Held.{Held, AreIn}
 use Rattle.kl1_store_copy.specs.declared.copied.Copied.{Copied}
@@ -11,8 +11,8 @@ use Rattle.kl1_store_copy.specs.Copies.{IsSoFar, IsGone, AreOpen}
 pub record AreHalf {N : Type 0} (old : Held N) (c : Copied N) (roots : List (Cell N)) (count since next : ℕ) : Type 0 where
   pub copied : IsSoFar old c
   pub gone : IsGone next c.back.items
-  pub few : next ≤ count - 1
-  pub open : AreOpen since old c.back.items
+  pub few : next ≤ count
+  pub unbound : AreOpen since old c.back.items
   pub known : count ≤ old.variables
   pub past : since ≤ length old.bindings
   pub inside : AreIn old roots

@@ -38,7 +38,7 @@ impl<N: NameValue> Copied<N> {
         let walked = old.walk(cell);
         match walked {
             Cell::Variable(variable) => match place_in(&self.variables, variable) {
-                None => None,
+                None => self.on_the_way(old, cell),
                 Some(place) => Some(Cell::Variable(place)),
             },
             Cell::Integer(_) => Some(walked),

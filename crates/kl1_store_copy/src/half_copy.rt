@@ -37,9 +37,10 @@ impl<N: NameValue> HalfCopy<N> {
         ensures { IfOk result (IsHalf old.now.held) }
     {
         let since = old.mark();
-        let variables = since.sizes.variables as usize;
-        let structures = since.sizes.structures as usize;
-        let survey = Survey::new(alloc, variables, structures)?;
+        let sizes = since.sizes;
+        let variables = sizes.variables as usize;
+        let structures = sizes.structures as usize;
+        let survey = Survey::new(alloc, variables, structures, sizes.bindings)?;
         let copied = Copied::blank(alloc, variables, structures)?;
         Ok(HalfCopy {
             survey,
@@ -73,8 +74,7 @@ impl<N: NameValue> HalfCopy<N> {
             return Ok(Some(false));
         }
         self.make_room(old)?;
-        // The last variable comes at the end.
-        if self.variables < self.since.sizes.variables.saturating_sub(1) {
+        if self.variables < self.since.sizes.variables {
             return self.put_variables(old, most.saturating_mul(4));
         }
         if self.structures < self.survey.order.len() {

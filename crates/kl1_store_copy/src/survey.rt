@@ -16,7 +16,7 @@ struct Visit {
 }
 
 /// What was found of a store: for each variable and each structure whether it was, and the structures in an order in which each stands
-/// after those in its arguments.
+/// after those in its arguments; and how many bindings the store had when the search was begun.
 ///
 /// No clause says so: who copies looks whether all that is needed was found in such an order, and gives up if it wasn't.
 #[derive(Drop)]
@@ -25,6 +25,7 @@ pub(crate) struct Survey {
     structures: Vec<bool>,
     pub(crate) order: Vec<u32>,
     stack: Vec<Visit>,
+    since: usize,
 }
 
 impl Survey {
@@ -33,12 +34,14 @@ impl Survey {
         alloc: Global,
         variables: usize,
         structures: usize,
+        since: usize,
     ) -> Result<Self, AllocError> {
         Ok(Survey {
             variables: Vec::with_capacity(alloc, variables)?,
             structures: Vec::with_capacity(alloc, structures)?,
             order: Vec::new(alloc),
             stack: Vec::new(alloc),
+            since,
         })
     }
 
@@ -111,7 +114,8 @@ impl Survey {
         Ok(())
     }
 
-    /// Finds what a cell stands for. A structure that wasn't found before is put on the stack.
+    /// Finds what a cell stands for. A structure that wasn't found before is put on the stack; for one that came since the search was begun
+    /// the variable that was bound to it is found.
     pub(crate) fn find<N: NameValue>(
         &mut self,
         store: &Store<N>,
@@ -121,15 +125,43 @@ impl Survey {
     {
         match store.walk(cell) {
             Cell::Variable(variable) => {
-                let place = variable as usize;
-                if place < self.variables.len() {
-                    self.variables[place] = true;
-                }
+                self.mark(variable);
                 Ok(())
             }
             Cell::Integer(_) => Ok(()),
             Cell::Atom(_) => Ok(()),
-            Cell::Structure(structure) => self.visit(store, structure),
+            Cell::Structure(structure) => {
+                if structure as usize >= self.structures.len() {
+                    self.find_on_the_way(store, cell);
+                    return Ok(());
+                }
+                self.visit(store, structure)
+            }
+        }
+    }
+
+    /// Finds the first variable, of those that a cell stands for one after another, that was unbound when the search was begun.
+    fn find_on_the_way<N: NameValue>(&mut self, store: &Store<N>, cell: Cell<N>)
+        requires { IsIn store.now.held cell }
+    {
+        let mut at = cell;
+        while let Cell::Variable(variable) = at {
+            if !store.is_bound_before(variable, self.since) {
+                self.mark(variable);
+                return;
+            }
+            let Some(next) = store.value(variable) else {
+                return;
+            };
+            at = next;
+        }
+    }
+
+    /// Marks a variable as found.
+    fn mark(&mut self, variable: u32) {
+        let place = variable as usize;
+        if place < self.variables.len() {
+            self.variables[place] = true;
         }
     }
 

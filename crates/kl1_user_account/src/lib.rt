@@ -9,6 +9,7 @@ mod collection;
 mod counted;
 mod forgettable;
 mod given;
+mod half;
 mod labels;
 mod line_length;
 mod loading;

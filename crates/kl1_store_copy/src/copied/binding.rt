@@ -14,7 +14,7 @@ impl<N: NameValue> Copied<N> {
     /// its value stands. If one isn't there, it says so. After an error the copy is of no use.
     pub(crate) fn bind_each(&mut self, old: &Store<N>, since: usize) -> Result<bool, AllocError>
         requires copy { IsSoFar old.now.held self.old }
-        requires open { AreOpenBut (old.now.held.variables - 1) since old.now.held self.old.back.items }
+        requires unbound { AreOpenBut (old.now.held.variables - 1) since old.now.held self.old.back.items }
         ensures copy { OnOk result (IsSoFar old.now.held self.new) }
         ensures caught { IfOk result (λ all. all ≡ true → IsCaughtUp old.now.held self.new) }
         ensures back { self.new.back ≡ self.old.back }

@@ -1,7 +1,7 @@
 // The variables of a copy.
 
-ghost use Rattle.std.specs.Prelude.{◌≡◌, ◌+◌, ◌<◌, ◌≤◌, ◌-◌, ◌∷◌, ◌++◌, [], true, ℕ, length, IfOk, OnOk};
-ghost use Rattle.kl1_store_copy.specs.Copies.{IsSoFar, HasEnds, IsGone, AreOpen, AreOpenBut};
+ghost use Rattle.std.specs.Prelude.{◌≡◌, ◌+◌, ◌<◌, ◌≤◌, ◌-◌, ◌∷◌, ◌++◌, [], true, false, ℕ, suc, length, IfOk, OnOk};
+ghost use Rattle.kl1_store_copy.specs.Copies.{IsSoFar, HasFirst, HasEnds, IsGone, AreOpen, AreOpenBut};
 ghost use Rattle.kl1_store_copy.specs.Numbers.{after};
 
 use crate::copied::Copied;
@@ -26,12 +26,12 @@ impl<N: NameValue> Copied<N> {
     ) -> Result<bool, AllocError>
         requires copy { IsSoFar old.now.held self.old }
         requires gone { IsGone from self.old.back.items }
-        requires open { AreOpen since old.now.held self.old.back.items }
-        requires order { from ≤ to }
+        requires unbound { AreOpen since old.now.held self.old.back.items }
         requires within { to ≤ old.now.held.variables }
         ensures copy { OnOk result (IsSoFar old.now.held self.new) }
-        ensures gone { IfOk result (λ all. all ≡ true → IsGone to self.new.back.items) }
-        ensures open { IfOk result (λ all. all ≡ true → AreOpen since old.now.held self.new.back.items) }
+        ensures gone { IfOk result (λ all. all ≡ true → from ≤ to → IsGone to self.new.back.items) }
+        ensures first { IfOk result (λ all. all ≡ true → 0 < to → HasFirst self.new.back.items) }
+        ensures unbound { IfOk result (λ all. all ≡ true → AreOpen since old.now.held self.new.back.items) }
         ensures hooks { self.new.store.hooks ≡ self.old.store.hooks }
     {
         for variable in from..to {
@@ -52,11 +52,11 @@ impl<N: NameValue> Copied<N> {
     ) -> Result<bool, AllocError>
         requires copy { IsSoFar old.now.held self.old }
         requires gone { IsGone variable self.old.back.items }
-        requires open { AreOpen since old.now.held self.old.back.items }
+        requires unbound { AreOpen since old.now.held self.old.back.items }
         requires within { variable < old.now.held.variables }
         ensures copy { OnOk result (IsSoFar old.now.held self.new) }
         ensures gone { IfOk result (λ all. all ≡ true → IsGone (variable + 1) self.new.back.items) }
-        ensures open { IfOk result (λ all. all ≡ true → AreOpen since old.now.held self.new.back.items) }
+        ensures unbound { IfOk result (λ all. all ≡ true → AreOpen since old.now.held self.new.back.items) }
         ensures hooks { self.new.store.hooks ≡ self.old.store.hooks }
     {
         if !is_copied(found, variable) {
@@ -69,18 +69,21 @@ impl<N: NameValue> Copied<N> {
         self.put_variable(old, variable)
     }
 
-    /// Copies the last variable, which may be bound, if there is one.
+    /// Copies the last variable, which may be bound, if there is one and it isn't there yet.
     pub(crate) fn put_last(&mut self, old: &Store<N>, last: u32) -> Result<bool, AllocError>
         requires copy { IsSoFar old.now.held self.old }
-        requires gone { IsGone last self.old.back.items }
+        requires first { 0 < last → HasFirst self.old.back.items }
         requires last { last ≡ old.now.held.variables - 1 }
         ensures copy { OnOk result (IsSoFar old.now.held self.new) }
         ensures ends { IfOk result (λ all. all ≡ true → HasEnds old.now.held.variables self.new.back.items) }
-        ensures open { IfOk result (λ all. all ≡ true → (since : ℕ) → AreOpen since old.now.held self.old.back.items → AreOpenBut last since old.now.held self.new.back.items) }
+        ensures unbound { IfOk result (λ all. all ≡ true → (since : ℕ) → AreOpen since old.now.held self.old.back.items → AreOpenBut last since old.now.held self.new.back.items) }
         ensures hooks { self.new.store.hooks ≡ self.old.store.hooks }
     {
         let count = old.mark().sizes.variables;
         if count == 0 {
+            return Ok(true);
+        }
+        if ends_with(&self.back, last) {
             return Ok(true);
         }
         self.put_variable(old, last)
@@ -107,6 +110,19 @@ impl<N: NameValue> Copied<N> {
         self.variables[index] = number + 1;
         Ok(true)
     }
+}
+
+/// Whether the last of some numbers is this.
+fn ends_with(numbers: &Vec<u32>, last: u32) -> bool
+    ensures there { result ≡ true → after 0 numbers.now.items ≡ suc last }
+    ensures other { result ≡ false → after 0 numbers.now.items ≡ suc last → ⊥ }
+{
+    let count = numbers.len();
+    if count == 0 {
+        return false;
+    }
+    let number = numbers[count - 1];
+    number == last
 }
 
 /// Whether a variable is to be copied: it was found, or it is the first.

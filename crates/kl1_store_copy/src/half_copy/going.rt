@@ -1,6 +1,6 @@
 // The parts of a slice.
 
-ghost use Rattle.std.specs.Prelude.{◌≡◌, [], ◌<◌, ◌-◌, IfOk, IfSome, OnOk};
+ghost use Rattle.std.specs.Prelude.{◌≡◌, [], IfOk, IfSome, OnOk};
 ghost use Rattle.kl1_store_copy.specs.Copies.{IsCopyOf};
 ghost use Rattle.kl1_store_copy.specs.Halves.{IsHalf};
 
@@ -86,7 +86,7 @@ impl<N: NameValue> HalfCopy<N> {
         self.copied.make_room(old, self.survey.order.len())
     }
 
-    /// Goes over no more than `most` variables, up to the last one that there was at the beginning.
+    /// Goes over no more than `most` variables of those that there were at the beginning.
     pub(crate) fn put_variables(
         &mut self,
         old: &Store<N>,
@@ -96,8 +96,7 @@ impl<N: NameValue> HalfCopy<N> {
         ensures { IfOk result (λ found. IfSome found (λ ready. IsHalf old.now.held self.new)) }
     {
         let from = self.variables;
-        let last = self.since.sizes.variables.saturating_sub(1);
-        let most = most.min(last.saturating_sub(from));
+        let most = most.min(self.since.sizes.variables.saturating_sub(from));
         let to = from + most;
         let since = self.since.sizes.bindings;
         if !self

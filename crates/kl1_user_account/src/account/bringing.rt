@@ -11,6 +11,7 @@ ghost use Rattle.kl1_machine.specs.Bringing.{change_of};
 ghost use Rattle.kl1_user_account.specs.Bringing.{MayBring};
 
 use crate::account::Account;
+use crate::half::kept_if;
 use crate::name_rows::rows_for;
 use crate::runs::note_entry;
 use kl1_atoms::AtomSource;
@@ -53,6 +54,7 @@ impl<C: CodeSource> Account<C> {
             spares,
         );
         self.machine.or_back(done)?;
+        self.half = kept_if(self.half.take(), texts.is_empty());
         self.machine.publish_names(
             names,
             seat,

@@ -17,7 +17,7 @@ const LEAST: u64 = 4_194_304;
 const AT_ONCE: u64 = 33_554_432;
 
 /// How many cells are looked at, or structures copied, in a slice of a collection: some 3 ms.
-const SLICE: usize = 20_000;
+const SLICE: u32 = 20_000;
 
 impl<C: CodeSource> Account<C> {
     /// Collects if it is due: the store's lists take twice what they took after the last collection, and `LEAST` bytes. So all

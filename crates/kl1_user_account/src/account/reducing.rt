@@ -11,6 +11,7 @@ ghost use Rattle.kl1_user_events.specs.Views.{reduced_or};
 ghost use Rattle.kl1_codes.specs.Numbered.{ArePlaced};
 
 use crate::account::Account;
+use crate::half::kept_if;
 use crate::runs::note_reduction;
 use kl1_atoms::AtomSource;
 use kl1_codes::{CodeSource, CodedModules};
@@ -55,6 +56,7 @@ impl<C: CodeSource> Account<C> {
         if let Some(refusal) = refused {
             return Ok(Some(refusal));
         }
+        self.half = kept_if(self.half.take(), self.machine.name.is_none());
         self.machine.publish_name(names, seat);
         note_reduction(&mut self.entries, &mut self.run, in_run);
         Ok(None)

@@ -7,7 +7,7 @@ loop-left-init g c =
     let old = c.args.old.now.held in
     record {
       copy = c.in_ok-bind_last.ensures.copy;
-      caught = caught_first c.args.since _ old c.args.self.now c.bind_last.new.self c.bound_since-left.result.now c.bound_since-left.ensures c.requires.open c.bind_last.ensures.back (c.in_ok-bind_last.ensures.bound c.if-not-branch.false);
+      caught = caught_first c.args.since _ old c.args.self.now c.bind_last.new.self c.bound_since-left.result.now c.bound_since-left.ensures c.requires.unbound c.bind_last.ensures.back (c.in_ok-bind_last.ensures.bound c.if-not-branch.false);
       within = since_within old c.args.since c.bound_since-left.result.now c.mark.ensures.formed c.bound_since-left.ensures;
       back = c.bind_last.ensures.back;
       hooks = c.bind_last.ensures.hooks;

@@ -16,7 +16,7 @@ returns-clause-gone g c =
     let P : List ℕ → Type 0 = λ l. IsGone (c.args.variable + 1) l in
     all_weaker c.put_variable.result (λ pushed. subst P (sym pushed) (gone_push c.args.variable c.args.self.now.back.items c.requires.copy.rising c.requires.gone)) c.put_variable.ensures.back
 
-pub returns-clause-open : goal.returns-clause-open
-returns-clause-open g c =
-    all_weaker c.put_variable.result (λ pushed. open_push c.args.since c.args.old.now.held c.args.self.now.back.items c.put_variable.new.self.back.items c.args.variable pushed (sym c.is_bound_before.ensures ∙ c.if-is_bound_before.false) c.requires.open)
+pub returns-clause-unbound : goal.returns-clause-unbound
+returns-clause-unbound g c =
+    all_weaker c.put_variable.result (λ pushed. open_push c.args.since c.args.old.now.held c.args.self.now.back.items c.put_variable.new.self.back.items c.args.variable pushed (sym c.is_bound_before.ensures ∙ c.if-is_bound_before.false) c.requires.unbound)
     c.put_variable.ensures.back

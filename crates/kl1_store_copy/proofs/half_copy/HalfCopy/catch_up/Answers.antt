@@ -8,11 +8,8 @@ put_variables-requires-clause-copy g c = c.requires.copied
 pub put_variables-requires-clause-gone : goal.put_variables-requires-clause-gone
 put_variables-requires-clause-gone g c = c.requires.gone
 
-pub put_variables-requires-clause-open : goal.put_variables-requires-clause-open
-put_variables-requires-clause-open g c = c.requires.open
-
-pub put_variables-requires-clause-order : goal.put_variables-requires-clause-order
-put_variables-requires-clause-order g c = omega (arith, c.requires.few, c.requires.known, c.saturating_sub-last.ensures, ap (λ (p : Point). p.sizes.variables) c.mark.ensures.point)
+pub put_variables-requires-clause-unbound : goal.put_variables-requires-clause-unbound
+put_variables-requires-clause-unbound g c = c.requires.unbound
 
 pub put_variables-requires-clause-within : goal.put_variables-requires-clause-within
 put_variables-requires-clause-within g c = omega (arith, c.saturating_sub-last.ensures, ap (λ (p : Point). p.sizes.variables) c.mark.ensures.point)
@@ -20,8 +17,8 @@ put_variables-requires-clause-within g c = omega (arith, c.saturating_sub-last.e
 pub put_last-requires-clause-copy : goal.put_last-requires-clause-copy
 put_last-requires-clause-copy g c = c.in_ok-put_variables.ensures.copy
 
-pub put_last-requires-clause-gone : goal.put_last-requires-clause-gone
-put_last-requires-clause-gone g c = c.in_ok-put_variables.ensures.gone c.if-not-branch.false
+pub put_last-requires-clause-first : goal.put_last-requires-clause-first
+put_last-requires-clause-first g c = c.in_ok-put_variables.ensures.first c.if-not-branch.false
 
 pub put_last-requires-clause-last : goal.put_last-requires-clause-last
 put_last-requires-clause-last g c = omega (arith, c.saturating_sub-last.ensures, ap (λ (p : Point). p.sizes.variables) c.mark.ensures.point)
@@ -32,11 +29,11 @@ put_structures-requires-clause-copy g c = c.in_ok-put_last.ensures.copy
 pub bind_each-requires-clause-copy : goal.bind_each-requires-clause-copy
 bind_each-requires-clause-copy g c = c.in_ok-put_structures.ensures.copy
 
-pub bind_each-requires-clause-open : goal.bind_each-requires-clause-open
-bind_each-requires-clause-open g c =
+pub bind_each-requires-clause-unbound : goal.bind_each-requires-clause-unbound
+bind_each-requires-clause-unbound g c =
     let last = omega (arith, c.saturating_sub-last.ensures, ap (λ (p : Point). p.sizes.variables) c.mark.ensures.point) in
-    let open = c.in_ok-put_last.ensures.open c.if-not-branch-2.false c.args.self.since.sizes.bindings (c.in_ok-put_variables.ensures.open c.if-not-branch.false) in
-    rw (c.put_structures.ensures.back, ← last) open
+    let unbound = c.in_ok-put_last.ensures.unbound c.if-not-branch-2.false c.args.self.since.sizes.bindings (c.in_ok-put_variables.ensures.unbound c.if-not-branch.false) in
+    rw (c.put_structures.ensures.back, ← last) loose
 
 pub keep_fingers-requires : goal.keep_fingers-requires
 keep_fingers-requires g c = record {
