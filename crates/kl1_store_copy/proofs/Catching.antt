@@ -1,5 +1,6 @@
 -- A copy catches up with its store: variables that the store has bound since it was begun are bound in it.
 use Rattle.std.proofs.Common.{◌≡◌, ℕ, zero, suc, ◌+◌, ◌-◌, ◌<◌, ◌≤◌, ◌==◌, Bool, true, false, ◌||◌, List, [], ◌∷◌, ◌++◌, length, get_or, take, drop, refl, sym, ap, ◌∙◌, ◌⊎◌, inl, inr, arith, subst}
+use Rattle.std.specs.Global.{Vec}
 use Rattle.std.specs.List.{AllByRecursion}
 use Rattle.std.specs.Prelude.{Result, Ok, Err, IfOk}
 use Rattle.std.proofs.lemmas.Bool.{cases_eq, eq-eqb, ne_eqb, or_parts, or_from, false≢true, true≢false}
@@ -121,7 +122,7 @@ pub caught_first : {N : Type 0} (since last : ℕ) (old : Held N) (c d : Copied 
     AreCaughtBut left old d
 caught_first {N = N} since last old c d left is loose same bound =
     let P : List ℕ → Type 0 = λ l. AreCaughtBut l old d in
-    let O : _ → Type 0 = λ b. AreOpenBut last since old b.items in
+    let O : Vec ℕ → Type 0 = λ b. AreOpenBut last since old b.items in
     let opened : AreOpenBut last since old d.back.items = subst O (sym same) loose in
     subst P (sym is) (λ w lt free other. by w lt free other opened (cases_eq (numbered d.back.items w) last))
   where
@@ -144,9 +145,9 @@ caught_more {N = N} old c d v (n ∷ left) le is same bound so =
         let here : numbered d.back.items w ≡ v = sym e ∙ sym is in
         ap (λ m. is_bound m old.bindings) here ∙ bound.bound w lt here free
     by w lt free other (inr ne) =
-        let B : _ → Type 0 = λ b. w < length b.items in
-        let N1 : _ → Type 0 = λ b. IsNoneOf (n ∷ left) (numbered b.items w) in
-        ap (λ b. is_bound (numbered b.items w) old.bindings) same ∙ so w (subst B same lt) (bound.still w free) (subst N1 same (ne, other))
+        let B : Vec ℕ → Type 0 = λ b. w < length b.items in
+        let N1 : Vec ℕ → Type 0 = λ b. IsNoneOf (n ∷ left) (numbered b.items w) in
+        ap (λ (b : Vec ℕ). is_bound (numbered b.items w) old.bindings) same ∙ so w (subst B same lt) (bound.still w free) (subst N1 same (ne, other))
 
 -- none is left
 pub caught_all : {N : Type 0} (old : Held N) (c : Copied N) (left : List ℕ) → length left < 1 → AreCaughtBut left old c → IsCaughtUp old c
@@ -184,7 +185,7 @@ pub bound_now : {N : Type 0} (old : Held N) (c d : Copied N) (v place : ℕ) (z 
 bound_now {N = N} old c d v place z so at same grown =
     let H : Held N → Type 0 = λ h. (w : ℕ) → is_bound w h.bindings ≡ false → (is_bound w c.store.held.bindings ≡ false) × (place == w ≡ false) in
     let parts : H d.store.held = subst H (sym grown) (λ w e. unbound_push w c.store.held.bindings (record { variable = place; value = z }) e) in
-    let B : _ → Type 0 = λ b. (w : ℕ) → w < length b.items → numbered b.items w ≡ v → w ≡ place in
+    let B : Vec ℕ → Type 0 = λ b. (w : ℕ) → w < length b.items → numbered b.items w ≡ v → w ≡ place in
     let here : B d.back = subst B (sym same) (λ w lt is. at_place old c v w place so at lt is) in
     record {
       bound = λ w lt is free. absurd (false≢true (sym (parts w free).1 ∙ eq-eqb place w (sym (here w lt is))));

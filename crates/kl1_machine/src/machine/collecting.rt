@@ -24,15 +24,6 @@ pub struct MachineCopy {
 }
 
 impl Machine {
-    /// A copy of what the goals and the shoens reach, made at once; `None` if the search left something out.
-    pub fn copied(&self, alloc: Global) -> Result<Option<MachineCopy>, AllocError>
-        requires { IsMachine self.now }
-        ensures { IfOk result (λ found. IfSome found (IsCopyFor self.now)) }
-    {
-        let half = HalfCopy::begin(alloc, &self.store, Vec::new(alloc))?;
-        self.finish_copy(alloc, half)
-    }
-
     /// Begins a copy of what the goals and the shoens reach, to be made in slices between events.
     pub fn begin_copy(&self, alloc: Global) -> Result<HalfCopy<CellName>, AllocError>
         requires { IsMachine self.now }

@@ -1,6 +1,7 @@
 // What nothing reaches any more is given back.
 
 ghost use Rattle.std.specs.Prelude.{◌≡◌};
+ghost use Rattle.kl1_store_copy.specs.Halves.{IsHalf};
 ghost use Rattle.kl1_user_effects.specs.Fitting.{Reading};
 ghost use Rattle.kl1_user_account.specs.Collecting.{HasBytes};
 ghost use Rattle.kl1_user_effects.specs.Account.{state_of};
@@ -8,6 +9,8 @@ ghost use Rattle.kl1_user_effects.specs.Account.{state_of};
 use crate::account::Account;
 use crate::collection::Collection;
 use kl1_codes::CodeSource;
+use kl1_store_copy::HalfCopy;
+use kl1_text::CellName;
 use std::alloc::AllocError;
 
 /// How many bytes may come to a store after a collection beside as many as were left, before the next one is due.
@@ -28,22 +31,28 @@ impl<C: CodeSource> Account<C> {
         ensures names { self.new.names ≡ self.old.names }
         ensures modules { self.new.modules ≡ self.old.modules }
     {
-        let done = if self.half.is_some() {
-            self.go_on()
-        } else {
-            let bytes = self.bytes();
-            if bytes < self.due {
-                return None;
-            }
-            if bytes > AT_ONCE {
-                self.begin_collection()
-            } else {
-                self.collect_or_not().map(Some)
-            }
-        };
-        let outcome = outcome_of(done)?;
+        let outcome = self.collect_or_go_on()?;
         self.due = self.bytes().saturating_mul(2).saturating_add(LEAST);
         Some(outcome)
+    }
+
+    /// Goes on with the collection that was begun, or else collects if it is due, or begins to; `None` if it isn't over yet.
+    fn collect_or_go_on(&mut self) -> Option<Collection>
+        ensures same { (f : Reading) → state_of f self.new ≡ state_of f self.old }
+        ensures names { self.new.names ≡ self.old.names }
+        ensures modules { self.new.modules ≡ self.old.modules }
+    {
+        if self.half.is_some() {
+            return outcome_of(self.go_on());
+        }
+        let bytes = self.bytes();
+        if bytes < self.due {
+            return None;
+        }
+        if bytes > AT_ONCE {
+            return outcome_of(self.begin_collection());
+        }
+        Some(self.collect())
     }
 
     /// Gives back the cells that nothing reaches, at once, which takes some 0.2 us for each structure that something does. The account stays
@@ -61,20 +70,14 @@ impl<C: CodeSource> Account<C> {
         }
     }
 
-    /// Gives back what nothing reaches; whether it was done.
+    /// Gives back what nothing reaches, at once; whether it was done.
     fn collect_or_not(&mut self) -> Result<bool, AllocError>
         ensures same { (f : Reading) → state_of f self.new ≡ state_of f self.old }
         ensures names { self.new.names ≡ self.old.names }
         ensures modules { self.new.modules ≡ self.old.modules }
     {
-        let Some(copy) = self.machine.copied(self.alloc)? else {
-            return Ok(false);
-        };
-        // All that may be refused comes before the first change.
-        let labels = self.labels.of_copy(self.alloc, &copy.back)?;
-        self.labels = labels;
-        self.machine.put_copy(copy);
-        Ok(true)
+        let half = HalfCopy::begin(self.alloc, &self.machine.store, Vec::new(self.alloc))?;
+        self.finish_collection(half)
     }
 
     /// Begins a collection in slices; `None`, as it isn't over.
@@ -83,7 +86,8 @@ impl<C: CodeSource> Account<C> {
         ensures names { self.new.names ≡ self.old.names }
         ensures modules { self.new.modules ≡ self.old.modules }
     {
-        self.half = Some(self.machine.begin_copy(self.alloc)?);
+        let half = self.machine.begin_copy(self.alloc)?;
+        self.half = Some(half);
         Ok(None)
     }
 
@@ -103,13 +107,25 @@ impl<C: CodeSource> Account<C> {
             self.half = Some(half);
             return Ok(None);
         }
+        let done = self.finish_collection(half)?;
+        Ok(Some(done))
+    }
+
+    /// Finishes a copy of what is reached, and puts it in place of the store; whether it was done.
+    fn finish_collection(&mut self, half: HalfCopy<CellName>) -> Result<bool, AllocError>
+        requires { IsHalf self.old.held half }
+        ensures same { (f : Reading) → state_of f self.new ≡ state_of f self.old }
+        ensures names { self.new.names ≡ self.old.names }
+        ensures modules { self.new.modules ≡ self.old.modules }
+    {
         let Some(copy) = self.machine.finish_copy(self.alloc, half)? else {
-            return Ok(Some(false));
+            return Ok(false);
         };
+        // All that may be refused comes before the first change.
         let labels = self.labels.of_copy(self.alloc, &copy.back)?;
         self.labels = labels;
         self.machine.put_copy(copy);
-        Ok(Some(true))
+        Ok(true)
     }
 
     /// How many bytes the store's lists take.

@@ -1,4 +1,4 @@
-use Rattle.std.proofs.Common.{refl, ◌∙◌}
+use Rattle.std.proofs.Common.{◌-◌, refl, ◌∙◌}
 use Rattle.kl1_store_copy.proofs.Catching.{caught_first, caught_more, caught_all, since_within, first_within, others_within}
 use Rattle.kl1_store_copy.proofs.copied.Copied.bind_each.Goals as goal
 
@@ -7,7 +7,7 @@ loop-left-init g c =
     let old = c.args.old.now.held in
     record {
       copy = c.in_ok-bind_last.ensures.copy;
-      caught = caught_first c.args.since _ old c.args.self.now c.bind_last.new.self c.bound_since-left.result.now c.bound_since-left.ensures c.requires.unbound c.bind_last.ensures.back (c.in_ok-bind_last.ensures.bound c.if-not-branch.false);
+      caught = caught_first c.args.since (old.variables - 1) old c.args.self.now c.bind_last.new.self c.bound_since-left.result.now c.bound_since-left.ensures c.requires.unbound c.bind_last.ensures.back (c.in_ok-bind_last.ensures.bound c.if-not-branch.false);
       within = since_within old c.args.since c.bound_since-left.result.now c.mark.ensures.formed c.bound_since-left.ensures;
       back = c.bind_last.ensures.back;
       hooks = c.bind_last.ensures.hooks;

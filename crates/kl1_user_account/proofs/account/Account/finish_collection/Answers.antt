@@ -3,11 +3,11 @@ use Rattle.kl1_machine.specs.Collecting.{IsCopyFor}
 use Rattle.kl1_store_copy.specs.Numbers.{numbered}
 use Rattle.kl1_user_account.proofs.Machines.{Aside, aside_of, account_of, Holds}
 use Rattle.kl1_user_account.proofs.PutCopies.{holds_machine, labels_short, collected_holds, collected_state}
-use Rattle.kl1_user_account.proofs.account.Account.collect_or_not.Goals.{In-Some}
-use Rattle.kl1_user_account.proofs.account.Account.collect_or_not.Goals as goal
+use Rattle.kl1_user_account.proofs.account.Account.finish_collection.Goals.{In-Some}
+use Rattle.kl1_user_account.proofs.account.Account.finish_collection.Goals as goal
 
-pub copied-requires : goal.copied-requires
-copied-requires g c = holds_machine (aside_of c.self.inside) c.self.inside.machine c.self.invariant
+pub finish_copy-requires-clause-machine : goal.finish_copy-requires-clause-machine
+finish_copy-requires-clause-machine g c = holds_machine (aside_of c.self.inside) c.self.inside.machine c.self.invariant
 
 -- the copy that was found
 copy : (g : _) (c : goal.In-Some g) → IsCopyFor c.self.inside.machine c.in-Some.copy
