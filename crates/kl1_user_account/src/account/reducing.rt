@@ -56,7 +56,7 @@ impl<C: CodeSource> Account<C> {
         if let Some(refusal) = refused {
             return Ok(Some(refusal));
         }
-        self.half = kept_if(self.half.take(), self.machine.name.is_none());
+        self.half = kept_if(self.half.take(), self.machine.spelled.is_none());
         self.machine.publish_name(names, seat);
         note_reduction(&mut self.entries, &mut self.run, in_run);
         Ok(None)
