@@ -11,16 +11,16 @@ use crate::handler::HostHandler;
 use crate::host::Host;
 use crate::view::View;
 use kl1_host_journals::{Connecting, FreshConnection, Naming, Outgoing};
-use kl1_pool::{Names, PoolIds, Share};
+use kl1_pool::{Names, PoolIds, Share, SharedAccounts};
 use std::cell::Cell;
 use std::marker::Brand;
 use std::sync::Wait;
 use std::time::Clock;
 
 /// `attend_as` by a leave to write, with which nobody writes.
-fn attend_by<'p, 'd, 't, F: Front, N: Wait + Clock, R: Wait, K, C: Connecting + Names>(
+fn attend_by<'p, 'd, F: Front, N: Wait + Clock, P: SharedAccounts<K>, K, C: Connecting + Names>(
     rt: &'p N,
-    desk: &'p Desk<'d, 't, F, R, K>,
+    desk: &'p Desk<'d, F, P, K>,
     host: Host<'p, K>,
     outgoing: &'p Cell<Outgoing<K, C>>,
     share: Share<K>,
@@ -31,7 +31,7 @@ where
     requires named { names_in (entries_view host.keys.now) ≡ C.names }
 {
     let keys = host.keys;
-    let view = View::<F, N, R, K, C> {
+    let view = View::<F, N, P, K, C> {
         rt,
         desk,
         edition: host.edition,
@@ -53,9 +53,9 @@ where
 }
 
 /// `attend_once` as a connection that no type names yet.
-fn attend_as<'p, 't, F: Front, N: Wait + Clock, R: Wait, K, C: Connecting + Names>(
+fn attend_as<'p, F: Front, N: Wait + Clock, P: SharedAccounts<K>, K, C: Connecting + Names>(
     rt: &'p N,
-    desk: &'p Desk<'p, 't, F, R, K>,
+    desk: &'p Desk<'p, F, P, K>,
     host: Host<'p, K>,
     share: Share<K>,
     connection: FreshConnection,
@@ -71,9 +71,9 @@ where
 }
 
 /// Lets the program attend to a host by the newest keys; answers whether it is to do so again.
-fn attend_once<'p, 't, F: Front, N: Wait + Clock, R: Wait, K: PoolIds + Naming>(
+fn attend_once<'p, F: Front, N: Wait + Clock, P: SharedAccounts<K>, K: PoolIds + Naming>(
     rt: &'p N,
-    desk: &'p Desk<'p, 't, F, R, K>,
+    desk: &'p Desk<'p, F, P, K>,
     share: Share<K>,
 ) -> (bool, Share<K>) {
     // As in `serve_pages`.
@@ -84,13 +84,13 @@ fn attend_once<'p, 't, F: Front, N: Wait + Clock, R: Wait, K: PoolIds + Naming>(
     }
     let host = desk.host.with_keys(edition, keys);
     let connection = FreshConnection::new();
-    attend_as::<F, N, R, K, Brand>(rt, desk, host, share, connection)
+    attend_as::<F, N, P, K, Brand>(rt, desk, host, share, connection)
 }
 
 /// Lets the program attend to a host if all its threads are there, with a share for the commands that it does.
-pub(crate) fn attend<'p, 't, F: Front, N: Wait + Clock, R: Wait, K: PoolIds + Naming>(
+pub(crate) fn attend<'p, F: Front, N: Wait + Clock, P: SharedAccounts<K>, K: PoolIds + Naming>(
     rt: &'p N,
-    desk: &'p Desk<'p, 't, F, R, K>,
+    desk: &'p Desk<'p, F, P, K>,
     all_are_there: bool,
     share: Share<K>,
 ) {

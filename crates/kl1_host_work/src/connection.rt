@@ -18,7 +18,7 @@ use crate::view::View;
 use crate::visit::{Visit, VisitReader, WatchedDoor};
 use kl1_host_journals::{Connecting, FreshConnection, Naming, Outgoing, SyncedWriter};
 use kl1_lines::{FailureCounter, Sink, Source};
-use kl1_pool::{Names, Pool, PoolIds, Share};
+use kl1_pool::{Names, PoolIds, Share, SharedAccounts};
 use kl1_session::{Disconnect, Door};
 use std::alloc::Global;
 use std::cell::Cell;
@@ -34,12 +34,12 @@ pub(crate) const PIECE: usize = 4_096;
 /// Each command that is answered is done once, by the account that was logged in to, which is called so by the keys of `host`, and is counted in
 /// the share, unless it is answered as if memory was refused. If replies wait for the disk, the leave to write was held for a note of that account when it had been done, unless
 /// it opened or closed a session. `sink` is to write only by `outgoing`.
-pub fn serve<'p, 't, S: Source, T: Sink, W, R: Wait, K, D: Door, C: Connecting + Names>(
+pub fn serve<'p, S: Source, T: Sink, W, P: SharedAccounts<K>, K, D: Door, C: Connecting + Names>(
     rt: &'p W,
     alloc: Global,
     source: &mut S,
     sink: &mut T,
-    pool: &'p Pool<'t, R, K>,
+    pool: &'p P,
     host: Host<'p, K>,
     outgoing: &'p Cell<Outgoing<K, C>>,
     door: &mut D,
@@ -78,16 +78,15 @@ where
 /// `serve_lines` of a connection that no type names yet.
 fn serve_lines_of<
     'p,
-    't,
-    F: Front,
     W: Wait + Clock,
-    R: Wait,
+    P: SharedAccounts<K>,
     K,
     D: Door + Drop,
     C: Connecting + Names,
 >(
     rt: &'p W,
-    desk: &'p Desk<'p, 't, F, R, K>,
+    alloc: Global,
+    pool: &'p P,
     host: Host<'p, K>,
     visit: &'p Visit,
     door: D,
@@ -108,10 +107,10 @@ where
     let mut door = WatchedDoor { door, visit };
     let (served, share, _) = serve(
         rt,
-        desk.alloc,
+        alloc,
         &mut source,
         &mut sink,
-        desk.pool,
+        pool,
         host,
         &outgoing,
         &mut door,
@@ -121,9 +120,10 @@ where
 }
 
 /// Serves one connection over a socket, closes it if it is silent for too long or if no key lets in soon, and gives the share back.
-pub(crate) fn serve_lines<'p, 't, F: Front, W: Wait + Clock, R: Wait, K, D: Door + Drop>(
+pub(crate) fn serve_lines<'p, W: Wait + Clock, P: SharedAccounts<K>, K, D: Door + Drop>(
     rt: &'p W,
-    desk: &'p Desk<'p, 't, F, R, K>,
+    alloc: Global,
+    pool: &'p P,
     host: Host<'p, K>,
     visit: &'p Visit,
     door: D,
@@ -135,13 +135,21 @@ where
     requires few { length host.keys.now ≤ K.accounts }
 {
     let connection = FreshConnection::new();
-    serve_lines_of::<F, W, R, K, D, Brand>(rt, desk, host, visit, door, share, connection)
+    serve_lines_of::<W, P, K, D, Brand>(rt, alloc, pool, host, visit, door, share, connection)
 }
 
 /// `serve_pages_of` by a leave to write.
-fn serve_pages_by<'p, 'd, 't, F: Front, W: Wait + Clock, R: Wait, K, C: Connecting + Names>(
+fn serve_pages_by<
+    'p,
+    'd,
+    F: Front,
+    W: Wait + Clock,
+    P: SharedAccounts<K>,
+    K,
+    C: Connecting + Names,
+>(
     rt: &'p W,
-    desk: &'p Desk<'d, 't, F, R, K>,
+    desk: &'p Desk<'d, F, P, K>,
     host: Host<'p, K>,
     outgoing: &'p Cell<Outgoing<K, C>>,
     visit: &'p Visit,
@@ -181,9 +189,9 @@ where
 }
 
 /// `serve_pages` of a connection that no type names yet.
-fn serve_pages_of<'p, 't, F: Front, W: Wait + Clock, R: Wait, K, C: Connecting + Names>(
+fn serve_pages_of<'p, F: Front, W: Wait + Clock, P: SharedAccounts<K>, K, C: Connecting + Names>(
     rt: &'p W,
-    desk: &'p Desk<'p, 't, F, R, K>,
+    desk: &'p Desk<'p, F, P, K>,
     host: Host<'p, K>,
     visit: &'p Visit,
     address: SocketAddr,
@@ -201,9 +209,9 @@ where
 }
 
 /// Serves one connection of a browser over a socket, closes it if it is silent for too long, and gives the share back.
-pub(crate) fn serve_pages<'p, 't, F: Front, W: Wait + Clock, R: Wait, K: PoolIds + Naming>(
+pub(crate) fn serve_pages<'p, F: Front, W: Wait + Clock, P: SharedAccounts<K>, K: PoolIds + Naming>(
     rt: &'p W,
-    desk: &'p Desk<'p, 't, F, R, K>,
+    desk: &'p Desk<'p, F, P, K>,
     visit: &'p Visit,
     address: SocketAddr,
     share: Share<K>,
@@ -218,5 +226,5 @@ pub(crate) fn serve_pages<'p, 't, F: Front, W: Wait + Clock, R: Wait, K: PoolIds
     }
     let host = desk.host.with_keys(edition, keys);
     let connection = FreshConnection::new();
-    serve_pages_of::<F, W, R, K, Brand>(rt, desk, host, visit, address, share, connection)
+    serve_pages_of::<F, W, P, K, Brand>(rt, desk, host, visit, address, share, connection)
 }

@@ -5,10 +5,11 @@ use crate::connection::{serve_lines, serve_pages};
 use crate::failing::Failing;
 use crate::front::{Front, HostEvent};
 use crate::host::Host;
+use crate::live::Live;
 use crate::lobby::{Admission, Lobby};
 use crate::visit::Visit;
 use kl1_host_journals::Naming;
-use kl1_pool::{Pool, PoolIds, Share};
+use kl1_pool::{PoolIds, Share, SharedAccounts};
 use std::alloc::Global;
 use std::net::{Net, SocketAddr, TcpListener, TcpStream};
 use std::sync::{Arc, Wait};
@@ -30,9 +31,9 @@ pub(crate) enum Peers {
 
 /// What a connection is served by.
 #[derive(Drop)]
-pub(crate) struct Desk<'d, 't, F: Front, R: Wait, K: PoolIds + Naming> {
+pub(crate) struct Desk<'d, F: Front, P: SharedAccounts<K>, K: PoolIds + Naming> {
     pub(crate) front: &'d F,
-    pub(crate) pool: &'d Pool<'t, R, K>,
+    pub(crate) pool: &'d P,
     pub(crate) lobby: &'d Lobby<K>,
     pub(crate) board: &'d Board,
     pub(crate) host: Host<'d, K>,
@@ -41,9 +42,9 @@ pub(crate) struct Desk<'d, 't, F: Front, R: Wait, K: PoolIds + Naming> {
 }
 
 /// Serves a connection of a client, and gives the share back.
-fn serve_client<'t, F: Front, W: Wait + Clock, R: Wait, K: PoolIds + Naming>(
+fn serve_client<F: Front, W: Wait + Clock, P: SharedAccounts<K>, K: PoolIds + Naming>(
     rt: &W,
-    desk: &Desk<'_, 't, F, R, K>,
+    desk: &Desk<'_, F, P, K>,
     visit: &Visit,
     address: SocketAddr,
     share: Share<K>,
@@ -57,15 +58,15 @@ fn serve_client<'t, F: Front, W: Wait + Clock, R: Wait, K: PoolIds + Naming>(
         return share;
     }
     let host = desk.host.with_keys(edition, keys);
-    let (served, share) = serve_lines(rt, desk, host, visit, door, share);
+    let (served, share) = serve_lines(rt, desk.alloc, desk.pool, host, visit, door, share);
     desk.front.tell(HostEvent::Closed(address, served));
     share
 }
 
 /// Serves the connection that has this place, with the share that is kept for it, and gives that back.
-fn serve_visitor<'t, F: Front, W: Wait + Clock, R: Wait, K: PoolIds + Naming>(
+fn serve_visitor<F: Front, W: Wait + Clock, P: SharedAccounts<K>, K: PoolIds + Naming>(
     rt: &W,
-    desk: &Desk<'_, 't, F, R, K>,
+    desk: &Desk<'_, F, P, K>,
     visit: Arc<Visit, Global>,
     address: SocketAddr,
     peers: Peers,
@@ -102,17 +103,16 @@ enum Received {
 }
 
 /// Lets a connection in as soon as there is a place for it, if it may. Others that have shown no key give way to it.
-fn arrival_of<'t, F: Front, N: Wait + Clock, R: Wait, K: PoolIds + Naming>(
+fn arrival_of<F: Front, N: Wait + Clock, K: PoolIds>(
     rt: &N,
-    desk: &Desk<'_, 't, F, R, K>,
+    front: &F,
+    lobby: &Lobby<K>,
+    live: &Live,
     visit: Arc<Visit, Global>,
     address: SocketAddr,
 ) -> Received {
     for _ in rt.forever() {
-        match desk
-            .lobby
-            .admit(rt, &visit, address, desk.host.live.limits())
-        {
+        match lobby.admit(rt, &visit, address, live.limits()) {
             Admission::Open(place) => {
                 return Received::Open(Arrival {
                     visit,
@@ -121,50 +121,54 @@ fn arrival_of<'t, F: Front, N: Wait + Clock, R: Wait, K: PoolIds + Naming>(
                 });
             }
             Admission::TurnedAway => {
-                desk.front.tell(HostEvent::TurnedAway(address));
+                front.tell(HostEvent::TurnedAway(address));
                 return Received::Nothing;
             }
             // A host that is closing wakes this accept by a connection of its own.
             Admission::Closing => return Received::Closing,
             Admission::Awaits(oldest) => {
-                desk.front.tell(HostEvent::GaveWay(oldest));
-                desk.lobby.wait_for_place(rt, true);
+                front.tell(HostEvent::GaveWay(oldest));
+                lobby.wait_for_place(rt, true);
             }
-            Admission::Waits => desk.lobby.wait_for_place(rt, false),
+            Admission::Waits => lobby.wait_for_place(rt, false),
         }
     }
     Received::Nothing
 }
 
 /// Waits for the next connection, and lets it in if it may.
-fn receive<'t, F: Front, N: Wait + Clock, R: Wait, K: PoolIds + Naming>(
+fn receive<F: Front, N: Wait + Clock, K: PoolIds>(
     rt: &N,
+    alloc: Global,
     listener: &TcpListener,
-    desk: &Desk<'_, 't, F, R, K>,
+    front: &F,
+    lobby: &Lobby<K>,
+    live: &Live,
 ) -> Received {
     let Ok((stream, address)) = listener.accept() else {
-        if desk.lobby.is_closing(rt) {
+        if lobby.is_closing(rt) {
             return Received::Closing;
         }
         thread::sleep(rt, Duration::from_millis(PAUSE_MILLISECONDS));
         return Received::Nothing;
     };
-    match Arc::new(desk.alloc, Visit::new(stream, desk.host.live.limits())) {
-        Ok(visit) => arrival_of(rt, desk, visit, address),
+    match Arc::new(alloc, Visit::new(stream, live.limits())) {
+        Ok(visit) => arrival_of(rt, front, lobby, live, visit, address),
         Err(_) => Received::Nothing,
     }
 }
 
 /// Takes in that no thread can be made for the connection of this place: the oldest that has shown no key is told to end, and it is waited
 /// a short time for that.
-fn make_room<'t, F: Front, N: Wait + Clock, R: Wait, K: PoolIds + Naming>(
+fn make_room<F: Front, N: Wait + Clock, K: PoolIds>(
     rt: &N,
-    desk: &Desk<'_, 't, F, R, K>,
+    front: &F,
+    lobby: &Lobby<K>,
     place: usize,
 ) {
-    if let Some(oldest) = desk.lobby.make_room(rt, place) {
-        desk.front.tell(HostEvent::GaveWay(oldest));
-        desk.lobby.wait_for_leave(rt);
+    if let Some(oldest) = lobby.make_room(rt, place) {
+        front.tell(HostEvent::GaveWay(oldest));
+        lobby.wait_for_leave(rt);
         // Its thread has a last step to go.
         thread::sleep(rt, Duration::from_millis(PAUSE_MILLISECONDS));
     }
@@ -172,19 +176,26 @@ fn make_room<'t, F: Front, N: Wait + Clock, R: Wait, K: PoolIds + Naming>(
 
 /// Accepts connections until the host closes, and serves each in a thread of its own; one for which no thread can be made is closed. When
 /// all have ended, it returns.
-pub(crate) fn serve_each<'t, F: Front + Sync, N, R: Wait + Sync, K: PoolIds + Naming + Send + Sync>(
-    rt: &N,
-    listener: &TcpListener,
-    peers: Peers,
-    desk: &Desk<'_, 't, F, R, K>,
-)
+pub(crate) fn serve_each<
+    F: Front + Sync,
+    N,
+    P: SharedAccounts<K> + Sync,
+    K: PoolIds + Naming + Send + Sync,
+>(rt: &N, listener: &TcpListener, peers: Peers, desk: &Desk<'_, F, P, K>)
 where
     N: Net<Listener = TcpListener, Stream = TcpStream> + Threads + Wait + Clock + Sync,
     F::Entrance: Send,
 {
     thread::scope(thread::scope_env(), rt, move |scope| {
         for _ in rt.forever() {
-            let arrival = match receive(rt, listener, desk) {
+            let arrival = match receive(
+                rt,
+                desk.alloc,
+                listener,
+                desk.front,
+                desk.lobby,
+                desk.host.live,
+            ) {
                 Received::Open(arrival) => arrival,
                 Received::Nothing => continue,
                 Received::Closing => return,
@@ -200,7 +211,7 @@ where
                 continue;
             };
             let thread::SpawnError { value: job, .. } = failed;
-            make_room(rt, desk, place);
+            make_room(rt, desk.front, desk.lobby, place);
             if let Err(failed) = scope.spawn(job) {
                 // It isn't served here: this thread would then wait for who has connected. With what it was to do it is closed.
                 drop(failed);

@@ -12,7 +12,7 @@ use crate::filling::is_of_sessions;
 use crate::noting::{NoReader, Noting, if_held};
 use kl1_command::{Command, Performed};
 use kl1_host_journals::{Connecting, Keeper, Naming, Outgoing};
-use kl1_pool::{Names, Pool, PoolIds, Share};
+use kl1_pool::{Names, PoolIds, Share, SharedAccounts};
 use kl1_pool_history::History;
 use std::marker::Model;
 use std::snapshot::Snapshot;
@@ -101,10 +101,10 @@ impl<K: PoolIds + Naming, C: Connecting + Names> Exchange<K, C> {
     }
 
     /// Has a pool do a command whose answer tells nothing that is to be on disk before.
-    pub(crate) fn act<'t, W: Wait, R: Wait>(
+    pub(crate) fn act<W: Wait, P: SharedAccounts<K>>(
         &mut self,
         rt: &W,
-        pool: &Pool<'t, R, K>,
+        pool: &P,
         account: usize,
         name: &[u8],
         command: &Command,
@@ -125,10 +125,10 @@ impl<K: PoolIds + Naming, C: Connecting + Names> Exchange<K, C> {
 
     /// Has a pool do a command, and lets the leave to write wait for the note of what it did, which is made under the account's lock; if memory was
     /// refused, it is as it was. The leave is to be there, so that nobody else has it.
-    pub(crate) fn act_noted<'t, W: Wait, R: Wait>(
+    pub(crate) fn act_noted<W: Wait, P: SharedAccounts<K>>(
         &mut self,
         rt: &W,
-        pool: &Pool<'t, R, K>,
+        pool: &P,
         keeper: &Keeper<K>,
         account: usize,
         name: &[u8],

@@ -14,7 +14,7 @@ use crate::host::Host;
 use crate::noting::{is_lost, note_told, take_leave};
 use kl1_command::{Command, Performed};
 use kl1_host_journals::{Connecting, Naming, Outgoing};
-use kl1_pool::{Names, Pool, PoolIds};
+use kl1_pool::{Names, PoolIds, SharedAccounts};
 use kl1_session::{CommandHandler, Key};
 use kl1_user_events::{Event, Reply};
 use std::cell::Cell;
@@ -22,9 +22,15 @@ use std::sync::Wait;
 
 /// A pool with the leave to write of one connection, and what was done for it.
 #[derive(Drop)]
-pub struct HostHandler<'p, 't, W: Wait, R: Wait, K: PoolIds + Naming, C: Connecting + Names> {
+pub struct HostHandler<
+    'p,
+    W: Wait,
+    P: SharedAccounts<K>,
+    K: PoolIds + Naming,
+    C: Connecting + Names,
+> {
     pub(crate) rt: &'p W,
-    pub(crate) pool: &'p Pool<'t, R, K>,
+    pub(crate) pool: &'p P,
     pub(crate) host: Host<'p, K>,
     pub(crate) outgoing: &'p Cell<Outgoing<K, C>>,
     pub(crate) exchange: Exchange<K, C>,
@@ -79,11 +85,10 @@ fn is_loaded(performed: &Performed) -> bool {
     matches!(performed, Performed::Whole(Reply::Loaded(_)))
 }
 
-impl<'p, 't, W: Wait, R: Wait, K: PoolIds + Naming, C: Connecting + Names> HostHandler<
+impl<'p, W: Wait, P: SharedAccounts<K>, K: PoolIds + Naming, C: Connecting + Names> HostHandler<
     'p,
-    't,
     W,
-    R,
+    P,
     K,
     C,
 > {
@@ -184,8 +189,8 @@ impl<'p, 't, W: Wait, R: Wait, K: PoolIds + Naming, C: Connecting + Names> HostH
     }
 }
 
-impl<'p, 't, W: Wait, R: Wait, K: PoolIds + Naming, C: Connecting + Names> CommandHandler
-    for HostHandler<'p, 't, W, R, K, C> {
+impl<'p, W: Wait, P: SharedAccounts<K>, K: PoolIds + Naming, C: Connecting + Names> CommandHandler
+    for HostHandler<'p, W, P, K, C> {
     ghost use Rattle.std.specs.Prelude.{Bool, length};
     ghost use Rattle.kl1_pool_tickets.specs.Counts.{Counts};
 
@@ -209,8 +214,8 @@ impl<'p, 't, W: Wait, R: Wait, K: PoolIds + Naming, C: Connecting + Names> Comma
     }
 }
 
-impl<'p, 't, W: Wait, R: Wait, K: PoolIds + Naming, C: Connecting + Names> Performer
-    for HostHandler<'p, 't, W, R, K, C> {
+impl<'p, W: Wait, P: SharedAccounts<K>, K: PoolIds + Naming, C: Connecting + Names> Performer
+    for HostHandler<'p, W, P, K, C> {
     ghost accounts = { K.accounts };
 
     ghost done = { λ handler. handler.exchange.history.done };

@@ -4,8 +4,10 @@ ghost use Rattle.std.specs.Prelude.{◌<◌};
 
 use crate::account_place::AccountPlace;
 use crate::connections::Desk;
+use crate::failing::Failing;
 use crate::front::{Front, HostEvent};
 use crate::histories::OwnHistory;
+use crate::host::Host;
 use crate::last_note::note_last;
 use crate::noting::NoReader;
 use crate::restoring::{AccountFile, Standing, stand};
@@ -13,7 +15,8 @@ use crate::running::Telling;
 use crate::start_fault::StartFault;
 use kl1_host_journals::{Keeper, KeptFile, Linked, Naming, OpenFault, Scribe};
 use kl1_log::{Disk, LogFile};
-use kl1_pool::{PoolIds, Share};
+use kl1_pool::{PoolIds, Share, SharedAccounts};
+use std::alloc::Global;
 use std::sync::Wait;
 use std::time::Clock;
 
@@ -24,9 +27,10 @@ pub trait Opener<D: Disk> {
 }
 
 /// Restores the account of a place from its file, whose history begins with it: once.
-fn bring_up<'t, F: Front, W: Wait, R: Wait, K: PoolIds + Naming, D: Disk + Drop, O: Opener<D>>(
+fn bring_up<W: Wait, P: SharedAccounts<K>, K: PoolIds + Naming, D: Disk + Drop, O: Opener<D>>(
     rt: &W,
-    desk: &Desk<'_, 't, F, R, K>,
+    alloc: Global,
+    pool: &P,
     opener: &O,
     account: usize,
     own: &mut Option<OwnHistory<K>>,
@@ -40,25 +44,23 @@ fn bring_up<'t, F: Front, W: Wait, R: Wait, K: PoolIds + Naming, D: Disk + Drop,
         Err(fault) => return Err(StartFault::Unopened { account, fault }),
     };
     match own.take() {
-        Some(own) => stand(rt, desk.alloc, desk.pool, account, found, own, place, share),
+        Some(own) => stand(rt, alloc, pool, account, found, own, place, share),
         None => Err(StartFault::Accounts),
     }
 }
 
 /// Takes in that one account of the start less is waited for.
-fn count_in<'t, F: Front, R: Wait, K: PoolIds + Naming>(
-    desk: &Desk<'_, 't, F, R, K>,
-    is_first: bool,
-) {
-    if is_first && desk.failing.count_in() {
-        desk.front.tell(HostEvent::AllRestored);
+fn count_in<F: Front>(front: &F, failing: &Failing, is_first: bool) {
+    if is_first && failing.count_in() {
+        front.tell(HostEvent::AllRestored);
     }
 }
 
 /// Takes in that the account of a place can't be restored: one of the start ends the host, any other is told.
-fn tell_fault<'t, F: Front, W: Wait, R: Wait, K: PoolIds + Naming>(
+fn tell_fault<F: Front, W: Wait>(
     rt: &W,
-    desk: &Desk<'_, 't, F, R, K>,
+    front: &F,
+    failing: &Failing,
     account: usize,
     place: &AccountPlace,
     fault: StartFault,
@@ -66,25 +68,25 @@ fn tell_fault<'t, F: Front, W: Wait, R: Wait, K: PoolIds + Naming>(
 ) {
     let was_ended = place.is_ended();
     if place.end_leave(rt) {
-        desk.front.tell(HostEvent::Left { account });
-        count_in(desk, is_first);
+        front.tell(HostEvent::Left { account });
+        count_in(front, failing, is_first);
         return;
     }
     place.fail(rt);
     // What a file has is found whether the host ends meanwhile or not, so that the first of several is told.
     let is_told = !was_ended || matches!(fault, StartFault::Unopened { .. });
     if is_first && is_told {
-        desk.failing.fail(rt, account, fault);
+        failing.fail(rt, account, fault);
     } else if is_told {
-        desk.front.tell(HostEvent::Unrestored { account, fault });
+        front.tell(HostEvent::Unrestored { account, fault });
     }
 }
 
 /// Lets all threads see an account that is restored, until it leaves or the host ends, and writes to its file meanwhile. Gives the file back if
 /// the account is still there.
-fn serve_file<'t, F: Front, W: Wait + Clock, R: Wait, K: PoolIds + Naming, D: Disk + Drop>(
+fn serve_file<F: Front, W: Wait + Clock, P: SharedAccounts<K>, K: PoolIds + Naming, D: Disk + Drop>(
     rt: &W,
-    desk: &Desk<'_, 't, F, R, K>,
+    desk: &Desk<'_, F, P, K>,
     account: usize,
     standing: Standing<D, K>,
     is_first: bool,
@@ -107,28 +109,28 @@ fn serve_file<'t, F: Front, W: Wait + Clock, R: Wait, K: PoolIds + Naming, D: Di
     let keeper = keeper_place.get()?;
     if place.open(rt) {
         desk.front.tell(HostEvent::Restored { account, entries });
-        count_in(desk, is_first);
+        count_in(desk.front, desk.failing, is_first);
         let faults = Telling { front: desk.front };
         let mut scribe = Scribe::new(account, keeper, file);
         scribe.work(rt, host.syncing.period, &faults);
-        return end_file(rt, desk, account, keeper, scribe.into_file());
+        return end_file(rt, desk.front, place, account, keeper, scribe.into_file());
     }
     if place.is_leaving(rt) {
-        close_at_once(rt, desk, account);
-        count_in(desk, is_first);
+        close_at_once(rt, desk.pool, account);
+        count_in(desk.front, desk.failing, is_first);
     }
-    end_file(rt, desk, account, keeper, file)
+    end_file(rt, desk.front, place, account, keeper, file)
 }
 
 /// Gives the file of an account back, unless it has left: then nobody waits for its file any more.
-fn end_file<'t, F: Front, W: Wait, R: Wait, K: PoolIds + Naming, D: Disk + Drop>(
+fn end_file<F: Front, W: Wait, J: Naming, D: Disk + Drop>(
     rt: &W,
-    desk: &Desk<'_, 't, F, R, K>,
+    front: &F,
+    place: &AccountPlace,
     account: usize,
-    keeper: &Keeper<K>,
-    file: KeptFile<D, K>,
+    keeper: &Keeper<J>,
+    file: KeptFile<D, J>,
 ) -> Option<LogFile<D>> {
-    let place = desk.host.places.get(account)?;
     if !place.is_leaving(rt) {
         return Some(file.into_file());
     }
@@ -136,7 +138,7 @@ fn end_file<'t, F: Front, W: Wait, R: Wait, K: PoolIds + Naming, D: Disk + Drop>
     // It is closed before anybody is told that it may be moved.
     drop(file);
     let _ = place.end_leave(rt);
-    desk.front.tell(HostEvent::Left { account });
+    front.tell(HostEvent::Left { account });
     None
 }
 
@@ -150,16 +152,15 @@ pub(crate) struct Means<K: PoolIds + Naming> {
 /// Waits for the account of a place to come, restores it from its file, and writes to that until the account leaves or the host ends: then
 /// the file is given back. `is_first` tells whether the account is one of the start.
 pub(crate) fn keep<
-    't,
     F: Front,
     W: Wait + Clock,
-    R: Wait,
+    P: SharedAccounts<K>,
     K: PoolIds + Naming,
     D: Disk + Drop,
     O: Opener<D>,
 >(
     rt: &W,
-    desk: &Desk<'_, 't, F, R, K>,
+    desk: &Desk<'_, F, P, K>,
     opener: &O,
     account: usize,
     is_first: bool,
@@ -177,12 +178,22 @@ pub(crate) fn keep<
         if !place.await_order(rt) {
             return None;
         }
-        match bring_up(rt, desk, opener, account, &mut own, place, &mut share) {
+        match bring_up(
+            rt, desk.alloc, desk.pool, opener, account, &mut own, place, &mut share,
+        ) {
             Ok(standing) => return serve_file(rt, desk, account, standing, is_first),
             Err(fault) => {
                 // If it was restored and its file can't be linked.
-                close_at_once(rt, desk, account);
-                tell_fault(rt, desk, account, place, fault, is_first);
+                close_at_once(rt, desk.pool, account);
+                tell_fault(
+                    rt,
+                    desk.front,
+                    desk.failing,
+                    account,
+                    place,
+                    fault,
+                    is_first,
+                );
             }
         }
         is_first = false;
@@ -191,27 +202,24 @@ pub(crate) fn keep<
 }
 
 /// Ends what is done to the account of a place, which nobody was let in to yet: what workers did to it is done again by the next restore.
-fn close_at_once<'t, F: Front, W: Wait, R: Wait, K: PoolIds + Naming>(
-    rt: &W,
-    desk: &Desk<'_, 't, F, R, K>,
-    account: usize,
-)
+fn close_at_once<W: Wait, P: SharedAccounts<K>, K: PoolIds>(rt: &W, pool: &P, account: usize)
     requires { account < K.accounts }
 {
-    let _ = desk.pool.close_account(rt, account, &mut NoReader);
+    let _ = pool.close_account(rt, account, &mut NoReader);
 }
 
 /// Ends what is done to the account of a place that is leaving, and what its scribe waits for: what was done to it is noted a last time, and the
 /// scribe writes that and ends. It waits for an account that is in the midst of a reduction. If memory is refused, it is to be called again.
-pub(crate) fn close_up<'t, F: Front, W: Wait, R: Wait, K: PoolIds + Naming>(
+pub(crate) fn close_up<W: Wait, P: SharedAccounts<K>, K: PoolIds + Naming>(
     rt: &W,
-    desk: &Desk<'_, 't, F, R, K>,
+    pool: &P,
+    host: Host<'_, K>,
     account: usize,
 )
     requires { account < K.accounts }
 {
-    if let Some(keeper) = desk.host.keeper(account)
-        && note_last(rt, desk.pool, keeper, account)
+    if let Some(keeper) = host.keeper(account)
+        && note_last(rt, pool, keeper, account)
     {
         keeper.bell().end(rt);
     }

@@ -8,7 +8,7 @@ ghost use Rattle.kl1_host_work.specs.Noted.{IsLastNote};
 use crate::noting::Noting;
 use kl1_host_journals::{Connecting, FreshConnection, Keeper, Naming, Outgoing};
 use kl1_journal_stamps::ShownHistory;
-use kl1_pool::{LastReader, Pool, PoolIds};
+use kl1_pool::{LastReader, PoolIds, SharedAccounts};
 use std::marker::Brand;
 use std::sync::Wait;
 
@@ -28,9 +28,9 @@ impl<'k, W: Wait, J: Naming, C: Connecting> LastReader for Noting<'k, W, J, C> {
 /// Notes an account for the last time and closes it, under one lock: what was noted is its journal, which nothing comes after, since the
 /// history of its journals is here. `None` if it goes on, since memory was refused, or if there is no account. A leave that nobody writes with waits for
 /// the note, so that it is known to be made.
-fn last_note<'t, W: Wait, R: Wait, K: PoolIds + Naming, C: Connecting>(
+fn last_note<W: Wait, P: SharedAccounts<K>, K: PoolIds + Naming, C: Connecting>(
     rt: &W,
-    pool: &Pool<'t, R, K>,
+    pool: &P,
     keeper: &Keeper<K>,
     account: usize,
     connection: FreshConnection,
@@ -51,9 +51,9 @@ fn last_note<'t, W: Wait, R: Wait, K: PoolIds + Naming, C: Connecting>(
 }
 
 /// Whether `last_note` was made, for which nobody waits.
-fn has_noted<'t, W: Wait, R: Wait, K: PoolIds + Naming, C: Connecting>(
+fn has_noted<W: Wait, P: SharedAccounts<K>, K: PoolIds + Naming, C: Connecting>(
     rt: &W,
-    pool: &Pool<'t, R, K>,
+    pool: &P,
     keeper: &Keeper<K>,
     account: usize,
     connection: FreshConnection,
@@ -61,18 +61,18 @@ fn has_noted<'t, W: Wait, R: Wait, K: PoolIds + Naming, C: Connecting>(
     requires within { account < K.accounts }
     requires connection { connection.pen.book ≡ C.connection }
 {
-    last_note::<W, R, K, C>(rt, pool, keeper, account, connection).is_some()
+    last_note::<W, P, K, C>(rt, pool, keeper, account, connection).is_some()
 }
 
 /// `has_noted` by a leave that no type names yet.
-pub(crate) fn note_last<'t, W: Wait, R: Wait, K: PoolIds + Naming>(
+pub(crate) fn note_last<W: Wait, P: SharedAccounts<K>, K: PoolIds + Naming>(
     rt: &W,
-    pool: &Pool<'t, R, K>,
+    pool: &P,
     keeper: &Keeper<K>,
     account: usize,
 ) -> bool
     requires { account < K.accounts }
 {
     let connection = FreshConnection::new();
-    has_noted::<W, R, K, Brand>(rt, pool, keeper, account, connection)
+    has_noted::<W, P, K, Brand>(rt, pool, keeper, account, connection)
 }

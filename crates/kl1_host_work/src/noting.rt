@@ -10,7 +10,7 @@ use crate::host::Host;
 use kl1_host_journals::{Connecting, Keeper, Naming, Outgoing};
 use kl1_journal_entries::Journal;
 use kl1_journal_stamps::Stamp;
-use kl1_pool::{JournalReader, LastReader, Pool, PoolIds};
+use kl1_pool::{JournalReader, LastReader, PoolIds, SharedAccounts};
 use std::cell::Cell;
 use std::marker::Brand;
 use std::mem;
@@ -65,9 +65,9 @@ impl LastReader for NoReader {
 
 /// Notes what has come to the journal of an account, and lets the leave to write of a connection wait until it is on disk. `Lost` if memory
 /// was refused, or if another account was found, which never is so.
-pub(crate) fn note_for<'t, W: Wait, R: Wait, K: PoolIds + Naming, C: Connecting>(
+pub(crate) fn note_for<W: Wait, P: SharedAccounts<K>, K: PoolIds + Naming, C: Connecting>(
     rt: &W,
-    pool: &Pool<'t, R, K>,
+    pool: &P,
     keeper: &Keeper<K>,
     account: usize,
     outgoing: Outgoing<K, C>,
@@ -105,15 +105,15 @@ pub(crate) fn if_held<J: Naming, C: Connecting>(
 }
 
 /// Notes what has come to the journal of an account.
-pub(crate) fn note<'t, W: Wait, R: Wait, K: PoolIds + Naming>(
+pub(crate) fn note<W: Wait, P: SharedAccounts<K>, K: PoolIds + Naming>(
     rt: &W,
-    pool: &Pool<'t, R, K>,
+    pool: &P,
     keeper: &Keeper<K>,
     account: usize,
 )
     requires { account < K.accounts }
 {
-    let _ = note_for::<W, R, K, Brand>(rt, pool, keeper, account, Outgoing::Lost);
+    let _ = note_for::<W, P, K, Brand>(rt, pool, keeper, account, Outgoing::Lost);
 }
 
 /// Whether a leave is lost.
@@ -142,9 +142,9 @@ pub(crate) fn take_leave<W: Wait, J: Naming, C: Connecting>(
 }
 
 /// Notes an account of which a connection is told something, if replies wait for the disk, or if the scribe asks for it.
-pub(crate) fn note_told<'t, W: Wait, R: Wait, K: PoolIds + Naming, C: Connecting>(
+pub(crate) fn note_told<W: Wait, P: SharedAccounts<K>, K: PoolIds + Naming, C: Connecting>(
     rt: &W,
-    pool: &Pool<'t, R, K>,
+    pool: &P,
     host: Host<'_, K>,
     outgoing: &Cell<Outgoing<K, C>>,
     account: usize,

@@ -11,7 +11,7 @@ use crate::start_fault::StartFault;
 use kl1_host_journals::{Linked, Naming, OpenedFile};
 use kl1_journal_entries::{Entry, Journal};
 use kl1_log::Disk;
-use kl1_pool::{AccountName, Pool, PoolIds, RestoreEnd, Share};
+use kl1_pool::{AccountName, PoolIds, RestoreEnd, Share, SharedAccounts};
 use std::alloc::Global;
 use std::sync::Wait;
 
@@ -55,10 +55,10 @@ fn line_after(journal: &Journal, entries: u64) -> u64 {
 /// Restores the account of a place from its file, which is linked with the account's journal: the account is begun with the name and the used
 /// names of the file, all entries of the file's journal are done to it, and what waits for the file makes it one of the account's journal. The place
 /// is told how far it is, and may end it. The history is to be the account's.
-pub(crate) fn stand<'t, D: Disk + Drop, W: Wait, R: Wait, K: PoolIds + Naming>(
+pub(crate) fn stand<D: Disk + Drop, W: Wait, P: SharedAccounts<K>, K: PoolIds + Naming>(
     rt: &W,
     alloc: Global,
-    pool: &Pool<'t, R, K>,
+    pool: &P,
     account: usize,
     found: AccountFile<D>,
     own: OwnHistory<K>,

@@ -6,12 +6,13 @@ use crate::filling::close_rooms;
 use crate::front::{Front, HostEvent};
 use crate::host::Host;
 use crate::keeping::{Means, Opener, keep};
+use crate::lobby::Lobby;
 use crate::noting::note;
 use crate::start_fault::StartFault;
 use crate::watching::{tell_waits, watch};
 use kl1_host_journals::{Bell, FaultTeller, Naming};
 use kl1_log::{Disk, LogError, LogFile};
-use kl1_pool::{Gate, Pool, PoolIds, Share, worker};
+use kl1_pool::{Gate, PoolIds, Share, SharedAccounts};
 use std::net::{Net, TcpListener, TcpStream};
 use std::sync::Wait;
 use std::thread;
@@ -49,21 +50,21 @@ pub(crate) struct Shares<K: PoolIds + Naming> {
 }
 
 /// Goes on with accounts until the pool is closed, and gives the share back.
-fn work<'t, W: Wait, R: Wait, K: PoolIds + Naming>(
+fn work<W: Wait, P: SharedAccounts<K>, K: PoolIds + Naming>(
     rt: &W,
-    pool: &Pool<'t, R, K>,
+    pool: &P,
     number: u64,
     share: Share<K>,
 ) -> Share<K> {
     let mut share = share;
-    worker(rt, pool, &OpenGate, number, &mut share);
+    pool.work(rt, &OpenGate, number, &mut share);
     share
 }
 
 /// Notes what has come to each account.
-fn note_all<'t, W: Wait, R: Wait, K: PoolIds + Naming>(
+fn note_all<W: Wait, P: SharedAccounts<K>, K: PoolIds + Naming>(
     rt: &W,
-    pool: &Pool<'t, R, K>,
+    pool: &P,
     host: Host<'_, K>,
 ) {
     for account in 0..pool.accounts() {
@@ -112,18 +113,19 @@ fn end_places<W: Wait, J: Naming>(rt: &W, host: Host<'_, J>) {
 }
 
 /// Lets nobody in any more, and ends the connections that are open.
-fn close_doors<'t, F: Front, N, R: Wait, K: PoolIds + Naming>(
+fn close_doors<N, K: PoolIds + Naming>(
     rt: &N,
-    desk: &Desk<'_, 't, F, R, K>,
+    lobby: &Lobby<K>,
+    host: Host<'_, K>,
     listeners: Listeners<'_>,
 )
 where
     N: Net<Listener = TcpListener, Stream = TcpStream> + Wait + Clock,
 {
-    desk.lobby.close(rt);
-    end_places(rt, desk.host);
+    lobby.close(rt);
+    end_places(rt, host);
     // Who waits for the disk isn't to wait for room on it.
-    close_rooms(desk.host);
+    close_rooms(host);
     wake(rt, listeners.clients);
     if let Some(browsers) = listeners.browsers {
         wake(rt, browsers);
@@ -131,18 +133,20 @@ where
 }
 
 /// Ends the connections of a host, and then its workers; a reduction that is going on is waited for.
-fn wind_down<'t, F: Front, N, R: Wait, K: PoolIds + Naming>(
+fn wind_down<N, P: SharedAccounts<K>, K: PoolIds + Naming>(
     rt: &N,
-    desk: &Desk<'_, 't, F, R, K>,
+    pool: &P,
+    lobby: &Lobby<K>,
+    host: Host<'_, K>,
     listeners: Listeners<'_>,
     workers: Vec<JoinHandle<()>>,
 )
 where
     N: Net<Listener = TcpListener, Stream = TcpStream> + Threads + Wait + Clock,
 {
-    close_doors(rt, desk, listeners);
-    desk.lobby.wait_until_empty(rt);
-    desk.pool.close();
+    close_doors(rt, lobby, host, listeners);
+    lobby.wait_until_empty(rt);
+    pool.close();
     for worker in workers {
         worker.join(rt);
     }
@@ -150,10 +154,10 @@ where
 
 /// Runs a host until its program has attended to it: workers, connections, and who looks at each account. When it returns, all of them have
 /// ended. Answers whether all threads could be made; the program attends to no other host.
-fn run_accounts<'t, F: Front + Sync, R, K: PoolIds + Naming + Send + Sync>(
+fn run_accounts<F: Front + Sync, R, P: SharedAccounts<K> + Sync, K: PoolIds + Naming + Send + Sync>(
     rt: &R,
     listeners: Listeners<'_>,
-    desk: &Desk<'_, 't, F, R, K>,
+    desk: &Desk<'_, F, P, K>,
     workers: Vec<Share<K>>,
     attending: Share<K>,
 ) -> bool
@@ -194,7 +198,7 @@ where
         attend(&*rt, &*desk, all_are_there, attending);
         // Without a thread for it nobody is told for whom the host waits.
         let _ = scope.spawn(move || tell_waits(rt, desk, over));
-        wind_down(rt, desk, listeners, handles);
+        wind_down(rt, desk.pool, desk.lobby, desk.host, listeners, handles);
         over.end(rt);
         desk.board.close(rt);
         all_are_there
@@ -204,16 +208,16 @@ where
 /// Lets the place of each account be kept in a thread of its own while `run` runs, which is told whether all of these could be made, and which
 /// ends them. Answers the files, or why an account of the start isn't there, or that some thread couldn't be made.
 fn keep_while<
-    't,
     F: Front + Sync,
     D: Disk + Drop + Send,
     O: Opener<D> + Sync,
     R,
+    P,
     K,
     G: FnOnce(bool) -> bool,
 >(
     rt: &R,
-    desk: &Desk<'_, 't, F, R, K>,
+    desk: &Desk<'_, F, P, K>,
     opener: &O,
     firsts: usize,
     means: Vec<Means<K>>,
@@ -222,6 +226,7 @@ fn keep_while<
 where
     R: Threads + Wait + Clock + Sync,
     F::Entrance: Send,
+    P: SharedAccounts<K> + Sync,
     K: PoolIds + Naming + Send + Sync,
     requires { (there : _) → G.pre run there }
 {
@@ -265,10 +270,10 @@ where
 
 /// Runs a host until its program has attended to it, if all scribes are there. When all else has ended, what is left is noted, and the
 /// scribes are told to write it and end. Answers whether all threads could be made.
-fn run_noted<'t, F: Front + Sync, R, K: PoolIds + Naming + Send + Sync>(
+fn run_noted<F: Front + Sync, R, P: SharedAccounts<K> + Sync, K: PoolIds + Naming + Send + Sync>(
     rt: &R,
     listeners: Listeners<'_>,
-    desk: &Desk<'_, 't, F, R, K>,
+    desk: &Desk<'_, F, P, K>,
     workers: Vec<Share<K>>,
     attending: Share<K>,
     scribes_are_there: bool,
@@ -291,10 +296,10 @@ where
 
 /// Runs a host until its program has attended to it, with each place kept in a thread of its own: replies that wait for the disk need these as
 /// long as a connection is open. The accounts of the first places come at once. Answers the files.
-pub(crate) fn run_threads<'t, F: Front + Sync, D: Disk + Drop + Send, O: Opener<D> + Sync, R, K>(
+pub(crate) fn run_threads<F: Front + Sync, D: Disk + Drop + Send, O: Opener<D> + Sync, R, P, K>(
     rt: &R,
     listeners: Listeners<'_>,
-    desk: &Desk<'_, 't, F, R, K>,
+    desk: &Desk<'_, F, P, K>,
     opener: &O,
     firsts: usize,
     shares: Shares<K>,
@@ -302,6 +307,7 @@ pub(crate) fn run_threads<'t, F: Front + Sync, D: Disk + Drop + Send, O: Opener<
 where
     R: Net<Listener = TcpListener, Stream = TcpStream> + Threads + Wait + Clock + Sync,
     F::Entrance: Send,
+    P: SharedAccounts<K> + Sync,
     K: PoolIds + Naming + Send + Sync,
 {
     let Shares {

@@ -22,7 +22,7 @@ use kl1_codes::CodeTable;
 use kl1_host_journals::{FreshHistory, KeeperPlace, Naming};
 use kl1_log::{Disk, LogFile};
 use kl1_model::limits::MOST_ACCOUNTS;
-use kl1_pool::{Pool, PoolIds, PoolParts, Rules, Share};
+use kl1_pool::{Pool, PoolIds, PoolParts, Rules, Share, SharedAccounts};
 use std::alloc::{AllocError, Global};
 use std::marker::Brand;
 use std::net::{Net, TcpListener, TcpStream};
@@ -132,12 +132,12 @@ fn begin_places<W: Wait>(rt: &W, places: &[AccountPlace], firsts: usize) {
 }
 
 /// Runs a host over a pool until its end.
-fn run_pool<'p, 't, F: Front + Sync, D: Disk + Drop + Send, O: Opener<D> + Sync, R, K>(
+fn run_pool<'p, F: Front + Sync, D: Disk + Drop + Send, O: Opener<D> + Sync, R, P, K>(
     rt: &R,
     alloc: Global,
     listeners: Listeners<'_>,
     front: &'p F,
-    pool: &'p Pool<'t, R, K>,
+    pool: &'p P,
     shares: Vec<Share<K>>,
     opener: &O,
     histories: Vec<FreshHistory>,
@@ -146,6 +146,7 @@ fn run_pool<'p, 't, F: Front + Sync, D: Disk + Drop + Send, O: Opener<D> + Sync,
 where
     R: Net<Listener = TcpListener, Stream = TcpStream> + Threads + Wait + Clock + Sync,
     F::Entrance: Send,
+    P: SharedAccounts<K> + Sync,
     K: PoolIds + Naming + Send + Sync,
     requires { AreFresh K.books histories.items }
 {

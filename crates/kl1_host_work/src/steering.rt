@@ -7,7 +7,7 @@ use crate::front::Front;
 use crate::live::Amounts;
 use crate::view::View;
 use kl1_host_journals::{Connecting, Naming};
-use kl1_pool::PoolIds;
+use kl1_pool::{PoolIds, SharedAccounts};
 use std::sync::Wait;
 use std::time::Clock;
 
@@ -45,8 +45,8 @@ fn change_budgets(budgets: &[Budget], before: u64, after: u64) {
     }
 }
 
-impl<F: Front, N: Wait + Clock, R: Wait, K: PoolIds + Naming, C: Connecting> Steering
-    for View<'_, '_, '_, F, N, R, K, C> {
+impl<F: Front, N: Wait + Clock, P: SharedAccounts<K>, K: PoolIds + Naming, C: Connecting> Steering
+    for View<'_, '_, F, N, P, K, C> {
     fn places(&self) -> usize {
         let host = self.desk.host;
         host.places.len()

@@ -10,7 +10,7 @@ use crate::visit::{Visit, now_of};
 use kl1_host_journals::{Connecting, Naming, Outgoing};
 use kl1_journal_entries::Journal;
 use kl1_journal_stamps::Stamp;
-use kl1_pool::{BookTotals, JournalReader, PoolIds};
+use kl1_pool::{BookTotals, JournalReader, PoolIds, SharedAccounts};
 use kl1_user_events::{Extent, GoalNo, GoalView, Presence, ShoenNo, ShoenView, Usage};
 use std::alloc::AllocError;
 use std::cell::Cell;
@@ -22,15 +22,14 @@ use std::time::Clock;
 pub(crate) struct View<
     'v,
     'd,
-    't,
     F: Front,
     N: Wait + Clock,
-    R: Wait,
+    P: SharedAccounts<K>,
     K: PoolIds + Naming,
     C: Connecting,
 > {
     pub(crate) rt: &'v N,
-    pub(crate) desk: &'v Desk<'d, 't, F, R, K>,
+    pub(crate) desk: &'v Desk<'d, F, P, K>,
     /// The edition of the keys of who is served, or an older one.
     pub(crate) edition: u64,
     /// The leave to write of the connection that is told what is seen; `None` if no connection is.
@@ -56,28 +55,27 @@ impl JournalReader for SessionsReader {
 }
 
 /// How many sessions of an account are open; `None` if another account was found, which never is so.
-pub(crate) fn sessions_of<'t, F: Front, W: Wait, R: Wait, K: PoolIds + Naming>(
+pub(crate) fn sessions_of<W: Wait, P: SharedAccounts<K>, K: PoolIds>(
     rt: &W,
-    desk: &Desk<'_, 't, F, R, K>,
+    pool: &P,
     account: usize,
 ) -> Option<u64>
     requires { account < K.accounts }
 {
     let mut reader = SessionsReader { sessions: 0 };
-    if desk.pool.look(rt, account, &mut reader) {
+    if pool.look(rt, account, &mut reader) {
         Some(reader.sessions)
     } else {
         None
     }
 }
 
-impl<F: Front, N: Wait + Clock, R: Wait, K: PoolIds + Naming, C: Connecting> View<
-    '_,
+impl<F: Front, N: Wait + Clock, P: SharedAccounts<K>, K: PoolIds + Naming, C: Connecting> View<
     '_,
     '_,
     F,
     N,
-    R,
+    P,
     K,
     C,
 > {
@@ -98,8 +96,8 @@ impl<F: Front, N: Wait + Clock, R: Wait, K: PoolIds + Naming, C: Connecting> Vie
     }
 }
 
-impl<F: Front, N: Wait + Clock, R: Wait, K: PoolIds + Naming, C: Connecting> HostView
-    for View<'_, '_, '_, F, N, R, K, C> {
+impl<F: Front, N: Wait + Clock, P: SharedAccounts<K>, K: PoolIds + Naming, C: Connecting> HostView
+    for View<'_, '_, F, N, P, K, C> {
     fn let_in(&self) {
         if let Some(visit) = self.visit {
             visit.let_in();

@@ -6,6 +6,7 @@ use crate::board::Outlook;
 use crate::connections::Desk;
 use crate::filling::{is_beyond_disk, is_short};
 use crate::front::{Front, HostEvent, Sight};
+use crate::host::Host;
 use crate::keeping::close_up;
 use crate::noting::note;
 use crate::overruns::change_of;
@@ -13,7 +14,7 @@ use crate::view::sessions_of;
 use crate::visit::now_of;
 use kl1_host_journals::{Bell, Naming};
 use kl1_model::limits::MOST_ACCOUNTS;
-use kl1_pool::PoolIds;
+use kl1_pool::{PoolIds, SharedAccounts};
 use std::sync::Wait;
 use std::time::{Clock, Duration};
 
@@ -33,17 +34,17 @@ struct Told {
 
 /// What is seen of an account now; `None` if another was found, which never is so. It waits for an account that is in the midst of a
 /// reduction.
-fn look<'t, F: Front, W: Wait + Clock, R: Wait, K: PoolIds + Naming>(
+fn look<W: Wait + Clock, P: SharedAccounts<K>, K: PoolIds>(
     rt: &W,
-    desk: &Desk<'_, 't, F, R, K>,
+    pool: &P,
     account: usize,
 ) -> Option<Sight>
     requires { account < K.accounts }
 {
-    let usage = desk.pool.usage(rt, account).ok()?;
-    let counted = desk.pool.counted(rt, account)?;
-    let bytes = desk.pool.bytes(rt, account)?;
-    let sessions = sessions_of(rt, desk, account)?;
+    let usage = pool.usage(rt, account).ok()?;
+    let counted = pool.counted(rt, account)?;
+    let bytes = pool.bytes(rt, account)?;
+    let sessions = sessions_of(rt, pool, account)?;
     Some(Sight {
         usage,
         counted,
@@ -54,17 +55,17 @@ fn look<'t, F: Front, W: Wait + Clock, R: Wait, K: PoolIds + Naming>(
 }
 
 /// Tells how an account has come to stand with its room on the disk and its sources, if that is another way than before.
-fn tell_room<'t, F: Front, W: Wait, R: Wait, K: PoolIds + Naming>(
+fn tell_room<F: Front, W: Wait, J: Naming>(
     rt: &W,
-    desk: &Desk<'_, 't, F, R, K>,
+    front: &F,
+    host: Host<'_, J>,
     account: usize,
     told: &mut Told,
 ) {
-    let host = desk.host;
     let is_short = is_short(host, account);
     if is_short != told.is_short {
         told.is_short = is_short;
-        desk.front.tell(if is_short {
+        front.tell(if is_short {
             HostEvent::Waits { account }
         } else {
             HostEvent::Written { account }
@@ -73,7 +74,7 @@ fn tell_room<'t, F: Front, W: Wait, R: Wait, K: PoolIds + Naming>(
     let fills_disk = is_beyond_disk(rt, host, account);
     if fills_disk != told.fills_disk {
         told.fills_disk = fills_disk;
-        desk.front.tell(if fills_disk {
+        front.tell(if fills_disk {
             HostEvent::DiskFull { account }
         } else {
             HostEvent::DiskFreed { account }
@@ -85,14 +86,16 @@ fn tell_room<'t, F: Front, W: Wait, R: Wait, K: PoolIds + Naming>(
     };
     if has_all_codes && !told.has_all_codes {
         told.has_all_codes = true;
-        desk.front.tell(HostEvent::CodesFull { account });
+        front.tell(HostEvent::CodesFull { account });
     }
 }
 
 /// Looks at an account for those who ask, and tells when it has come to take more bytes than it may. `over` has whether it did before.
-fn see<'t, F: Front, W: Wait + Clock, R: Wait, K: PoolIds + Naming>(
+fn see<F: Front, W: Wait + Clock, P: SharedAccounts<K>, K: PoolIds>(
     rt: &W,
-    desk: &Desk<'_, 't, F, R, K>,
+    front: &F,
+    pool: &P,
+    memory_each: u64,
     account: usize,
     outlook: &Outlook,
     over: &mut [bool; MOST_ACCOUNTS],
@@ -100,22 +103,22 @@ fn see<'t, F: Front, W: Wait + Clock, R: Wait, K: PoolIds + Naming>(
     requires { account < K.accounts }
 {
     let (asked, _) = outlook.asked(rt);
-    let sight = look(rt, desk, account);
+    let sight = look(rt, pool, account);
     outlook.show(rt, sight, asked);
     if account < over.len()
         && let Some(sight) = sight
-        && let Some(event) = change_of(over, account, sight.bytes, desk.host.memory_each)
+        && let Some(event) = change_of(over, account, sight.bytes, memory_each)
     {
-        desk.front.tell(event);
+        front.tell(event);
     }
 }
 
 /// Looks at an account whenever somebody asks, and once in a while for the bytes that it takes; notes after each period what workers have
 /// done to it that nobody commands; and tells how it stands with its room; until it is to end. It waits for an account that is in the midst
 /// of a reduction, and nobody waits for it.
-pub(crate) fn watch<'t, F: Front, W: Wait + Clock, R: Wait, K: PoolIds + Naming>(
+pub(crate) fn watch<F: Front, W: Wait + Clock, P: SharedAccounts<K>, K: PoolIds + Naming>(
     rt: &W,
-    desk: &Desk<'_, 't, F, R, K>,
+    desk: &Desk<'_, F, P, K>,
     account: usize,
     outlook: &Outlook,
 ) {
@@ -133,7 +136,7 @@ pub(crate) fn watch<'t, F: Front, W: Wait + Clock, R: Wait, K: PoolIds + Naming>
     let (mut noted, mut looked) = (now_of(rt), now_of(rt));
     for _ in rt.forever() {
         // It is told before it waits for the account.
-        tell_room(rt, desk, account, &mut told);
+        tell_room(rt, desk.front, desk.host, account, &mut told);
         if outlook.bell().wait(rt, period.min(most)) {
             return;
         }
@@ -144,7 +147,7 @@ pub(crate) fn watch<'t, F: Front, W: Wait + Clock, R: Wait, K: PoolIds + Naming>
             if let Some(place) = desk.host.places.get(account)
                 && place.is_leaving(rt)
             {
-                close_up(rt, desk, account);
+                close_up(rt, desk.pool, desk.host, account);
             }
             continue;
         }
@@ -158,15 +161,23 @@ pub(crate) fn watch<'t, F: Front, W: Wait + Clock, R: Wait, K: PoolIds + Naming>
         let (_, is_awaited) = outlook.asked(rt);
         if is_awaited || now.saturating_sub(looked) >= most {
             looked = now;
-            see(rt, desk, account, outlook, &mut over);
+            see(
+                rt,
+                desk.front,
+                desk.pool,
+                desk.host.memory_each,
+                account,
+                outlook,
+                &mut over,
+            );
         }
     }
 }
 
 /// Tells for which accounts a host that is to stop waits, each once, until `over`.
-pub(crate) fn tell_waits<'t, F: Front, W: Wait + Clock, R: Wait, K: PoolIds + Naming>(
+pub(crate) fn tell_waits<F: Front, W: Wait + Clock, P: SharedAccounts<K>, K: PoolIds + Naming>(
     rt: &W,
-    desk: &Desk<'_, 't, F, R, K>,
+    desk: &Desk<'_, F, P, K>,
     over: &Bell,
 ) {
     let mut told = [false; MOST_ACCOUNTS];

@@ -11,7 +11,7 @@ ghost use Rattle.kl1_pool_history.specs.Entries.{done_of};
 ghost use Rattle.kl1_pool_history.specs.Histories.{AreAnswered};
 
 use kl1_command::{Command, Performed};
-use kl1_pool::{Answer, JournalReader, Names, Pool, PoolIds, Share};
+use kl1_pool::{Answer, JournalReader, Names, PoolIds, Share, SharedAccounts};
 use logbook::{Opening, Rule, Seen, Start};
 use std::marker::{Model, PhantomData};
 use std::snapshot::Snapshot;
@@ -135,10 +135,10 @@ impl<K: PoolIds, N: Names> Model for History<K, N> {
 
 impl<K: PoolIds> History<K, K> {
     /// Has a pool do a command to the account of this number, from 0, once.
-    pub fn act<'t, W: Wait, R: Wait>(
+    pub fn act<W: Wait, P: SharedAccounts<K>>(
         &mut self,
         rt: &W,
-        pool: &Pool<'t, R, K>,
+        pool: &P,
         account: usize,
         command: &Command,
     ) -> Performed
@@ -169,11 +169,11 @@ impl<K: PoolIds, N: Names> History<K, N> {
     }
 
     /// Has a pool do a command to the account of this number, from 0, once, which is to be called so, and lets a reader read its journal then, as
-    /// `Pool::act_shown`; and whether that read it.
-    pub fn act_shown<'t, W: Wait, R: Wait, L: JournalReader>(
+    /// `SharedAccounts::act_shown`; and whether that read it.
+    pub fn act_shown<W: Wait, P: SharedAccounts<K>, L: JournalReader>(
         &mut self,
         rt: &W,
-        pool: &Pool<'t, R, K>,
+        pool: &P,
         account: usize,
         name: &[u8],
         command: &Command,

@@ -10,7 +10,7 @@ ghost use Rattle.kl1_server_work.specs.declared.connection.TheConstants.{PIECE};
 
 use crate::pool_handler::PoolHandler;
 use kl1_lines::{FailureCounter, Sink, Source};
-use kl1_pool::{Pool, PoolIds, Rules, Share};
+use kl1_pool::{PoolIds, Rules, Share, SharedAccounts};
 use kl1_pool_history::History;
 use kl1_session::{Disconnect, Key, Keys};
 use std::alloc::Global;
@@ -26,12 +26,12 @@ const MOST_SILENT_SECONDS: u64 = 3_600;
 
 /// Serves one connection, of the accounts of a pool with these keys, and gives the share back. Each command that is answered is done once,
 /// by the account that was logged in to, and is counted in the share.
-pub fn serve<'t, S: Source, T: Sink, R: Wait, K: PoolIds>(
+pub fn serve<S: Source, T: Sink, R: Wait, P: SharedAccounts<K>, K: PoolIds>(
     rt: &R,
     alloc: Global,
     source: &mut S,
     sink: &mut T,
-    pool: &Pool<'t, R, K>,
+    pool: &P,
     keys: &[Key],
     share: Share<K>,
 ) -> (Disconnect, Share<K>)
@@ -58,11 +58,11 @@ pub fn serve<'t, S: Source, T: Sink, R: Wait, K: PoolIds>(
 }
 
 /// Serves one connection over a socket, and gives the share back.
-pub(crate) fn serve_stream<'t, R: Wait, K: PoolIds>(
+pub(crate) fn serve_stream<R: Wait, P: SharedAccounts<K>, K: PoolIds>(
     rt: &R,
     alloc: Global,
     stream: TcpStream,
-    pool: &Pool<'t, R, K>,
+    pool: &P,
     keys: &[Key],
     share: Share<K>,
 ) -> Share<K>

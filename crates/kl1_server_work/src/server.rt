@@ -7,7 +7,9 @@ use crate::threads::serve_with_workers;
 use kl1_atoms::AtomTable;
 use kl1_codes::CodeTable;
 use kl1_model::limits::MOST_ACCOUNTS;
-use kl1_pool::{AccountName, Pool, PoolIds, PoolParts, Rules, Share, Totals, gather};
+use kl1_pool::{
+    AccountName, Pool, PoolIds, PoolParts, Rules, Share, SharedAccounts, Totals, gather,
+};
 use kl1_session::Key;
 use std::alloc::{AllocError, Global};
 use std::marker::Brand;
@@ -80,10 +82,10 @@ where
 
 /// Serves until all connections have ended, with `workers` of the shares for workers and the others for connections, and gives the
 /// shares back.
-fn shares_back<'t, K: PoolIds + Send + Sync, R>(
+fn shares_back<P: SharedAccounts<K> + Sync, K: PoolIds + Send + Sync, R>(
     rt: &R,
     alloc: Global,
-    pool: &Pool<'t, R, K>,
+    pool: &P,
     listener: &TcpListener,
     keys: &[Key],
     shares: Vec<Share<K>>,

@@ -3,7 +3,7 @@
 ghost use Rattle.std.specs.Prelude.{◌≤◌, length};
 
 use crate::connection::serve_stream;
-use kl1_pool::{Gate, Pool, PoolIds, Share, worker};
+use kl1_pool::{Gate, PoolIds, Share, SharedAccounts};
 use kl1_session::Key;
 use std::alloc::{AllocError, Global};
 use std::net::{Net, TcpListener, TcpStream};
@@ -23,16 +23,16 @@ impl Gate for OpenGate {
 }
 
 /// Goes on with accounts until the pool is closed, and gives the share back. The worker whose number is `left_out` does nothing.
-fn work<'t, R: Wait, K: PoolIds>(
+fn work<R: Wait, P: SharedAccounts<K>, K: PoolIds>(
     rt: &R,
-    pool: &Pool<'t, R, K>,
+    pool: &P,
     left_out: &AtomicU64,
     number: u64,
     share: Share<K>,
 ) -> Share<K> {
     let mut share = share;
     if left_out.load(Ordering::SeqCst) != number {
-        worker(rt, pool, &OpenGate, number, &mut share);
+        pool.work(rt, &OpenGate, number, &mut share);
     }
     share
 }
@@ -45,11 +45,11 @@ fn put_back<R: Wait, K: PoolIds>(rt: &R, back: &Mutex<Vec<Share<K>>>, share: Sha
 
 /// Accepts a connection for each share, and serves each in a thread of its own, or in this one if no thread can be made. When all
 /// have ended, it gives the shares back, after those of `back`, which has room for them. An accept that fails counts as a connection.
-fn serve_each<'t, R, K: PoolIds + Send + Sync>(
+fn serve_each<R, P: SharedAccounts<K> + Sync, K: PoolIds + Send + Sync>(
     rt: &R,
     alloc: Global,
     listener: &TcpListener,
-    pool: &Pool<'t, R, K>,
+    pool: &P,
     keys: &[Key],
     shares: Vec<Share<K>>,
     back: Vec<Share<K>>,
@@ -92,11 +92,11 @@ where
 
 /// Starts a worker for each share of `workers`, and leaves out those for which no thread can be made; and serves a connection for each
 /// share of `visitors`. When all connections have ended, it closes the pool, waits for the workers, and gives the shares back.
-pub(crate) fn serve_with_workers<'t, R, K: PoolIds + Send + Sync>(
+pub(crate) fn serve_with_workers<R, P: SharedAccounts<K> + Sync, K: PoolIds + Send + Sync>(
     rt: &R,
     alloc: Global,
     listener: &TcpListener,
-    pool: &Pool<'t, R, K>,
+    pool: &P,
     keys: &[Key],
     workers: Vec<Share<K>>,
     visitors: Vec<Share<K>>,

@@ -18,11 +18,12 @@ scoped-requires g c =
         c.requires,
         (
           record { owned = t.send-D.owned; leaving = λ k. either_quiet (k (of_param 1)) },
-          record { owned = t.send-K.owned; leaving = λ k. either_quiet (k (of_param 4)) },
-          record { owned = t.send-F-Entrance.owned; leaving = λ k. either_quiet (k (of_param 6)) },
+          record { owned = t.send-K.owned; leaving = λ k. either_quiet (k (of_param 5)) },
+          record { owned = t.send-F-Entrance.owned; leaving = λ k. either_quiet (k (of_param 7)) },
           record { shared = t.sync-F.shared },
           record { shared = t.sync-O.shared },
           record { shared = t.sync-R.shared },
+          record { shared = t.sync-P.shared },
           record { shared = t.sync-K.shared },
         ),
       );

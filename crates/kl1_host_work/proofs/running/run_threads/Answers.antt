@@ -9,5 +9,6 @@ keep_while-requires-after_bounds g c κs within =
       record { owned = t.send-F-Entrance.owned; leaving = λ k x w. tt },
       record { shared = t.sync-F.shared },
       record { shared = t.sync-R.shared },
+      record { shared = t.sync-P.shared },
       record { shared = t.sync-K.shared },
     )
