@@ -1,7 +1,7 @@
 // Commands to accounts of a pool, under their locks.
 
 ghost use Rattle.std.specs.Prelude.{◌≡◌, ◌<◌, Some, IsSome, slice_get, true, false};
-ghost use Rattle.kl1_pool_tickets.specs.Counts.{Moved, Acts};
+ghost use Rattle.kl1_pool_tickets.specs.Counts.{Moved};
 ghost use Rattle.kl1_command.specs.Commands.{command_view};
 ghost use Rattle.kl1_command.specs.Told.{events_told, steps_told};
 ghost use Rattle.kl1_journal_stamps.specs.Stamps.{StampValue};
@@ -74,7 +74,7 @@ impl<'t, R: Wait, K: PoolIds> Pool<'t, R, K> {
     }
 
     /// Does a command to an account under its lock; and its ticket that is to be put, if there is one.
-    fn visit<W: Wait>(
+    pub(crate) fn visit<W: Wait>(
         &self,
         rt: &W,
         account: usize,
@@ -91,27 +91,6 @@ impl<'t, R: Wait, K: PoolIds> Pool<'t, R, K> {
         let (answer, due) = self.act_at(&mut *slot.tenant, account, command, share);
         slot.note_answer(answer.performed());
         (answer, due)
-    }
-
-    /// Does a command to an account under its lock, as `PoolAccount::perform`. Afterwards a ticket of the account is put unless the account is
-    /// quiet or one is out.
-    pub fn act<W: Wait>(
-        &self,
-        rt: &W,
-        account: usize,
-        command: &Command,
-        share: &mut Share<K>,
-    ) -> Answer<K, K>
-        requires within { account < K.accounts }
-        ensures counted { Acts account (events_told result.performed) (steps_told result.performed) share.old share.new }
-        ensures account { result.account ≡ account }
-        ensures command { result.command ≡ command_view command.now }
-    {
-        let (answer, due) = self.visit(rt, account, command, share);
-        if let Some(due) = due {
-            self.offer(rt, account, due, share);
-        }
-        answer
     }
 
     /// `act_on` of an account that is called so, after which a reader reads its journal, if the command was done; and whether it did.
@@ -149,7 +128,7 @@ impl<'t, R: Wait, K: PoolIds> Pool<'t, R, K> {
     }
 
     /// `show_on` of the account at a place, if there is one.
-    fn show_at<N: Names, L: JournalReader>(
+    pub(crate) fn show_at<N: Names, L: JournalReader>(
         &self,
         tenant: &mut Option<Tenant<'t, R, K>>,
         account: usize,
@@ -175,44 +154,5 @@ impl<'t, R: Wait, K: PoolIds> Pool<'t, R, K> {
             Some(Tenant::Nobody(place)) => (Answer::absent(place, account, command), None, false),
             None => unreachable!(),
         }
-    }
-
-    /// Does a command to the account of this number, which is to be called so, under its lock, as `act`; and lets a reader read the account's
-    /// journal then, under the same lock. Answers whether it did: it didn't if the account isn't here, is called otherwise or is over its bound.
-    pub fn act_shown<N: Names, W: Wait, L: JournalReader>(
-        &self,
-        rt: &W,
-        account: usize,
-        name: &[u8],
-        command: &Command,
-        share: &mut Share<K>,
-        reader: &mut L,
-    ) -> (Answer<K, N>, bool)
-        requires within { account < K.accounts }
-        requires named { slice_get N.names account ≡ Some name.now }
-        requires takes { (s : StampValue) → slice_get K.histories account ≡ Some s.history → L.takes reader.old s }
-        ensures counted { Acts account (events_told result.0.performed) (steps_told result.0.performed) share.old share.new }
-        ensures account { result.0.account ≡ account }
-        ensures command { result.0.command ≡ command_view command.now }
-        ensures shown { result.1 ≡ true → IsShownAfter K.rules (called_at N.names account) (command_view command.now) result.0.performed (λ j ended. L.reads reader.old reader.new j ended) }
-        ensures same { result.1 ≡ false → reader.new ≡ reader.old }
-    {
-        let mut guard = self.places[account].lock(rt);
-        let slot = &mut *guard;
-        let (answer, due, is_shown) = self.show_at::<N, L>(
-            &mut *slot.tenant,
-            account,
-            name,
-            command,
-            share,
-            reader,
-        );
-        slot.note_answer(answer.performed());
-        drop(guard);
-        if let Some(due) = due {
-            self.offer(rt, account, due, share);
-            return (answer, is_shown);
-        }
-        (answer, is_shown)
     }
 }

@@ -23,7 +23,7 @@ mod restored_deed;
 mod restoring;
 mod shared_accounts;
 mod shared_tables;
-mod showing;
+mod sharing;
 mod tenancy;
 mod totals_before_reset;
 mod turn;
@@ -50,7 +50,6 @@ pub use shared_tables::SharedTables;
 pub use tenancy::{LastReader, Newcomer};
 pub use totals_before_reset::TotalsBeforeReset;
 pub use turn::Turn;
-pub use working::worker;
 
 /// Between two looks at an account that tell the same number of events in journals that resets ended, the account came to what it is by
 /// events without a reset, so that its journal only grew. It does nothing: its contract is this law.

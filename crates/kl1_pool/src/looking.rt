@@ -1,13 +1,11 @@
 // Looking at the journal of an account of a pool, under its lock.
 
-ghost use Rattle.std.specs.Prelude.{◌≡◌, ℕ, ◌<◌, Some, slice_get, IsTrue, false};
+ghost use Rattle.std.specs.Prelude.{◌≡◌, ℕ, Some, slice_get, IsTrue, false};
 ghost use Rattle.kl1_model_server.specs.Journal.{Journal as Entered};
 ghost use Rattle.kl1_journal_stamps.specs.Stamps.{StampValue, IsStampOf};
 ghost use Rattle.kl1_pool.specs.Names.{called_at};
-ghost use Rattle.kl1_pool.specs.Showing.{IsFound, IsSeenOfSome};
+ghost use Rattle.kl1_pool.specs.Showing.{IsFound};
 
-use crate::locked_slot::Tenant;
-use crate::pool::Pool;
 use crate::pool_account::PoolAccount;
 use crate::pool_ids::PoolIds;
 use kl1_journal_entries::Journal;
@@ -28,24 +26,6 @@ pub trait JournalReader {
         requires takes { takes self.old stamp.now }
         requires stamp { IsStampOf journal.now.journal ended stamp.now }
         ensures { reads self.old self.new journal.now.journal ended };
-}
-
-impl<'t, R: Wait, K: PoolIds> Pool<'t, R, K> {
-    /// Lets a reader read the journal of an account once, under its lock, with how many events were counted before the last reset.
-    /// Answers whether it did: it didn't if there is no account here; or if another was found, or other journals in its history, which never is so.
-    pub fn look<W: Wait, L: JournalReader>(&self, rt: &W, account: usize, reader: &mut L) -> bool
-        requires within { account < K.accounts }
-        requires takes { (s : StampValue) → slice_get K.histories account ≡ Some s.history → L.takes reader.old s }
-        ensures seen { IsTrue result → IsSeenOfSome K.rules (called_at K.names account) (λ j ended. L.reads reader.old reader.new j ended) }
-        ensures same { result ≡ false → reader.new ≡ reader.old }
-    {
-        let mut guard = self.places[account].lock(rt);
-        let slot = &mut *guard;
-        match &mut *slot.tenant {
-            Some(Tenant::Account(found)) => found.look_at(account, reader),
-            _ => false,
-        }
-    }
 }
 
 impl<'t, R: Wait, K: PoolIds> PoolAccount<'t, R, K> {

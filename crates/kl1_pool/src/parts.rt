@@ -101,7 +101,7 @@ impl<'t> PoolParts<'t> {
         })
     }
 
-    /// The same, but that an account that takes more than `most_bytes` bytes doesn't go on, as `Pool::act` and `worker` say.
+    /// The same, but that an account that takes more than `most_bytes` bytes doesn't go on, as `Pool::act` and `work` say.
     pub fn bounded(self, most_bytes: u64) -> PoolParts<'t>
         ensures { result ≡ record self.entry { most_bytes = most_bytes } }
     {

@@ -104,20 +104,6 @@ impl<'t, R: Wait, K: PoolIds> Pool<'t, R, K> {
         }
     }
 
-    /// How many places for accounts there are.
-    pub fn accounts(&self) -> usize
-        ensures { result ≡ K.accounts }
-    {
-        self.places.len()
-    }
-
-    /// The rules that all accounts keep to.
-    pub fn rules(&self) -> Rules
-        ensures { result ≡ K.rules }
-    {
-        self.rules
-    }
-
     /// Puts an account's ticket; if it can't be put, none is out.
     pub(crate) fn offer<W: Wait>(
         &self,
@@ -269,10 +255,5 @@ impl<'t, R: Wait, K: PoolIds> Pool<'t, R, K> {
             rules: _,
         } = self;
         drop_all(places);
-    }
-
-    /// Ends each worker before its next ticket.
-    pub fn close(&self) {
-        self.common.close();
     }
 }

@@ -5,7 +5,7 @@ ghost use Rattle.kl1_model.specs.Choice.{quiet};
 ghost use Rattle.kl1_journal.specs.Keeping.{Reading, Fits, kept_of};
 ghost use Rattle.kl1_journal_entries.specs.Lined.{Rows};
 ghost use Rattle.kl1_journal_stamps.specs.Stamps.{StampValue};
-ghost use Rattle.kl1_pool_tickets.specs.Counts.{Moved, Acts};
+ghost use Rattle.kl1_pool_tickets.specs.Counts.{Moved};
 ghost use Rattle.kl1_pool.specs.Names.{is_called, called_at};
 ghost use Rattle.kl1_pool.specs.Restoring.{IsRestoredOf, events_of, steps_of};
 ghost use Rattle.kl1_pool.specs.Showing.{IsSeenOfSome, IsLastOf};
@@ -26,7 +26,7 @@ use std::mem;
 use std::sync::Wait;
 
 /// What is told of an account that can't come.
-const NOT_RESTORED: Restored = Restored {
+pub(crate) const NOT_RESTORED: Restored = Restored {
     entries: 0,
     steps: 0,
     end: RestoreEnd::Memory,
@@ -178,7 +178,7 @@ impl<'t, R: Wait, K: PoolIds> Pool<'t, R, K> {
     }
 
     /// `admit` at a place under its lock; and the account's ticket that is to be put, if there is one.
-    fn admit_at<L: Newcomer>(
+    pub(crate) fn admit_at<L: Newcomer>(
         &self,
         tenant: &mut Option<Tenant<'t, R, K>>,
         alloc: Global,
@@ -216,39 +216,6 @@ impl<'t, R: Wait, K: PoolIds> Pool<'t, R, K> {
                 (NOT_RESTORED, None)
             }
         }
-    }
-
-    /// Lets an account come to a place at which none was yet: it is begun as one of this name which had used the names of `comer`'s journal at its last
-    /// reset, and all entries of that are done to it, one after another, under its lock; `comer` is told how far it is, and may end it, which is
-    /// told as want of memory. If all were done, whole, `comer` reads the account's journal, and from then on the account may be commanded and gone on
-    /// with: its ticket is put unless it is quiet. Else no account ever comes there. If there is one already, or was, or the place is one of the first,
-    /// which have names, nothing is done, as if memory was refused.
-    pub fn admit<W: Wait, L: Newcomer>(
-        &self,
-        rt: &W,
-        alloc: Global,
-        account: usize,
-        name: AccountName,
-        comer: &mut L,
-        share: &mut Share<K>,
-    ) -> Restored
-        requires within { account < K.accounts }
-        requires takes { (s : StampValue) → slice_get K.histories account ≡ Some s.history → L.takes comer.old s }
-        ensures restored { IsRestoredOf K.rules (is_called name) (L.brings comer.old).journal result }
-        ensures counted { Acts account (events_of (L.brings comer.old).journal.entries result) (steps_of (L.brings comer.old).journal.entries result) share.old share.new }
-        ensures seen { (comer.new ≡ comer.old) ⊎ ((result.end ≡ All) × IsSeenOfSome K.rules (is_called name) (λ j ended. L.reads comer.old comer.new j ended)) }
-    {
-        if account < self.named {
-            return NOT_RESTORED;
-        }
-        let mut guard = self.places[account].lock(rt);
-        let slot = &mut *guard;
-        let (restored, due) = self.admit_at(&mut *slot.tenant, alloc, account, name, comer, share);
-        drop(guard);
-        if let Some(due) = due {
-            self.offer(rt, account, due, share);
-        }
-        restored
     }
 
     /// Lets accounts of these names come to the first places, in which nothing has happened.
@@ -317,28 +284,8 @@ impl<'t, R: Wait, K: PoolIds> Pool<'t, R, K> {
         }
     }
 
-    /// Lets a reader read the journal of an account for the last time, after which nothing more is done to the account and nothing is shown of it,
-    /// all under its lock: its memory is freed, and the history of its journals that were shown, which the account alone had, is handed out. `None` if
-    /// that isn't so: there is no account here, or the reader asks to come again.
-    pub fn close_account<W: Wait, L: LastReader>(
-        &self,
-        rt: &W,
-        account: usize,
-        reader: &mut L,
-    ) -> Option<ShownHistory>
-        requires within { account < K.accounts }
-        requires takes { (s : StampValue) → slice_get K.histories account ≡ Some s.history → L.takes reader.old s }
-        ensures history { IfSome result (λ shown. slice_get K.histories account ≡ Some shown.history) }
-        ensures seen { IfSome result (λ shown. IsSeenOfSome K.rules (called_at K.names account) (λ j ended. L.reads reader.old reader.new j ended × IsLastOf shown j ended)) }
-        ensures read { IfSome result (λ shown. L.has_read reader.new ≡ true) }
-    {
-        let mut guard = self.places[account].lock(rt);
-        let slot = &mut *guard;
-        self.close_at(&mut *slot.tenant, account, reader)
-    }
-
     /// `close_account` of the account at a place under its lock, if there is one.
-    fn close_at<L: LastReader>(
+    pub(crate) fn close_at<L: LastReader>(
         &self,
         tenant: &mut Option<Tenant<'t, R, K>>,
         account: usize,

@@ -8,15 +8,15 @@ use crate::rows::{cut, number_of};
 use kl1_command::{Parsed, command_in, put_reply};
 use kl1_lines::{NextRecord, Record, Request, next_record};
 use kl1_model::Rules;
-use kl1_pool::{Command, Performed, Pool, PoolIds, Share};
+use kl1_pool::{Command, Performed, PoolIds, Share, SharedAccounts};
 use kl1_user_events::{Event, Query, Reply};
 use std::sync::Wait;
 use std::thread;
 
 /// What an account answers to a command; `Memory` if there is no account of this number.
-pub fn answered<'t, R: Wait, K: PoolIds>(
+pub fn answered<R: Wait, P: SharedAccounts<K>, K: PoolIds>(
     rt: &R,
-    pool: &Pool<'t, R, K>,
+    pool: &P,
     account: usize,
     command: &Command,
     share: &mut Share<K>,
@@ -28,9 +28,9 @@ pub fn answered<'t, R: Wait, K: PoolIds>(
 }
 
 /// What an account answers to a run that want of memory cut short after `steps`, if it goes on: the steps of both.
-fn answered_after<'t, R: Wait, K: PoolIds>(
+fn answered_after<R: Wait, P: SharedAccounts<K>, K: PoolIds>(
     rt: &R,
-    pool: &Pool<'t, R, K>,
+    pool: &P,
     account: usize,
     command: &Command,
     steps: u64,
@@ -50,9 +50,9 @@ fn answered_after<'t, R: Wait, K: PoolIds>(
 }
 
 /// What an account answers to a command, at the second try if memory is refused at the first.
-fn answered_again<'t, R: Wait, K: PoolIds>(
+fn answered_again<R: Wait, P: SharedAccounts<K>, K: PoolIds>(
     rt: &R,
-    pool: &Pool<'t, R, K>,
+    pool: &P,
     account: usize,
     command: &Command,
     share: &mut Share<K>,
@@ -65,9 +65,9 @@ fn answered_again<'t, R: Wait, K: PoolIds>(
 }
 
 /// Puts what an account answers to a request, as a session does.
-pub fn put_answer<'t, R: Wait, K: PoolIds>(
+pub fn put_answer<R: Wait, P: SharedAccounts<K>, K: PoolIds>(
     rt: &R,
-    pool: &Pool<'t, R, K>,
+    pool: &P,
     account: usize,
     request: Request<'_>,
     share: &mut Share<K>,
@@ -89,9 +89,9 @@ pub fn put_answer<'t, R: Wait, K: PoolIds>(
 }
 
 /// Whether no goal of an account can step.
-pub fn is_quiet<'t, R: Wait, K: PoolIds>(
+pub fn is_quiet<R: Wait, P: SharedAccounts<K>, K: PoolIds>(
     rt: &R,
-    pool: &Pool<'t, R, K>,
+    pool: &P,
     account: usize,
     share: &mut Share<K>,
 ) -> bool {
@@ -103,9 +103,9 @@ pub fn is_quiet<'t, R: Wait, K: PoolIds>(
 }
 
 /// Waits until no goal of an account can step; whether it came to that.
-pub fn comes_to_rest<'t, R: Wait, K: PoolIds>(
+pub fn comes_to_rest<R: Wait, P: SharedAccounts<K>, K: PoolIds>(
     rt: &R,
-    pool: &Pool<'t, R, K>,
+    pool: &P,
     account: usize,
     share: &mut Share<K>,
 ) -> bool {
@@ -140,9 +140,9 @@ fn account_of(name: &[u8]) -> usize {
 /// Does what a record asks for. Beside commands, `rest` waits until the account is quiet, `turns N` until N turns have ended, and
 /// `replay` puts how the replay of its journal ends, `look` puts its journal as it is looked at, `restore NAME COUNT` lets it come
 /// with another account's journal, but for the first COUNT of its entries, 0 if it isn't given, `memory` puts whether it takes more bytes than it may, and `grow` waits until it does.
-fn play_record<'t, R: Wait, K: PoolIds>(
+fn play_record<R: Wait, P: SharedAccounts<K>, K: PoolIds>(
     rt: &R,
-    pool: &Pool<'t, R, K>,
+    pool: &P,
     gate: &Counter,
     record: Record<'_>,
     share: &mut Share<K>,
@@ -180,9 +180,9 @@ fn play_record<'t, R: Wait, K: PoolIds>(
 }
 
 /// Does what the records of a text ask for, each of which begins with the name of an account.
-pub fn play<'t, R: Wait, K: PoolIds>(
+pub fn play<R: Wait, P: SharedAccounts<K>, K: PoolIds>(
     rt: &R,
-    pool: &Pool<'t, R, K>,
+    pool: &P,
     gate: &Counter,
     text: &[u8],
     share: &mut Share<K>,

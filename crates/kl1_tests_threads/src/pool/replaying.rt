@@ -3,7 +3,7 @@
 use crate::pool::play::answered;
 use crate::report::Text;
 use kl1_lines::{is_same, split_feed};
-use kl1_pool::{Command, Performed, Pool, PoolIds, Share};
+use kl1_pool::{Command, Performed, PoolIds, Share, SharedAccounts};
 use kl1_script::{FailureCounter, run_replay};
 use kl1_user_events::{Listed, Reply};
 use std::sync::Wait;
@@ -21,9 +21,9 @@ fn put_page(text: &mut Text, lines: &Listed) -> u64 {
 }
 
 /// Puts the journal of an account, as it is told page by page.
-fn put_journal<'t, R: Wait, K: PoolIds>(
+fn put_journal<R: Wait, P: SharedAccounts<K>, K: PoolIds>(
     rt: &R,
-    pool: &Pool<'t, R, K>,
+    pool: &P,
     account: usize,
     share: &mut Share<K>,
     text: &mut Text,
@@ -66,9 +66,9 @@ fn last_and_reduced(text: &[u8]) -> (&[u8], u64) {
 }
 
 /// Replays the journal of an account; puts the last line that is written, and after a space how many reductions were replayed.
-pub fn put_replay<'t, R: Wait, K: PoolIds>(
+pub fn put_replay<R: Wait, P: SharedAccounts<K>, K: PoolIds>(
     rt: &R,
-    pool: &Pool<'t, R, K>,
+    pool: &P,
     account: usize,
     share: &mut Share<K>,
     out: &mut Text,

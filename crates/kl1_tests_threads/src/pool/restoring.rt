@@ -7,8 +7,8 @@ use crate::rows::cut;
 use kl1_journal_entries::Journal;
 use kl1_journal_stamps::Stamp;
 use kl1_pool::{
-    AccountName, Command, JournalReader, Meter, Newcomer, Performed, Pool, PoolIds, RestoreEnd,
-    Restored, Share,
+    AccountName, Command, JournalReader, Meter, Newcomer, Performed, PoolIds, RestoreEnd, Restored,
+    Share, SharedAccounts,
 };
 use std::sync::Wait;
 use std::thread;
@@ -40,9 +40,9 @@ impl JournalReader for Copy {
 }
 
 /// What is seen of the journal of an account.
-fn seen<'t, R: Wait, K: PoolIds>(
+fn seen<R: Wait, P: SharedAccounts<K>, K: PoolIds>(
     rt: &R,
-    pool: &Pool<'t, R, K>,
+    pool: &P,
     account: usize,
     out: &mut Text,
 ) -> Copy {
@@ -57,9 +57,9 @@ fn seen<'t, R: Wait, K: PoolIds>(
 }
 
 /// Puts the text of an account's journal, after a line with how many events were counted in its journals that resets ended.
-pub fn put_look<'t, R: Wait, K: PoolIds>(
+pub fn put_look<R: Wait, P: SharedAccounts<K>, K: PoolIds>(
     rt: &R,
-    pool: &Pool<'t, R, K>,
+    pool: &P,
     account: usize,
     out: &mut Text,
 ) {
@@ -134,9 +134,9 @@ fn name_of(account: usize) -> Option<AccountName> {
 
 /// Lets another account come with the journal of account `from`, but for its first `left_out` entries, and puts how many were done whole,
 /// how many first steps of the next one, and why no more were.
-pub fn put_restored<'t, R: Wait, K: PoolIds>(
+pub fn put_restored<R: Wait, P: SharedAccounts<K>, K: PoolIds>(
     rt: &R,
-    pool: &Pool<'t, R, K>,
+    pool: &P,
     account: usize,
     from: usize,
     left_out: u64,
@@ -161,9 +161,9 @@ pub fn put_restored<'t, R: Wait, K: PoolIds>(
 }
 
 /// Whether an account refuses memory to a run of no steps, as one does that takes more bytes than it may.
-fn is_over<'t, R: Wait, K: PoolIds>(
+fn is_over<R: Wait, P: SharedAccounts<K>, K: PoolIds>(
     rt: &R,
-    pool: &Pool<'t, R, K>,
+    pool: &P,
     account: usize,
     share: &mut Share<K>,
 ) -> bool {
@@ -174,9 +174,9 @@ fn is_over<'t, R: Wait, K: PoolIds>(
 }
 
 /// Puts whether an account takes more bytes than it may.
-pub fn put_over<'t, R: Wait, K: PoolIds>(
+pub fn put_over<R: Wait, P: SharedAccounts<K>, K: PoolIds>(
     rt: &R,
-    pool: &Pool<'t, R, K>,
+    pool: &P,
     account: usize,
     share: &mut Share<K>,
     out: &mut Text,
@@ -189,9 +189,9 @@ pub fn put_over<'t, R: Wait, K: PoolIds>(
 }
 
 /// Waits until an account takes more bytes than it may; whether it came to that.
-pub fn comes_over<'t, R: Wait, K: PoolIds>(
+pub fn comes_over<R: Wait, P: SharedAccounts<K>, K: PoolIds>(
     rt: &R,
-    pool: &Pool<'t, R, K>,
+    pool: &P,
     account: usize,
     share: &mut Share<K>,
 ) -> bool {

@@ -10,7 +10,7 @@ use crate::pool::setup::{BY_THREE, FIRST_BY_FOUR, Setup, by_four};
 use crate::pool::tried::tried;
 use crate::report::Text;
 use crate::rows::{cut, number_of, put_decoded};
-use kl1_pool::{Pool, PoolIds, Share, Totals, worker};
+use kl1_pool::{PoolIds, Share, SharedAccounts, Totals};
 use std::alloc::Global;
 use std::rt::Clock;
 use std::sync::Wait;
@@ -29,20 +29,20 @@ struct Row<'a> {
 }
 
 impl Job for Row<'_> {
-    fn begin<'t, R: Wait + Clock, K: PoolIds>(
+    fn begin<R: Wait + Clock, P: SharedAccounts<K>, K: PoolIds>(
         &self,
         rt: &R,
-        pool: &Pool<'t, R, K>,
+        pool: &P,
         share: &mut Share<K>,
         out: &mut Text,
     ) {
         play(rt, pool, &self.gate, self.before, share, out);
     }
 
-    fn go_on<'t, R: Wait + Clock, K: PoolIds>(
+    fn go_on<R: Wait + Clock, P: SharedAccounts<K>, K: PoolIds>(
         &self,
         rt: &R,
-        pool: &Pool<'t, R, K>,
+        pool: &P,
         number: u64,
         share: &mut Share<K>,
         out: &mut Text,
@@ -52,14 +52,14 @@ impl Job for Row<'_> {
             pool.close();
             self.gate.open();
         } else {
-            worker(rt, pool, &self.gate, number, share);
+            pool.work(rt, &self.gate, number, share);
         }
     }
 
-    fn end<'t, R: Wait + Clock, K: PoolIds>(
+    fn end<R: Wait + Clock, P: SharedAccounts<K>, K: PoolIds>(
         &self,
         rt: &R,
-        pool: &Pool<'t, R, K>,
+        pool: &P,
         share: &mut Share<K>,
         out: &mut Text,
     ) {

@@ -11,7 +11,7 @@ use crate::pool::tried::tried;
 use crate::report::Text;
 use crate::rows::number_of;
 use kl1_lines::Request;
-use kl1_pool::{Pool, PoolIds, Share, Totals, worker};
+use kl1_pool::{PoolIds, Share, SharedAccounts, Totals};
 use std::alloc::{AllocError, Global};
 use std::rt::Clock;
 use std::sync::Wait;
@@ -42,10 +42,10 @@ struct Busy {
 
 impl Busy {
     /// Asks each account that is to run for the same, whatever it answers.
-    fn ask_each<'t, R: Wait, K: PoolIds>(
+    fn ask_each<R: Wait, P: SharedAccounts<K>, K: PoolIds>(
         &self,
         rt: &R,
-        pool: &Pool<'t, R, K>,
+        pool: &P,
         request: Request<'_>,
         share: &mut Share<K>,
         out: &mut Text,
@@ -61,7 +61,7 @@ impl Busy {
 }
 
 /// Waits until all accounts are quiet.
-fn rest<'t, R: Wait + Clock, K: PoolIds>(rt: &R, pool: &Pool<'t, R, K>, share: &mut Share<K>) {
+fn rest<R: Wait + Clock, P: SharedAccounts<K>, K: PoolIds>(rt: &R, pool: &P, share: &mut Share<K>) {
     for account in 0..pool.accounts() {
         for _look in 0..1_000_000u32 {
             if is_quiet(rt, pool, account, share) {
@@ -73,10 +73,10 @@ fn rest<'t, R: Wait + Clock, K: PoolIds>(rt: &R, pool: &Pool<'t, R, K>, share: &
 }
 
 /// The nanoseconds of looks, each after a short sleep.
-fn look_times<'t, R: Wait + Clock, K: PoolIds>(
+fn look_times<R: Wait + Clock, P: SharedAccounts<K>, K: PoolIds>(
     rt: &R,
     alloc: Global,
-    pool: &Pool<'t, R, K>,
+    pool: &P,
     account: usize,
     looks: u64,
     share: &mut Share<K>,
@@ -115,26 +115,26 @@ pub fn put_halves(out: &mut Text, times: Result<Vec<u64>, AllocError>) {
 }
 
 impl Job for Busy {
-    fn begin<'t, R: Wait + Clock, K: PoolIds>(
+    fn begin<R: Wait + Clock, P: SharedAccounts<K>, K: PoolIds>(
         &self,
         rt: &R,
-        pool: &Pool<'t, R, K>,
+        pool: &P,
         share: &mut Share<K>,
         out: &mut Text,
     ) {
         self.ask_each(rt, pool, Request::Load(SPIN), share, out);
     }
 
-    fn go_on<'t, R: Wait + Clock, K: PoolIds>(
+    fn go_on<R: Wait + Clock, P: SharedAccounts<K>, K: PoolIds>(
         &self,
         rt: &R,
-        pool: &Pool<'t, R, K>,
+        pool: &P,
         number: u64,
         share: &mut Share<K>,
         out: &mut Text,
     ) {
         if number > 0 {
-            worker(rt, pool, &self.gate, number, share);
+            pool.work(rt, &self.gate, number, share);
             return;
         }
         let from = moment(rt);
@@ -155,10 +155,10 @@ impl Job for Busy {
         pool.close();
     }
 
-    fn end<'t, R: Wait + Clock, K: PoolIds>(
+    fn end<R: Wait + Clock, P: SharedAccounts<K>, K: PoolIds>(
         &self,
         _rt: &R,
-        _pool: &Pool<'t, R, K>,
+        _pool: &P,
         _share: &mut Share<K>,
         _out: &mut Text,
     ) {}

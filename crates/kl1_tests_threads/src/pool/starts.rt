@@ -7,7 +7,7 @@ use crate::pool::tried::tried;
 use crate::report::Text;
 use crate::rows::{cut, number_of};
 use kl1_lines::{Request, is_same};
-use kl1_pool::{Pool, PoolIds, Share, Totals};
+use kl1_pool::{PoolIds, Share, SharedAccounts, Totals};
 use std::alloc::{AllocError, Global};
 use std::rt::Clock;
 use std::sync::Wait;
@@ -21,10 +21,10 @@ const STARTS: u64 = 50;
 struct Starts;
 
 /// Starts a goal of the first account: the number of its shoen.
-fn started<'t, R: Wait, K: PoolIds>(
+fn started<R: Wait, P: SharedAccounts<K>, K: PoolIds>(
     rt: &R,
     alloc: Global,
-    pool: &Pool<'t, R, K>,
+    pool: &P,
     share: &mut Share<K>,
 ) -> u64 {
     let mut said = Text::new(alloc);
@@ -46,19 +46,19 @@ fn started<'t, R: Wait, K: PoolIds>(
 }
 
 impl Job for Starts {
-    fn begin<'t, R: Wait + Clock, K: PoolIds>(
+    fn begin<R: Wait + Clock, P: SharedAccounts<K>, K: PoolIds>(
         &self,
         _rt: &R,
-        _pool: &Pool<'t, R, K>,
+        _pool: &P,
         _share: &mut Share<K>,
         _out: &mut Text,
     ) {}
 
     /// Puts the sum of the numbers of the shoens.
-    fn go_on<'t, R: Wait + Clock, K: PoolIds>(
+    fn go_on<R: Wait + Clock, P: SharedAccounts<K>, K: PoolIds>(
         &self,
         rt: &R,
-        pool: &Pool<'t, R, K>,
+        pool: &P,
         _number: u64,
         share: &mut Share<K>,
         out: &mut Text,
@@ -71,10 +71,10 @@ impl Job for Starts {
         out.put(b" ");
     }
 
-    fn end<'t, R: Wait + Clock, K: PoolIds>(
+    fn end<R: Wait + Clock, P: SharedAccounts<K>, K: PoolIds>(
         &self,
         rt: &R,
-        pool: &Pool<'t, R, K>,
+        pool: &P,
         share: &mut Share<K>,
         out: &mut Text,
     ) {

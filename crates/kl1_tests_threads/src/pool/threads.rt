@@ -4,7 +4,7 @@ ghost use Rattle.std.specs.Prelude.{◌≡◌, ◌+◌, ◌≤◌, IfOk, vec_len
 
 use crate::pool::job::Job;
 use crate::report::Text;
-use kl1_pool::{Pool, PoolIds, Share};
+use kl1_pool::{PoolIds, Share, SharedAccounts};
 use std::alloc::{AllocError, Global};
 use std::rt::Clock;
 use std::sync::Wait;
@@ -60,9 +60,9 @@ fn shares_of<K: PoolIds>(
 }
 
 /// What the thread of a hand does.
-fn worked<'t, J: Job, R: Wait + Clock, K: PoolIds>(
+fn worked<J: Job, R: Wait + Clock, P: SharedAccounts<K>, K: PoolIds>(
     rt: &R,
-    pool: &Pool<'t, R, K>,
+    pool: &P,
     job: &J,
     hand: Hand<K>,
 ) -> Hand<K> {
@@ -72,10 +72,15 @@ fn worked<'t, J: Job, R: Wait + Clock, K: PoolIds>(
 }
 
 /// Does a job in as many threads as there are shares, and gives them back.
-pub fn work<'t, J: Job + Sync, R: Threads + Wait + Clock + Sync, K: PoolIds + Send + Sync>(
+pub fn work<
+    J: Job + Sync,
+    R: Threads + Wait + Clock + Sync,
+    P: SharedAccounts<K> + Sync,
+    K: PoolIds + Send + Sync,
+>(
     rt: &R,
     alloc: Global,
-    pool: &Pool<'t, R, K>,
+    pool: &P,
     job: &J,
     shares: Vec<Share<K>>,
     out: &mut Text,

@@ -9,7 +9,7 @@ use crate::pool::speeds::put_halves;
 use crate::pool::tried::tried;
 use crate::report::Text;
 use kl1_lines::Request;
-use kl1_pool::{Pool, PoolIds, Share, worker};
+use kl1_pool::{PoolIds, Share, SharedAccounts};
 use std::alloc::{AllocError, Global};
 use std::rt::Clock;
 use std::sync::Wait;
@@ -36,10 +36,10 @@ fn wait_past(gate: &Counter, entered: u64) {
 }
 
 /// The nanoseconds from each start until a worker has taken the account's ticket and its lock.
-fn wake_times<'t, R: Wait + Clock, K: PoolIds>(
+fn wake_times<R: Wait + Clock, P: SharedAccounts<K>, K: PoolIds>(
     rt: &R,
     alloc: Global,
-    pool: &Pool<'t, R, K>,
+    pool: &P,
     wakes: &Wakes,
     share: &mut Share<K>,
 ) -> Result<Vec<u64>, AllocError> {
@@ -65,24 +65,24 @@ fn wake_times<'t, R: Wait + Clock, K: PoolIds>(
 }
 
 impl Job for Wakes {
-    fn begin<'t, R: Wait + Clock, K: PoolIds>(
+    fn begin<R: Wait + Clock, P: SharedAccounts<K>, K: PoolIds>(
         &self,
         _rt: &R,
-        _pool: &Pool<'t, R, K>,
+        _pool: &P,
         _share: &mut Share<K>,
         _out: &mut Text,
     ) {}
 
-    fn go_on<'t, R: Wait + Clock, K: PoolIds>(
+    fn go_on<R: Wait + Clock, P: SharedAccounts<K>, K: PoolIds>(
         &self,
         rt: &R,
-        pool: &Pool<'t, R, K>,
+        pool: &P,
         number: u64,
         share: &mut Share<K>,
         out: &mut Text,
     ) {
         if number > 0 {
-            worker(rt, pool, &self.gate, number, share);
+            pool.work(rt, &self.gate, number, share);
             return;
         }
         if self.starts > 0 {
@@ -93,10 +93,10 @@ impl Job for Wakes {
         pool.close();
     }
 
-    fn end<'t, R: Wait + Clock, K: PoolIds>(
+    fn end<R: Wait + Clock, P: SharedAccounts<K>, K: PoolIds>(
         &self,
         _rt: &R,
-        _pool: &Pool<'t, R, K>,
+        _pool: &P,
         _share: &mut Share<K>,
         _out: &mut Text,
     ) {}

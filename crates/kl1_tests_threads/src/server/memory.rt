@@ -7,7 +7,9 @@ use crate::server::row::{LINES, REPLIES, alice};
 use kl1_atoms::AtomTable;
 use kl1_codes::CodeTable;
 use kl1_lines::FailureCounter;
-use kl1_pool::{AccountName, Command, Performed, Pool, PoolIds, PoolParts, Rules, Share, gather};
+use kl1_pool::{
+    AccountName, Command, Performed, Pool, PoolIds, PoolParts, Rules, Share, SharedAccounts, gather,
+};
 use kl1_server_work::{Disconnect, serve};
 use kl1_user_events::{Event, Refusal, Reply};
 use std::alloc::{AllocError, Global};
@@ -25,7 +27,11 @@ struct Way {
 }
 
 /// Whether no session of the account is open, so that none can be closed.
-fn is_closed<'t, K: PoolIds, R: Wait>(rt: &R, pool: &Pool<'t, R, K>, share: &mut Share<K>) -> bool
+fn is_closed<P: SharedAccounts<K>, K: PoolIds, R: Wait>(
+    rt: &R,
+    pool: &P,
+    share: &mut Share<K>,
+) -> bool
     requires { 1 ≤ K.accounts }
 {
     matches!(
