@@ -1,5 +1,5 @@
 -- How runs go on after their first steps, and the answers to them.
-use Rattle.std.proofs.Common.{◌≡◌, ℕ, suc, ◌+◌, ◌-◌, ◌<◌, ◌==◌, if◌then◌else◌, Option, Some, None, ap, sym, ◌∙◌, subst, arith}
+use Rattle.std.proofs.Common.{◌≡◌, ℕ, suc, ◌+◌, ◌-◌, ◌<◌, ◌≤◌, ◌==◌, if◌then◌else◌, Option, Some, None, ap, sym, ◌∙◌, subst, refl, arith}
 use Rattle.kl1_model.specs.Event as model
 use Rattle.kl1_model.specs.Event.{reduce, is_refused}
 use Rattle.kl1_model.specs.Choice.{Chosen, first}
@@ -12,7 +12,8 @@ use Rattle.kl1_command.specs.declared.performed.Performed.TheVariants as perform
 use Rattle.kl1_command.specs.declared.first_step.FirstStep.{FirstStep}
 use Rattle.kl1_command.specs.declared.first_step.FirstStep.TheVariants as first_step
 use Rattle.kl1_command.specs.Performing.{Performs, stopped_by, IsUntouched}
-use Rattle.kl1_command.specs.Stepping.{IsStepUntouched, RunsOn, IsNoneFor}
+use Rattle.kl1_command.specs.Stepping.{IsStepUntouched, RunsOn, RunsOnBehind, IsEnd, IsNoneFor}
+use Rattle.kl1_command.specs.Room.{HasRoomFor, less}
 
 -- a run of one step more, by the first goal that can step
 abbrev pub run_by : ℕ → ℕ → Kept → Option Chosen → Done
@@ -24,11 +25,44 @@ run_by most n k o = elim o [
 ]
 
 -- one step more
-pub goes_further : (s mid after : Kept) (n : ℕ) → RunsOn s n mid → ((most k : ℕ) → run_from (suc most) k mid ≡ run_from most (suc k) after) → RunsOn s (n + 1) after
-goes_further s mid after n h step = λ m.
+pub goes_further : (s mid after : Kept) (n : ℕ) → RunsOnBehind s n mid → ((most k : ℕ) → run_from (suc most) k mid ≡ run_from most (suc k) after) → RunsOnBehind s (n + 1) after
+goes_further s mid after n h step = λ k m.
     let sum : n + 1 + m ≡ n + suc m = omega arith in
-    let one : n + 1 ≡ suc n = omega arith in
-    ap (λ k. run_from k 0 s) sum ∙ h (suc m) ∙ step m n ∙ ap (λ k. run_from m k after) (sym one)
+    let one : k + (n + 1) ≡ suc (k + n) = omega arith in
+    ap (λ i. run_from i k s) sum ∙ h k (suc m) ∙ step m (k + n) ∙ ap (λ i. run_from m i after) (sym one)
+
+-- no step yet
+pub goes_nowhere : (s : Kept) → RunsOn s 0 s
+goes_nowhere s = λ m. let all : 0 + m ≡ m = omega arith in ap (λ i. run_from i 0 s) all
+
+pub goes_nowhere_behind : (s : Kept) → RunsOnBehind s 0 s
+goes_nowhere_behind s = λ k m.
+    let all : 0 + m ≡ m = omega arith in
+    let none : k ≡ k + 0 = omega arith in
+    ap (λ i. run_from i k s) all ∙ ap (λ i. run_from m i s) none
+
+-- steps, and more of them
+pub goes_on : (s mid after : Kept) (n k t : ℕ) → t ≡ n + k → RunsOn s n mid → RunsOnBehind mid k after → RunsOn s t after
+goes_on s mid after n k t is begun on = λ m.
+    let sum : t + m ≡ n + (k + m) = omega (arith, is) in
+    ap (λ i. run_from i 0 s) sum ∙ begun (k + m) ∙ on n m ∙ ap (λ i. run_from m i after) (sym is)
+
+-- how a piece of a run ended that was cut short is how the run ended
+pub end_of_all : (all begun piece n : ℕ) (o : FirstStep) (after : Kept) → begun + piece ≤ all → n < piece → IsEnd piece n o after → IsEnd all (begun + n) o after
+end_of_all all begun piece n first_step.Done after within less end = let whole : n ≡ piece = end in absurd (omega (arith, less, whole))
+end_of_all all begun piece n first_step.Quiet after within less end = (omega (arith, within, less), end.1)
+end_of_all all begun piece n (first_step.Refused r) after within less end = (omega (arith, within, less), end.1)
+end_of_all all begun piece n first_step.Memory after within less end = let few : begun + n < all = omega (arith, within, less) in few
+
+-- what is left of room, if a piece takes some of it
+pub room_enough : (all piece : ℕ) (room : Option ℕ) → piece ≤ all → HasRoomFor all room → HasRoomFor piece room
+room_enough all piece None few h = tt
+room_enough all piece (Some room) few h = let z : all ≤ room = h in let e : piece ≤ room = omega (arith, few, z) in e
+
+pub room_less : (all begun n : ℕ) (room left : Option ℕ) → left ≡ less room n → HasRoomFor (all - begun) room → HasRoomFor (all - (begun + n)) left
+room_less all begun n None left is h = subst (λ (r : Option ℕ). HasRoomFor (all - (begun + n)) r) (sym is) tt
+room_less all begun n (Some room) left is h =
+    subst (λ (r : Option ℕ). HasRoomFor (all - (begun + n)) r) (sym is) (let z : all - begun ≤ room = h in let e : all - (begun + n) ≤ room - n = omega (arith, z) in e)
 
 -- a run of n steps
 pub all_done : (s after : Kept) (n : ℕ) → RunsOn s n after → run_from n 0 s ≡ record { kept = after; reply = model.ran n }

@@ -21,6 +21,10 @@ IsStepUntouched first_step.Memory before after = after ≡ before
 abbrev pub RunsOn : Kept → ℕ → Kept → Type 0
 RunsOn s n after = (m : ℕ) → run_from (n + m) 0 s ≡ run_from m n after
 
+-- and so they do if they began after others
+abbrev pub RunsOnBehind : Kept → ℕ → Kept → Type 0
+RunsOnBehind s n after = (k m : ℕ) → run_from (n + m) k s ≡ run_from m (k + n) after
+
 -- how n steps ended, if at most `most` were asked for: all are done, no goal can step, the next step is refused, or memory was
 abbrev pub IsEnd : ℕ → ℕ → FirstStep → Kept → Type 0
 IsEnd most n first_step.Done after = n ≡ most

@@ -55,6 +55,14 @@ pub trait Host {
         ensures before { (f : Reading) → fits self.new f → fits self.old f }
         ensures beside { beside self.new ≡ beside self.old };
 
+    /// Gives back what nothing reaches any more, if that is due. The account and its journal stay what they are, and all that was counted
+    /// stays counted.
+    fn collect_if_due(&mut self)
+        ensures same { (f : Reading) → kept f self.new ≡ kept f self.old }
+        ensures counted { (host : Self) (told : Told) → counted host told self.old → counted host told self.new }
+        ensures before { (f : Reading) → fits self.new f → fits self.old f }
+        ensures beside { beside self.new ≡ beside self.old };
+
     /// The lines of the journal from one on, the first being 1, at most `count` of them.
     fn journal(&self, from: u64, count: u64) -> Result<Listed, AllocError>
         ensures page { IfOk result (λ lines. (f : Reading) → fits self.now f → lines ≡ page_of (kept f self.now).journal from count) };

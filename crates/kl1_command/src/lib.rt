@@ -6,6 +6,7 @@ mod first_step;
 mod host;
 mod parsed;
 mod performed;
+mod piece;
 mod replies;
 mod run;
 mod steps;

@@ -23,7 +23,8 @@ pub enum Performed {
     Memory,
 }
 
-/// Does a command. A run ends when there is no room for its next step, as if that was refused by a full journal.
+/// Does a command. A run ends when there is no room for its next step, as if that was refused by a full journal. After an event that is done, and
+/// between steps, the host gives back what nothing reaches any more, if that is due.
 pub fn perform<H: Host>(host: &mut H, command: &Command) -> Performed
     ensures does { (f : H.Reading) → H.fits host.new f → PerformsWithin (H.room host.old) (H.kept f host.old) (command_view command.now) result (H.kept f host.new) }
     ensures memory { IsUntouched result host.old host.new }
@@ -33,7 +34,10 @@ pub fn perform<H: Host>(host: &mut H, command: &Command) -> Performed
 {
     match command {
         Command::Does(event) => match host.apply(event) {
-            Ok(reply) => Performed::Whole(reply),
+            Ok(reply) => {
+                host.collect_if_due();
+                Performed::Whole(reply)
+            }
             Err(_) => Performed::Memory,
         },
         Command::Run(most) => match host.room() {

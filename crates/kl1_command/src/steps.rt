@@ -7,6 +7,10 @@ ghost use Rattle.kl1_command.specs.Stepping.{RunsOn, IsEnd, IsStepUntouched};
 
 use crate::first_step::FirstStep;
 use crate::host::Host;
+use crate::piece::collected_steps;
+
+/// How many first steps are done between two looks at whether a collection is due.
+const STEPS_A_LOOK: u64 = 64;
 
 /// How many first steps were done, and what became of the last one that was tried.
 #[derive(Clone, Copy)]
@@ -15,7 +19,8 @@ pub struct Steps {
     pub last: FirstStep,
 }
 
-/// First steps until `most` are done, none can step, or one is refused, also for want of memory.
+/// First steps until `most` are done, none can step, or one is refused, also for want of memory. After each `STEPS_A_LOOK` of them, and after the
+/// last, the host gives back what nothing reaches any more, if that is due.
 pub fn run_steps<H: Host>(host: &mut H, most: u64) -> Steps
     requires { HasRoomFor most (H.room host.old) }
     ensures few { result.done ≤ most }
@@ -28,26 +33,14 @@ pub fn run_steps<H: Host>(host: &mut H, most: u64) -> Steps
 {
     let mut done = 0;
     while done < most {
-        let Some((goal, clause)) = host.pick() else {
+        let piece = STEPS_A_LOOK.min(most - done);
+        let steps = collected_steps(host, piece);
+        done += steps.done;
+        if steps.done < piece {
             return Steps {
                 done,
-                last: FirstStep::Quiet,
+                last: steps.last,
             };
-        };
-        match host.reduce(goal, clause) {
-            Ok(None) => done += 1,
-            Ok(Some(refusal)) => {
-                return Steps {
-                    done,
-                    last: FirstStep::Refused(refusal),
-                };
-            }
-            Err(_) => {
-                return Steps {
-                    done,
-                    last: FirstStep::Memory,
-                };
-            }
         }
     }
     Steps {

@@ -26,7 +26,7 @@ pub trait Views: Host {
 
     /// The numbers of the variables that a goal waits for, once each in increasing order, whether it is held back or not; `None` if there
     /// is no such goal. A variable has the number with which it is printed.
-    fn awaited(&self, goal: GoalNo) -> Result<Option<Vec<u32>>, AllocError>
+    fn awaited(&self, goal: GoalNo) -> Result<Option<Vec<u64>>, AllocError>
         ensures { IfOk result (λ awaited. (f : Self.Reading) → Self.fits self.now f → AreAwaited (Self.kept f self.now).state goal.0 (option_map (λ numbers. numbers.items) awaited)) };
 
     /// Whether variable `variable` is in the term of a goal; `Unknown` if it isn't among the first `most` parts, and there are more. No

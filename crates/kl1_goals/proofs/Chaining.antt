@@ -6,12 +6,11 @@ use Rattle.std.proofs.lemmas.List.{get_or-map, get_or_past, length-map}
 use Rattle.kl1_goals.specs.declared.goal.Goal.{Goal}
 use Rattle.kl1_goals.specs.declared.slot.Slot.{Slot}
 use Rattle.kl1_goals.specs.declared.tally.Tally.{Tally}
-use Rattle.kl1_goals.specs.Lists.{is_monitor, is_in, is_goal_of, is_monitor_of, enabled_in}
-use Rattle.kl1_goals.specs.Tables.{Ascend}
-use Rattle.kl1_goals.specs.Slots.{goals_in, numbers_of, number_in, level_in, rank_in, let_in, emptied, changed_at, AreLow, AreBelow, AreSlots}
-use Rattle.kl1_goals.specs.Tallies.{tally_at, unlinked, left, HasChanged, IsTally}
-use Rattle.kl1_goals.specs.Chains.{Shape, shoen_in, before_in, holds_in, is_due, shape_in, unlinked_in, shoen_at, before_at, last_at, Holds, IsLink, IsEmptyLink, AreLinked, AreKnown, AreChained, HoldsLess, HaveSameCounts}
-use Rattle.kl1_goals.proofs.Linking.{known_at, link_less, linked_less, chained_less, link_past, link_nearer, chained_take, no_link, same_all, same_other, changed_one, linked, last_here, last_other}
+use Rattle.kl1_goals.specs.Lists.{is_in, is_goal_of, enabled_in}
+use Rattle.kl1_goals.specs.Slots.{goals_in, let_in, emptied, changed_at}
+use Rattle.kl1_goals.specs.Tallies.{tally_at, unlinked, left, HasChanged}
+use Rattle.kl1_goals.specs.Chains.{shoen_in, before_in, holds_in, is_due, shape_in, shoen_at, before_at, last_at, Holds, IsLink, IsEmptyLink, AreLinked, AreChained, HoldsLess, HaveSameCounts}
+use Rattle.kl1_goals.proofs.Linking.{link_less, linked_less, chained_less, link_past, link_nearer, chained_take, no_link, same_all, same_other, changed_one, linked, last_here, last_other}
 
 -- what a list of a function of the places has at a place that was read
 pub read_at : {N X : Type 0} (f : Slot N → X) (ss : List (Slot N)) (k : ℕ) (s : Slot N) (d : X) → k < length ss → s ≡ get_or ss k s → get_or (map f ss) k d ≡ f s

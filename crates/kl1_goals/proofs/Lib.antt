@@ -10,3 +10,4 @@ pub mod Shaping
 pub mod Restoring
 pub mod Walking
 pub mod Capping
+pub mod Celling

@@ -5,3 +5,4 @@ pub mod Slots
 pub mod Tallies
 pub mod Chains
 pub mod Keeping
+pub mod Cells

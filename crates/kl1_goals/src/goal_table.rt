@@ -1,5 +1,7 @@
 // The table of goals, which can be put back to what it was when an event began.
 
+mod cells;
+
 ghost use Rattle.std.specs.Prelude.{◌≡◌, ◌+◌, ◌<◌, not, [], ◌∷◌, ◌++◌, None, map, option_copied, option_map, IfSome, IfOk, OnOk, MatchOption};
 ghost use Rattle.std.specs.List.{filter, find, list_any, count_by};
 ghost use Rattle.std.specs.Option.{option_to_list};

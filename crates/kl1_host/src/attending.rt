@@ -8,7 +8,7 @@ use crate::web::disk_of;
 use kl1_command::Command;
 use kl1_host_front::{Number, put_account_status, put_host};
 use kl1_host_web::{LoginKeys, Machine};
-use kl1_host_work::{HostView, Performer, PlaceState, Steering};
+use kl1_host_work::{HostView, Performer, PlaceState, Sight, Steering};
 use kl1_lines::put_decimal;
 use kl1_session::Key;
 use kl1_user_events::Event;
@@ -148,9 +148,18 @@ where
             number(b"structures", usage.structures.count),
             number(b"codes_left", self.host.codes_left(account)),
             number(b"codes_full", out_of_codes),
+            number(b"collections", sight.collections.done),
+            number(b"given_up", given_up(&sight)),
+            number(b"longest_pause", sight.pause),
         ];
         put_account_status(out, name, &numbers, self.host.is_stopped(account))
     }
+}
+
+/// How often what nothing reaches any more of an account wasn't given back: the search for the rest gave up, or memory for a copy was refused.
+fn given_up(sight: &Sight) -> u64 {
+    let collections = sight.collections;
+    collections.given_up.saturating_add(collections.no_memory)
 }
 
 impl<R, K: LoginKeys, P: Performer, V: HostView + Steering> Attendant

@@ -129,7 +129,7 @@ impl<V: HostView> Viewer for AccountViewer<'_, V> {
         self.host.goal_text(self.account, goal, extent)
     }
 
-    fn awaited(&mut self, goal: GoalNo) -> Result<Option<Vec<u32>>, AllocError> {
+    fn awaited(&mut self, goal: GoalNo) -> Result<Option<Vec<u64>>, AllocError> {
         self.refuse_more()?;
         self.host.awaited(self.account, goal)
     }

@@ -58,7 +58,7 @@ pub trait Viewer {
     fn goal_text(&mut self, goal: GoalNo, extent: Extent) -> Result<Option<Vec<u8>>, AllocError>;
 
     /// The variables that a goal waits for; `None` if there is no such goal.
-    fn awaited(&mut self, goal: GoalNo) -> Result<Option<Vec<u32>>, AllocError>;
+    fn awaited(&mut self, goal: GoalNo) -> Result<Option<Vec<u64>>, AllocError>;
 
     /// Whether a variable is in a goal, as far as `most` of its parts tell.
     fn presence(&mut self, goal: GoalNo, variable: u64, most: u64) -> Result<Presence, AllocError>;

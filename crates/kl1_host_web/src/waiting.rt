@@ -50,7 +50,7 @@ impl Search {
         alloc: Global,
         viewer: &mut V,
         goal: GoalNo,
-        variable: u32,
+        variable: u64,
     ) -> Result<Holders, AllocError> {
         let mut holders = Holders {
             goals: Vec::new(alloc),
@@ -65,7 +65,7 @@ impl Search {
                 break;
             }
             self.pairs -= 1;
-            match viewer.presence(view.number, u64::from(variable), MOST_PARTS)? {
+            match viewer.presence(view.number, variable, MOST_PARTS)? {
                 Presence::Present => {
                     let number = json!(in alloc; (view.number.0))?;
                     push(&mut holders.goals, number)?;
@@ -83,7 +83,7 @@ impl Search {
         alloc: Global,
         viewer: &mut V,
         goal: GoalNo,
-        variable: u32,
+        variable: u64,
     ) -> Result<Value, AllocError> {
         let holders = self.holders(alloc, viewer, goal, variable)?;
         let complete = holders.complete;
@@ -97,7 +97,7 @@ impl Search {
         alloc: Global,
         viewer: &mut V,
         view: GoalView,
-        variables: &[u32],
+        variables: &[u64],
     ) -> Result<Value, AllocError> {
         let mut awaits = Vec::new(alloc);
         for variable in variables.iter().take(MOST_VARIABLES) {
@@ -130,7 +130,7 @@ fn variables_of<V: Viewer>(
     alloc: Global,
     viewer: &mut V,
     view: &GoalView,
-) -> Result<Vec<u32>, AllocError> {
+) -> Result<Vec<u64>, AllocError> {
     if !may_wait(view) {
         return Ok(Vec::new(alloc));
     }

@@ -9,6 +9,7 @@ use crate::visit::now_of;
 use kl1_host_journals::Bell;
 use kl1_model::limits::MOST_ACCOUNTS;
 use std::alloc::{AllocError, Global};
+use std::sync::atomic::{AtomicU64, Ordering};
 use std::sync::{Condvar, Mutex, Wait};
 use std::time::{Clock, Duration};
 
@@ -79,6 +80,8 @@ pub(crate) struct Outlook {
     seen: Mutex<Seen>,
     changed: Condvar,
     bell: Bell,
+    /// The most microseconds that a turn took in which what nothing reaches any more was given back.
+    pause: AtomicU64,
 }
 
 impl Outlook {
@@ -93,7 +96,13 @@ impl Outlook {
             }),
             changed: Condvar::new(),
             bell: Bell::new(),
+            pause: AtomicU64::new(0),
         }
+    }
+
+    /// The most microseconds that a turn took in which what nothing reaches any more was given back.
+    pub(crate) fn pause(&self) -> u64 {
+        self.pause.load(Ordering::Relaxed)
     }
 
     /// What wakes who looks at the account.
@@ -172,6 +181,15 @@ impl Board {
     /// That of an account.
     pub(crate) fn outlook(&self, account: usize) -> Option<&Outlook> {
         self.outlooks.get(account)
+    }
+
+    /// Takes in how long a turn of an account took in which what nothing reaches any more was given back.
+    pub(crate) fn note_pause(&self, account: usize, pause: Duration) {
+        if let Some(outlook) = self.outlooks.get(account) {
+            let seconds = pause.as_secs().saturating_mul(1_000_000);
+            let micros = seconds.saturating_add(u64::from(pause.subsec_micros()));
+            let _before = outlook.pause.fetch_max(micros, Ordering::Relaxed);
+        }
     }
 
     /// Asks that each account is looked at.

@@ -12,7 +12,7 @@ use crate::steering::Steering;
 use kl1_command::{Command, Performed};
 use kl1_lines::{Sink, Source};
 use kl1_log::LogError;
-use kl1_pool::BookTotals;
+use kl1_pool::{BookTotals, Collections};
 use kl1_session::{Disconnect, Door, Key};
 use kl1_user_events::{Extent, GoalNo, GoalView, Presence, ShoenNo, ShoenView, Usage};
 use std::alloc::AllocError;
@@ -67,8 +67,12 @@ pub struct Sight {
     pub usage: Usage,
     /// Its events and its steps.
     pub counted: BookTotals,
-    /// About how many bytes it takes.
+    /// How many bytes it takes.
     pub bytes: u64,
+    /// How often what nothing reaches any more was given back.
+    pub collections: Collections,
+    /// The most microseconds that a turn took in which that was done.
+    pub pause: u64,
     /// How many of its sessions are open.
     pub sessions: u64,
     /// When, since some start.
@@ -113,7 +117,7 @@ pub trait HostView {
     /// What of an account is in use.
     fn usage(&self, account: usize) -> Result<Usage, AllocError>;
 
-    /// About how many bytes an account takes.
+    /// How many bytes an account takes.
     fn bytes(&self, account: usize) -> Result<u64, AllocError>;
 
     /// The events and the steps of an account.
@@ -144,7 +148,7 @@ pub trait HostView {
     ) -> Result<Option<Vec<u8>>, AllocError>;
 
     /// The variables that a goal of an account waits for; `None` if there is no such goal.
-    fn awaited(&self, account: usize, goal: GoalNo) -> Result<Option<Vec<u32>>, AllocError>;
+    fn awaited(&self, account: usize, goal: GoalNo) -> Result<Option<Vec<u64>>, AllocError>;
 
     /// Whether a variable is in a goal of an account, as far as `most` of its parts tell.
     fn presence(

@@ -1,6 +1,7 @@
 // The threads of a host.
 
 use crate::attending::attend;
+use crate::board::Board;
 use crate::connections::{Desk, Peers, serve_each};
 use crate::filling::close_rooms;
 use crate::front::{Front, HostEvent};
@@ -9,22 +10,35 @@ use crate::keeping::{Means, Opener, keep};
 use crate::lobby::Lobby;
 use crate::noting::note;
 use crate::start_fault::StartFault;
+use crate::visit::now_of;
 use crate::watching::{tell_waits, watch};
 use kl1_host_journals::{Bell, FaultTeller, Naming};
 use kl1_log::{Disk, LogError, LogFile};
 use kl1_pool::{Gate, PoolIds, Share, SharedAccounts};
+use std::cell::Cell;
 use std::net::{Net, TcpListener, TcpStream};
 use std::sync::Wait;
 use std::thread;
 use std::thread::{JoinHandle, Threads};
 use std::time::{Clock, Duration};
 
-/// The gate of the host's workers, which holds nobody.
-#[derive(Clone, Copy)]
-struct OpenGate;
+/// The gate of a worker of the host, which holds nobody, and notes how long turns take in which what nothing reaches any more is given back.
+#[derive(Drop)]
+struct TurnGate<'g, W: Wait + Clock> {
+    rt: &'g W,
+    board: &'g Board,
+    begun: Cell<Duration>,
+}
 
-impl Gate for OpenGate {
-    fn enter(&self, _worker: u64) {}
+impl<W: Wait + Clock> Gate for TurnGate<'_, W> {
+    fn enter(&self, _worker: u64) {
+        self.begun.set(now_of(self.rt));
+    }
+
+    fn collected(&self, _worker: u64, account: usize) {
+        let pause = now_of(self.rt).saturating_sub(self.begun.get());
+        self.board.note_pause(account, pause);
+    }
 
     fn leave(&self, _worker: u64) {}
 }
@@ -50,14 +64,20 @@ pub(crate) struct Shares<K: PoolIds + Naming> {
 }
 
 /// Goes on with accounts until the pool is closed, and gives the share back.
-fn work<W: Wait, P: SharedAccounts<K>, K: PoolIds + Naming>(
+fn work<W: Wait + Clock, P: SharedAccounts<K>, K: PoolIds + Naming>(
     rt: &W,
     pool: &P,
+    board: &Board,
     number: u64,
     share: Share<K>,
 ) -> Share<K> {
     let mut share = share;
-    pool.work(rt, &OpenGate, number, &mut share);
+    let gate = TurnGate {
+        rt,
+        board,
+        begun: Cell::new(Duration::from_millis(0)),
+    };
+    pool.work(rt, &gate, number, &mut share);
     share
 }
 
@@ -176,7 +196,7 @@ where
         let mut handles = handles;
         let mut number = 0u64;
         for share in workers {
-            if let Ok(handle) = scope.spawn(move || drop(work(rt, desk.pool, number, share))) {
+            if let Ok(handle) = scope.spawn(move || drop(work(rt, desk.pool, desk.board, number, share))) {
                 let _ = handles.push(handle);
             }
             number = number.saturating_add(1);

@@ -241,7 +241,7 @@ impl<F: Front, N: Wait + Clock, P: SharedAccounts<K>, K: PoolIds + Naming, C: Co
         Ok(text)
     }
 
-    fn awaited(&self, account: usize, goal: GoalNo) -> Result<Option<Vec<u32>>, AllocError> {
+    fn awaited(&self, account: usize, goal: GoalNo) -> Result<Option<Vec<u64>>, AllocError> {
         if !self.may_look(account) {
             return Err(AllocError);
         }

@@ -32,23 +32,27 @@ struct Told {
     has_all_codes: bool,
 }
 
-/// What is seen of an account now; `None` if another was found, which never is so. It waits for an account that is in the midst of a
+/// What is seen of an account now, of which `pause` was the longest; `None` if another was found, which never is so. It waits for an account that is in the midst of a
 /// reduction.
 fn look<W: Wait + Clock, P: SharedAccounts<K>, K: PoolIds>(
     rt: &W,
     pool: &P,
     account: usize,
+    pause: u64,
 ) -> Option<Sight>
     requires { account < K.accounts }
 {
     let usage = pool.usage(rt, account).ok()?;
     let counted = pool.counted(rt, account)?;
     let bytes = pool.bytes(rt, account)?;
+    let collections = pool.collections(rt, account)?;
     let sessions = sessions_of(rt, pool, account)?;
     Some(Sight {
         usage,
         counted,
         bytes,
+        collections,
+        pause,
         sessions,
         at: now_of(rt),
     })
@@ -103,7 +107,7 @@ fn see<F: Front, W: Wait + Clock, P: SharedAccounts<K>, K: PoolIds>(
     requires { account < K.accounts }
 {
     let (asked, _) = outlook.asked(rt);
-    let sight = look(rt, pool, account);
+    let sight = look(rt, pool, account, outlook.pause());
     outlook.show(rt, sight, asked);
     if account < over.len()
         && let Some(sight) = sight

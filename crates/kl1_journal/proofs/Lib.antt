@@ -1,3 +1,4 @@
 pub mod Changing
+pub mod Collected
 pub mod Keeps
 pub mod NameLists

@@ -1,5 +1,5 @@
 -- An account with its journal, of which it is the replay.
-use Rattle.std.specs.Prelude.{ℕ, List, []}
+use Rattle.std.specs.Prelude.{◌≡◌, ℕ, List, []}
 use Rattle.kl1_model.specs.declared.rules.Rules.{Rules}
 use Rattle.kl1_model.specs.declared.rules.Rules.TheVariants.{One}
 use Rattle.kl1_model.specs.State.{fresh_with}
@@ -16,7 +16,7 @@ Held = Account × Journal
 
 -- what stands for an account if there is none
 abbrev pub nobody : Held
-nobody = (record { own_name = []; rules = One; held = nothing_held; goals = []; shoens = []; work = []; modules = []; names = []; last_goal = 0; variables = 0; nodes = 0; reports = 0; entries = 0; run = 0; sessions = 0 }, new_journal One [] 0)
+nobody = (record { own_name = []; rules = One; held = nothing_held; hooks = []; labels = []; goals = []; shoens = []; work = []; modules = []; names = []; last_goal = 0; variables = 0; nodes = 0; reports = 0; entries = 0; run = 0; sessions = 0 }, new_journal One [] 0)
 
 -- the account with its journal that these are, for a reading of its names
 abbrev pub kept_of : Reading → Held → Kept
@@ -38,3 +38,13 @@ pub record IsKept (k : Held) : Type 0 where
   pub replay : (f : Reading) → Fits k.0.names f → IsReplayable (kept_of f k)
   pub names : AreNames k.0.rules (texts_of k.0.names)
   pub written : IsWritten k.1
+
+-- an account with its journal is what it was, whatever its cells are: the same by each reading, with its journal, its name, its rules, its
+-- names and its modules
+pub record StaysAs (old new : Held) : Type 0 where
+  pub kept : (f : Reading) → kept_of f new ≡ kept_of f old
+  pub journal : new.1 ≡ old.1
+  pub own_name : new.0.own_name ≡ old.0.own_name
+  pub rules : new.0.rules ≡ old.0.rules
+  pub names : new.0.names ≡ old.0.names
+  pub modules : new.0.modules ≡ old.0.modules

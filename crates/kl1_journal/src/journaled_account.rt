@@ -1,5 +1,6 @@
 // An account with its seat and its journal.
 
+mod collecting;
 mod viewing;
 
 ghost use Rattle.std.specs.Prelude.{◌≡◌, ◌↔◌, ◌≤◌, ℕ, [], IfOk, IsOk, IsTrue, OnErr, option_map};

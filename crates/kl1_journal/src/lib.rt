@@ -6,4 +6,4 @@ mod journaled_account;
 
 pub use journaled_account::{JournaledAccount, Kept};
 pub use kl1_journal_entries::Journal;
-pub use kl1_user::{AccountName, Rules};
+pub use kl1_user::{AccountName, Collection, CollectionOutcome, Rules};

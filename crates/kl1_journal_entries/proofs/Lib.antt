@@ -1,4 +1,5 @@
 pub mod Rows
+pub mod Texts
 pub mod Sound
 pub mod Accepted
 pub mod Pages

@@ -4,3 +4,4 @@ pub mod Slots
 pub mod Shown
 pub mod Reading
 pub mod Found
+pub mod Texts

@@ -1,5 +1,5 @@
 -- What the row of a journal means.
-use Rattle.std.specs.Prelude.{◌≡◌, ℕ, Bool, if◌then◌else◌, ◌<◌, ◌≤◌, ◌^◌, List, [], length, slice_get, Option, Some, None}
+use Rattle.std.specs.Prelude.{◌≡◌, ℕ, Bool, if◌then◌else◌, ◌<◌, ◌≤◌, ◌-◌, ◌^◌, min, List, [], length, map, slice_get, Option, Some, None}
 use Rattle.std.specs.List.{AllByRecursion}
 use Rattle.kl1_model.specs.declared.limits.TheConstants.{MOST_SESSIONS}
 use Rattle.kl1_model.specs.declared.message.Message.TheVariants.{Stop, Start, Abort}
@@ -11,6 +11,7 @@ use Rattle.kl1_model.specs.State.{has_told}
 use Rattle.kl1_model.specs.declared.rules.Rules.{Rules}
 use Rattle.kl1_model_server.specs.Journal.{Entry, loads, starts, sends, steps, answers, forgets, runs}
 use Rattle.kl1_model_server.specs.laws.TextLaws.{HasLine, AreNames}
+use Rattle.kl1_journal_entries.specs.Texts.{texts_in}
 use Rattle.kl1_journal_entries.specs.declared.packed_entry.PackedEntry.{PackedEntry}
 use Rattle.kl1_journal_entries.specs.declared.packed_entry.PackedEntry.TheVariants as slot
 use Rattle.kl1_journal_entries.specs.declared.long_entry.LongEntry.{LongEntry}
@@ -98,9 +99,10 @@ IsSoundForm rules form.Nothing = Unit {0}
 IsSoundForm rules (form.Short s) = IsPlace 0 s
 IsSoundForm rules (form.Long w) = IsSound rules w
 
--- what holds of the parts of each journal
-pub record IsHeld (rules : Rules) (sessions : ℕ) (names : List (List ℕ)) (slots : List PackedEntry) (wholes : List LongEntry) : Type 0 where
+-- what holds of the parts of each journal: so many bytes the entries take beside the row, or 2^64 - 1 if it comes to more
+pub record IsHeld (rules : Rules) (sessions : ℕ) (names : List (List ℕ)) (slots : List PackedEntry) (wholes : List LongEntry) (texts : ℕ) : Type 0 where
   pub few_sessions : sessions ≤ MOST_SESSIONS
   pub are_names : AreNames rules names
   pub places : AllByRecursion (IsPlace (length wholes)) slots
   pub sound : AllByRecursion (IsSound rules) wholes
+  pub counted : texts ≡ min (texts_in (map (entry_at wholes) slots)) (2 ^ 64 - 1)

@@ -1,6 +1,6 @@
 // The journal of an account.
 
-ghost use Rattle.std.specs.Prelude.{◌≡◌, ◌<◌, ◌≤◌, List, [], length, map, IfOk, OnOk, IfSome, IsTrue};
+ghost use Rattle.std.specs.Prelude.{◌≡◌, ◌<◌, ◌≤◌, ◌-◌, ◌^◌, min, List, [], length, map, IfOk, OnOk, IfSome, IsTrue};
 ghost use Rattle.std.specs.List.{AllByRecursion};
 ghost use Rattle.kl1_model.specs.declared.limits.TheConstants.{MOST_RUN, MOST_SESSIONS};
 ghost use Rattle.kl1_model.specs.declared.rules.Rules.{Rules as RulesSpec};
@@ -8,9 +8,10 @@ ghost use Rattle.kl1_model_server.specs.Journal.{new_journal, run_length, last_r
 ghost use Rattle.kl1_model_server.specs.laws.TextLaws.{AreNames, IsWritten};
 ghost use Rattle.kl1_journal_entries.specs.Lined.{if_longer, lengthened, with_prepared, with_reduction};
 ghost use Rattle.kl1_journal_entries.specs.Slots.{entry_at, IsPlace, IsSound};
+ghost use Rattle.kl1_journal_entries.specs.Texts.{texts_in};
 ghost use Rattle.kl1_journal_entries.specs.declared.long_entry.LongEntry.{LongEntry as LongSpec};
 
-use crate::long_entry::LongEntry;
+use crate::long_entry::{LongEntry, text_bytes};
 use crate::packed_entry::PackedEntry;
 use crate::pending_entry::{EntryForm, PendingEntry, step_for};
 use kl1_model::Rules;
@@ -26,6 +27,8 @@ pub struct Journal {
     pub(crate) names: Vec<AtomText>,
     pub(crate) slots: Vec<PackedEntry>,
     pub(crate) wholes: Vec<LongEntry>,
+    /// How many bytes the entries take beside the row.
+    text_bytes: u64,
 }
 
 /// Not derived, so that crates above don't prove the drop of each part again.
@@ -37,6 +40,7 @@ impl Drop for Journal {
             names,
             slots,
             wholes,
+            text_bytes: _,
         } = self;
         let _ = (names, slots, wholes);
     }
@@ -57,7 +61,7 @@ impl Model for Journal {
       room = min (min (vec_capacity j.slots - vec_len j.slots) (vec_capacity j.wholes - vec_len j.wholes)) (2 ^ 32 - vec_len j.wholes);
     } };
 
-    ghost invariant = { λ j. IsHeld j.rules j.sessions j.names.items j.slots.items j.wholes.items };
+    ghost invariant = { λ j. IsHeld j.rules j.sessions j.names.items j.slots.items j.wholes.items j.text_bytes };
 }
 
 impl Journal {
@@ -71,6 +75,7 @@ impl Journal {
             names: Vec::new(alloc),
             slots: Vec::new(alloc),
             wholes: Vec::new(alloc),
+            text_bytes: 0,
         }
     }
 
@@ -92,6 +97,7 @@ impl Journal {
             names,
             slots: Vec::new(alloc),
             wholes: Vec::new(alloc),
+            text_bytes: 0,
         })
     }
 
@@ -149,6 +155,7 @@ impl Journal {
             EntryForm::Short(slot) => self.slots.push_reserved(slot),
             EntryForm::Long(whole) => {
                 let place = self.wholes.len() as u32;
+                self.text_bytes = self.text_bytes.saturating_add(text_bytes(&whole));
                 self.wholes.push_reserved(whole);
                 self.slots.push_reserved(PackedEntry::Kept(place));
             }
@@ -189,6 +196,7 @@ impl Journal {
     fn put_run(&mut self, before: u32)
         requires room { 0 < self.old.room }
         requires few { before < MOST_RUN }
+        requires last { 0 < before → before ≡ if_longer (last_run_of self.old.journal.entries) }
         ensures { self.new.journal ≡ record self.old.journal { entries = lengthened self.old.journal.entries before } }
     {
         if before > 0 {
@@ -206,6 +214,13 @@ impl Journal {
         ensures room { self.new.room ≡ self.old.room }
     {
         self.sessions = sessions;
+    }
+
+    /// How many bytes the entries take beside the row, or 2^64 - 1 if it comes to more: those of the texts of loads, starts and answers above all.
+    pub fn text_bytes(&self) -> u64
+        ensures { result ≡ min (texts_in self.now.journal.entries) (2 ^ 64 - 1) }
+    {
+        self.text_bytes
     }
 
     /// The rules that the account keeps to.

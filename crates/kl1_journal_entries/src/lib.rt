@@ -21,6 +21,7 @@ pub use entries::Entries;
 pub use entry::Entry;
 pub use heading::{Heading, heading_of};
 pub use journal::Journal;
+pub use long_entry::WHOLE_BYTES;
 pub use name::name_of;
 pub use pending_entry::{PendingEntry, entry_for, is_entry};
 pub use reader::{entry_of, may_follow};

@@ -33,3 +33,7 @@ pub mod Bringing
 pub mod Published
 pub mod Calm
 pub mod Words
+mod Collecting
+mod Collected
+mod Rehanging
+mod Settling

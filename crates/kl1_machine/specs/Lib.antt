@@ -13,3 +13,4 @@ pub mod Stepping
 pub mod Plain
 pub mod Bringing
 pub mod Forgetting
+pub mod Collecting

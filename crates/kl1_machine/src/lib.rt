@@ -5,4 +5,4 @@ mod counts;
 mod machine;
 
 pub use counts::Counts;
-pub use machine::{Answer, Brought, Machine, Start};
+pub use machine::{Answer, Brought, Machine, MachineCopy, Start};

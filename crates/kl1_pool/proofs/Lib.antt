@@ -8,6 +8,7 @@ pub mod Coming
 pub mod FirstSteps
 pub mod GoingOn
 pub mod Pieces
+pub mod Staying
 pub mod ToldEntries
 pub mod RestoredEntries
 pub mod RestoredEvents

@@ -7,7 +7,7 @@ use Rattle.kl1_model_server.specs.Journal.{Kept, Done, done}
 use Rattle.kl1_model_server.specs.Command.{said, run_from}
 use Rattle.kl1_tally.specs.Seats.{Book}
 use Rattle.kl1_pool.specs.Counted.{with_more, room_in}
-use Rattle.kl1_pool.specs.Memory.{bytes_taken}
+use Rattle.kl1_pool.specs.Memory.{TakesAtMost}
 use Rattle.kl1_pool.specs.Stepping.{AreFirstSteps, IsBegunWithin}
 use Rattle.kl1_pool.specs.declared.turn.TheConstants.{STEPS_A_LOOK}
 use Rattle.kl1_pool.proofs.FirstSteps.{run_by, ran_same, not_stopped}
@@ -57,11 +57,11 @@ pub no_steps : (s : Kept) → AreFirstSteps s 0 s
 no_steps s = refl
 
 -- none, by an account within its bytes
-pub begun_none : (most : ℕ) (s : Kept) → bytes_taken s ≤ most → IsBegunWithin most s 0 s
+pub begun_none : (most : ℕ) (s : Kept) → TakesAtMost s most → IsBegunWithin most s 0 s
 begun_none most s few = (s, 0, 0, refl, (let none : 0 ≤ STEPS_A_LOOK = omega arith in none), refl, refl, few)
 
 -- a piece that was begun within them, after others
-pub begun_piece : (most : ℕ) (s mid after : Kept) (n m : ℕ) → bytes_taken mid ≤ most → m ≤ STEPS_A_LOOK → AreFirstSteps s n mid → AreFirstSteps mid m after → IsBegunWithin most s (n + m) after
+pub begun_piece : (most : ℕ) (s mid after : Kept) (n m : ℕ) → TakesAtMost mid most → m ≤ STEPS_A_LOOK → AreFirstSteps s n mid → AreFirstSteps mid m after → IsBegunWithin most s (n + m) after
 begun_piece most s mid after n m few short begun on = (mid, n, m, refl, short, begun, on, few)
 
 -- the room of a book that is left after a piece is enough for the rest

@@ -2,7 +2,7 @@
 use Rattle.std.specs.Prelude.{◌≡◌, ℕ, Bool}
 use Rattle.boxcar.specs.Table.{Shelves, id_at}
 use Rattle.kl1_tally.specs.Seats.{Book}
-use Rattle.kl1_journal.specs.Keeping.{Held}
+use Rattle.kl1_journal.specs.Keeping.{Held, StaysAs}
 use Rattle.kl1_pool_tickets.specs.Counts.{Counts, Moved}
 use Rattle.kl1_command.specs.Told.{Told}
 use Rattle.kl1_pool.specs.declared.totals_before_reset.TotalsBeforeReset.{TotalsBeforeReset}
@@ -14,6 +14,13 @@ pub record PoolAccountValue : Type 0 where
   pub book : Book
   pub past : TotalsBeforeReset
   pub is_out : Bool
+
+-- an account is what it was, with its journal, its book and its past, whatever its cells are
+pub record Stays (old new : PoolAccountValue) : Type 0 where
+  pub held : StaysAs old.held new.held
+  pub book : new.book ≡ old.book
+  pub past : new.past ≡ old.past
+  pub is_out : new.is_out ≡ old.is_out
 
 -- whether a code stands at a place of the table of codes whose vector is this one
 abbrev pub StandsIn : Shelves → ℕ × ℕ → Type 0

@@ -68,6 +68,11 @@ impl<'a, 's, 'p, 'm, 't, R: Wait, K: PoolIds> Host for AccountHost<'a, 's, 'p, '
         }
     }
 
+    #[inline]
+    fn collect_if_due(&mut self) {
+        self.account.collect_if_due();
+    }
+
     fn journal(&self, from: u64, count: u64) -> Result<Listed, AllocError> {
         self.account.journal(from, count)
     }

@@ -6,6 +6,7 @@ ghost use Rattle.kl1_pool.specs.laws.EndedLaws.{SameEndedGrows};
 mod account_host;
 mod account_restoring;
 mod answer;
+mod collections;
 mod commands;
 mod counting;
 mod gate;
@@ -30,6 +31,7 @@ mod turn;
 mod working;
 
 pub use answer::Answer;
+pub use collections::Collections;
 pub use counting::MOST_EVENTS;
 pub use gate::Gate;
 pub use gathering::gather;

@@ -28,6 +28,7 @@ pub trait JournalReader {
         ensures { reads self.old self.new journal.now.journal ended };
 }
 
+
 impl<'t, R: Wait, K: PoolIds> PoolAccount<'t, R, K> {
     /// `look`, if the account has this number.
     pub(crate) fn look_at<L: JournalReader>(&mut self, account: usize, reader: &mut L) -> bool

@@ -8,33 +8,20 @@ use kl1_command::{Command, Performed};
 use kl1_journal_entries::is_entry;
 use kl1_user_events::{Event, Reply, Usage};
 
-// Measured on 2026-11-27 with `kl1_run --stats` by the fourth rules: the difference of the most resident bytes of two runs, of which the one
-// did 50,000 to 2,000,000 rounds more of one clause than the other. In the store a goal, and a structure, takes 16 bytes, 24 for each
-// argument that is a variable or a structure and 8 for any other; a goal without arguments none. What was reduced stays until a reset.
+// What an account has beside the lists of its store, whose bytes are counted as they are. Measured with `kl1_run --stats`: the difference of the most
+// resident bytes of two runs, of which the one did 50,000 to 2,000,000 rounds more of one clause than the other.
 
-/// Bytes of a goal that isn't reduced yet, with its two arguments: 165 to 172 were measured.
-pub const GOAL_BYTES: u64 = 176;
+/// Bytes of a goal that isn't reduced yet, beside its term: its place in the table, and those in the queue and in the lists of what is there.
+pub const GOAL_BYTES: u64 = 128;
 
 /// Bytes of a name: its entry of 128 bytes and two places in the table of names, and its place in the account's list.
 pub const NAME_BYTES: u64 = 192;
 
-/// Bytes of a shoen that a goal opened, with its monitor: 286 were measured, beside its goal and its first report.
+/// Bytes of a shoen, with its monitor: 286 were measured of one that a goal opened. Its place stays when it is let go.
 pub const SHOEN_BYTES: u64 = 288;
 
-/// Bytes of a variable.
-pub const VARIABLE_BYTES: u64 = 8;
-
-/// Bytes of a structure of two arguments; one takes 40, three 88, and eight 208.
-pub const STRUCTURE_BYTES: u64 = 64;
-
-/// Bytes of a report, with its message: 479 were measured of an exception, which tells a goal.
-pub const REPORT_BYTES: u64 = 480;
-
-/// Bytes of an entry of the journal, which has 12 and for a start, a load and an answer a text: of these there are as many as were asked for.
+/// Bytes of an entry of the journal, which has 12: what else a start, a load, an answer and a letting go have is counted as it is.
 pub const ENTRY_BYTES: u64 = 16;
-
-/// Bytes that a reduction leaves: its goal, of two arguments. One without leaves none, one takes 40, four 112, and eight 208.
-pub const STEP_BYTES: u64 = 64;
 
 /// `bytes`, and `count` times `each`; at most `u64::MAX`.
 fn add_counted(bytes: u64, count: u64, each: u64) -> u64
@@ -43,18 +30,15 @@ fn add_counted(bytes: u64, count: u64, each: u64) -> u64
     bytes.saturating_add(count.saturating_mul(each))
 }
 
-/// About how many bytes an account takes of which this is in use, and in which `steps` reductions were done since the last reset.
-pub fn bytes_of(usage: &Usage, steps: u64) -> u64
-    ensures { result ≡ min (bytes_in usage.now steps) (2 ^ 64 - 1) }
+/// How many bytes an account takes of which this is in use, whose store's lists take `store` bytes, and whose entries take `texts` beside the row.
+pub fn bytes_of(usage: &Usage, store: u64, texts: u64) -> u64
+    ensures { result ≡ min (bytes_in usage.now store texts) (2 ^ 64 - 1) }
 {
-    let goals = add_counted(0, usage.goals.count, GOAL_BYTES);
+    let goals = add_counted(store, usage.goals.count, GOAL_BYTES);
     let names = add_counted(goals, usage.names.count, NAME_BYTES);
     let shoens = add_counted(names, usage.shoens.count, SHOEN_BYTES);
-    let variables = add_counted(shoens, usage.variables.count, VARIABLE_BYTES);
-    let structures = add_counted(variables, usage.structures.count, STRUCTURE_BYTES);
-    let reports = add_counted(structures, usage.reports.count, REPORT_BYTES);
-    let entries = add_counted(reports, usage.entries.count, ENTRY_BYTES);
-    add_counted(entries, steps, STEP_BYTES)
+    let entries = add_counted(shoens, usage.entries.count, ENTRY_BYTES);
+    entries.saturating_add(texts)
 }
 
 /// The bytes beyond what an account may take that are kept for commands by which it comes to take less, or to stand, an exception is

@@ -155,12 +155,11 @@ impl<'t, R: Wait, K: PoolIds> Pool<'t, R, K> {
         if found.account() != account {
             return NO_TURN;
         }
-        let is_short = unread > 0 && found.is_over(self.most_bytes);
         let more = unread > MOST_GRANTED_STEPS;
-        if !found.may_turn(self.most_bytes, is_short) {
+        let Some(is_short) = found.granted(self.most_bytes, unread) else {
             found.clear_ticket();
             return NO_TURN;
-        }
+        };
         gate.enter(number);
         let slice = found.time_slice(
             self.rt,
@@ -171,6 +170,9 @@ impl<'t, R: Wait, K: PoolIds> Pool<'t, R, K> {
             is_short,
             more,
         );
+        if found.take_collected() {
+            gate.collected(number, account);
+        }
         gate.leave(number);
         slice
     }
@@ -220,7 +222,7 @@ impl<'t, R: Wait, K: PoolIds> Pool<'t, R, K> {
         slice
     }
 
-    /// A turn of an account under its lock, as `PoolAccount::turn`, between `enter` and `leave` of a gate. An account that takes more bytes
+    /// A turn of an account under its lock, as `PoolAccount::turn`, between `enter` and `leave` of a gate, which is told if it was collected in. An account that takes more bytes
     /// than it may gets none, but short ones while messages to its shoens may be unread; if such a one leaves it within its bytes, others follow.
     /// Unless the ticket is to be put back, none is out afterwards.
     pub(crate) fn turn<G: Gate, W: Wait>(

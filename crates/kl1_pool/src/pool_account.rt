@@ -1,5 +1,6 @@
 // An account with its book.
 
+mod collecting;
 mod ticket;
 mod viewing;
 
@@ -21,6 +22,7 @@ ghost use Rattle.kl1_pool.specs.PoolAccounts.{StandsIn};
 ghost use Rattle.kl1_pool.specs.Names.{IsNamed, called_at, is_called};
 ghost use Rattle.kl1_pool.specs.Counted.{no_past, with_more, IsCounted, past_by, room_in, HasRoom};
 
+use crate::collections::CollectionLog;
 use crate::counting::{MOST_EVENTS, count, count_step, is_full, past_after};
 use crate::named_atoms::NamedAtoms;
 use crate::pool_ids::PoolIds;
@@ -38,8 +40,8 @@ use std::sync::Wait;
 pub(crate) use ticket::DueTicket;
 pub use viewing::BookTotals;
 
-/// An account with its journal and its book; what its journals counted that resets ended; whether its ticket is out; and which of its
-/// journals were shown. What a book tells is always what was counted before the last reset and the events that the journal's entries are.
+/// An account with its journal and its book; what its journals counted that resets ended; whether its ticket is out; which of its
+/// journals were shown; and what came of its collections. What a book tells is always what was counted before the last reset and the events that the journal's entries are.
 /// The journal comes after each that was shown.
 #[derive(Drop)]
 pub struct PoolAccount<'t, R: Wait, K: PoolIds> {
@@ -49,6 +51,7 @@ pub struct PoolAccount<'t, R: Wait, K: PoolIds> {
     is_out: bool,
     shown: ShownHistory,
     name: AccountName,
+    collections: CollectionLog,
     of: PhantomData<K>,
 }
 
@@ -103,6 +106,7 @@ impl<'t, R: Wait, K: PoolIds> PoolAccount<'t, R, K> {
             is_out: false,
             shown,
             name,
+            collections: CollectionLog::new(),
             of: PhantomData,
         }
     }

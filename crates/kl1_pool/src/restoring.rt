@@ -126,7 +126,7 @@ fn result_of_run(run: Steps) -> EntryResult
     }
 }
 
-/// Does the event of an entry.
+/// Does the event of an entry, after which what nothing reaches any more is given back, if that is due.
 fn restore_event<H: RestoringHost>(host: &mut H, event: &Event) -> EntryResult
     ensures does { (e : Entered) → entry_of (event_of event.now) ≡ Some e → (f : H.Reading) → H.fits host.new f → IsEntryDone (H.kept f host.old).state e result (H.kept f host.new).state }
     ensures counted { (e : Entered) → entry_of (event_of event.now) ≡ Some e → (f : H.Reading) → H.fits host.new f → H.counted host.old (told_entry e result) host.new }
@@ -144,7 +144,10 @@ fn restore_event<H: RestoringHost>(host: &mut H, event: &Event) -> EntryResult
             steps: 0,
             end: RestoreEnd::Memory,
         },
-        Ok(reply) => result_by(&reply),
+        Ok(reply) => {
+            host.collect_if_due();
+            result_by(&reply)
+        }
     }
 }
 

@@ -14,6 +14,7 @@ ghost use Rattle.kl1_pool_tickets.specs.Counts.{Acts, ServesTickets, Worked};
 ghost use Rattle.kl1_user_events.specs.Viewing.{shoen_page, goal_page, goal_text, goal_term, AreAwaited, IsPresence, usage_of};
 
 use crate::answer::Answer;
+use crate::collections::Collections;
 use crate::gate::Gate;
 use crate::looking::JournalReader;
 use crate::pool_account::BookTotals;
@@ -23,7 +24,7 @@ use crate::tenancy::{LastReader, Newcomer};
 use kl1_command::Command;
 use kl1_journal::{AccountName, Rules};
 use kl1_journal_stamps::ShownHistory;
-use kl1_pool_tickets::Share;
+use kl1_pool_tickets::{Booked, Share};
 use kl1_user_events::{Extent, GoalNo, GoalView, Presence, ShoenNo, ShoenView, Usage};
 use std::alloc::{AllocError, Global};
 use std::sync::Wait;
@@ -155,7 +156,7 @@ pub trait SharedAccounts<K: PoolIds> {
         rt: &W,
         account: usize,
         goal: GoalNo,
-    ) -> Result<Option<Vec<u32>>, AllocError>
+    ) -> Result<Option<Vec<u64>>, AllocError>
         requires within { account < K.accounts }
         ensures { IfOk result (λ awaited. IsOfSome K.rules (called_at K.names account) (λ s. AreAwaited s goal.0 (option_map (λ numbers. numbers.items) awaited))) };
 
@@ -181,10 +182,14 @@ pub trait SharedAccounts<K: PoolIds> {
         requires within { account < K.accounts }
         ensures { IfSome result (λ totals. IsCountedBySome K.rules (called_at K.names account) totals.events totals.steps) };
 
-    /// About how many bytes an account takes; `None` if there is none here, or another was found, which never is so.
+    /// How many bytes an account takes; `None` if there is none here, or another was found, which never is so.
     fn bytes<W: Wait>(&self, rt: &W, account: usize) -> Option<u64>
         requires within { account < K.accounts }
         ensures { IfSome result (λ bytes. IsTakenBySome K.rules (called_at K.names account) bytes) };
+
+    /// What came of an account's collections so far; `None` if there is none here, or another was found, which never is so.
+    fn collections<W: Wait>(&self, rt: &W, account: usize) -> Option<Collections>
+        requires within { account < K.accounts };
 
     /// Takes tickets, and does a turn of each ticket's account, between `enter` and `leave` of `gate` with the worker's `number`; the
     /// ticket is put back if the account goes on, and only then. Ends when `close` was called, or if the share can take no more.

@@ -1,6 +1,7 @@
 // The accounts of a pool, as threads share them.
 
 use crate::answer::Answer;
+use crate::collections::Collections;
 use crate::gate::Gate;
 use crate::locked_slot::Tenant;
 use crate::looking::JournalReader;
@@ -14,7 +15,7 @@ use crate::working::AtWork;
 use kl1_command::Command;
 use kl1_journal::{AccountName, Rules};
 use kl1_journal_stamps::ShownHistory;
-use kl1_pool_tickets::Share;
+use kl1_pool_tickets::{Booked, Share};
 use kl1_user_events::{Extent, GoalNo, GoalView, Presence, ShoenNo, ShoenView, Usage};
 use std::alloc::{AllocError, Global};
 use std::sync::Wait;
@@ -174,7 +175,7 @@ impl<'t, R: Wait, K: PoolIds> SharedAccounts<K> for Pool<'t, R, K> {
         rt: &W,
         account: usize,
         goal: GoalNo,
-    ) -> Result<Option<Vec<u32>>, AllocError> {
+    ) -> Result<Option<Vec<u64>>, AllocError> {
         let guard = self.places[account].lock(rt);
         let Some(found) = guard.account() else {
             return Err(AllocError);
@@ -239,12 +240,18 @@ impl<'t, R: Wait, K: PoolIds> SharedAccounts<K> for Pool<'t, R, K> {
         Some(found.bytes())
     }
 
+    fn collections<W: Wait>(&self, rt: &W, account: usize) -> Option<Collections> {
+        let guard = self.places[account].lock(rt);
+        let found = guard.account()?;
+        // As in `visit`.
+        if !found.is_at(account) {
+            return None;
+        }
+        Some(found.collections())
+    }
+
     fn work<W: Wait, G: Gate>(&self, rt: &W, gate: &G, number: u64, share: &mut Share<K>) {
-        let at_work = AtWork {
-            pool: self,
-            gate,
-            number,
-        };
+        let at_work = AtWork { pool: self, gate, number };
         kl1_pool_tickets::worker(rt, &self.common, &at_work, share);
     }
 

@@ -8,9 +8,9 @@ ghost use Rattle.kl1_pool_tickets.specs.declared.serving.TheConstants.{MOST_STEP
 ghost use Rattle.kl1_journal.specs.Keeping.{Reading, Fits, kept_of};
 ghost use Rattle.kl1_pool.specs.Counted.{room_in};
 ghost use Rattle.kl1_pool.specs.PoolAccounts.{HasCounted};
-ghost use Rattle.kl1_pool.specs.Memory.{IsWithinTurn};
+ghost use Rattle.kl1_pool.specs.Memory.{IsWithinTurn, TellsOver};
 ghost use Rattle.kl1_pool.specs.Names.{called_at};
-ghost use Rattle.kl1_pool.specs.Stepping.{AreFirstSteps, IsBegunWithin, short_goes_on, whole_goes_on, turn_goes_on, IsTurnOfSome};
+ghost use Rattle.kl1_pool.specs.Stepping.{AreFirstSteps, IsBegunWithin, IsGoneOn, IsTurnOfSome};
 ghost use Rattle.kl1_pool.specs.declared.turn.TheConstants.{MOST_GRANTED_STEPS};
 
 use crate::account_host::AccountHost;
@@ -27,6 +27,13 @@ use std::sync::Wait;
 pub struct Turn {
     pub steps: Steps,
     pub again: bool,
+}
+
+/// What a piece of a turn did, and whether its account takes more bytes than it may then.
+#[derive(Clone, Copy)]
+struct Piece {
+    steps: Steps,
+    is_over: bool,
 }
 
 /// The most steps of a turn between two looks at how many bytes its account takes. What they add finds room in what is kept for messages to
@@ -68,7 +75,7 @@ impl<'t, R: Wait, K: PoolIds> PoolAccount<'t, R, K> {
         ensures steps { (f : Reading) → Fits self.new.held.0.names f → AreFirstSteps (kept_of f self.old.held) result.steps.done (kept_of f self.new.held) }
         ensures begun { (f : Reading) → Fits self.new.held.0.names f → IsBegunWithin most_bytes (kept_of f self.old.held) result.steps.done (kept_of f self.new.held) }
         ensures last { (f : Reading) → Fits self.new.held.0.names f → IsEnd (min MOST_STEPS (room_in self.old.book)) result.steps.done result.steps.last (kept_of f self.new.held) }
-        ensures again { (f : Reading) → Fits self.new.held.0.names f → result.again ≡ whole_goes_on most_bytes result.steps.done (kept_of f self.new.held) }
+        ensures again { IsGoneOn most_bytes false false result.steps.done self.new.held result.again }
         ensures counted { HasCounted self.old share.old (told_steps result.steps.done) self.new share.new }
         ensures out { self.new.is_out ≡ self.old.is_out }
         ensures before { (f : Reading) → Fits self.new.held.0.names f → Fits self.old.held.0.names f }
@@ -103,16 +110,16 @@ impl<'t, R: Wait, K: PoolIds> PoolAccount<'t, R, K> {
     {
         let mut done = 0;
         while done < most {
-            let piece = STEPS_A_LOOK.min(most - done);
-            let steps = self.first_steps(rt, common, tables, share, piece);
-            done += steps.done;
-            if steps.done < piece {
+            let few = STEPS_A_LOOK.min(most - done);
+            let piece = self.piece_within(rt, common, tables, share, most_bytes, few);
+            done += piece.steps.done;
+            if piece.steps.done < few {
                 return Steps {
                     done,
-                    last: steps.last,
+                    last: piece.steps.last,
                 };
             }
-            if self.is_over(most_bytes) {
+            if piece.is_over {
                 if done < most {
                     return Steps {
                         done,
@@ -131,6 +138,30 @@ impl<'t, R: Wait, K: PoolIds> PoolAccount<'t, R, K> {
         }
     }
 
+    /// First steps until `most` are done, none can step, or one is refused; and whether the account takes more than `most_bytes` bytes then.
+    fn piece_within(
+        &mut self,
+        rt: &'t R,
+        common: &PoolShared<K>,
+        tables: &SharedTables<'t, K>,
+        share: &mut Share<K>,
+        most_bytes: u64,
+        most: u64,
+    ) -> Piece
+        requires { most ≤ room_in self.old.book }
+        ensures few { result.steps.done ≤ most }
+        ensures goes { (f : Reading) → Fits self.new.held.0.names f → RunsOn (kept_of f self.old.held) result.steps.done (kept_of f self.new.held) }
+        ensures last { (f : Reading) → Fits self.new.held.0.names f → IsEnd most result.steps.done result.steps.last (kept_of f self.new.held) }
+        ensures over { TellsOver most_bytes self.new.held result.is_over }
+        ensures counted { HasCounted self.old share.old (told_steps result.steps.done) self.new share.new }
+        ensures out { self.new.is_out ≡ self.old.is_out }
+        ensures before { (f : Reading) → Fits self.new.held.0.names f → Fits self.old.held.0.names f }
+    {
+        let steps = self.first_steps(rt, common, tables, share, most);
+        let is_over = self.is_over(most_bytes);
+        Piece { steps, is_over }
+    }
+
     /// Like `turn`, of at most `MOST_GRANTED_STEPS`; unless `more` is to be read, or the account takes no more than `most_bytes` bytes afterwards,
     /// it isn't gone on.
     fn short_turn(
@@ -144,15 +175,16 @@ impl<'t, R: Wait, K: PoolIds> PoolAccount<'t, R, K> {
     ) -> Turn
         ensures few { result.steps.done ≤ MOST_GRANTED_STEPS }
         ensures steps { (f : Reading) → Fits self.new.held.0.names f → AreFirstSteps (kept_of f self.old.held) result.steps.done (kept_of f self.new.held) }
-        ensures again { (f : Reading) → Fits self.new.held.0.names f → result.again ≡ short_goes_on most_bytes more result.steps.done (kept_of f self.new.held) }
+        ensures again { IsGoneOn most_bytes true more result.steps.done self.new.held result.again }
         ensures counted { HasCounted self.old share.old (told_steps result.steps.done) self.new share.new }
         ensures out { self.new.is_out ≡ self.old.is_out }
         ensures before { (f : Reading) → Fits self.new.held.0.names f → Fits self.old.held.0.names f }
     {
         let most = MOST_GRANTED_STEPS.min(self.room());
+        let goals = self.usage().goals.count;
         let steps = self.first_steps(rt, common, tables, share, most);
         let is_whole = steps.done == MOST_GRANTED_STEPS;
-        let is_over = self.is_over(most_bytes);
+        let is_over = self.is_still_over(most_bytes, goals);
         let again = short_goes_on(more, is_over, is_whole, self.quiet());
         Turn { steps, again }
     }
@@ -173,7 +205,7 @@ impl<'t, R: Wait, K: PoolIds> PoolAccount<'t, R, K> {
         ensures short { is_short ≡ true → result.steps.done ≤ MOST_GRANTED_STEPS }
         ensures steps { (f : Reading) → Fits self.new.held.0.names f → AreFirstSteps (kept_of f self.old.held) result.steps.done (kept_of f self.new.held) }
         ensures begun { is_short ≡ false → (f : Reading) → Fits self.new.held.0.names f → IsBegunWithin most_bytes (kept_of f self.old.held) result.steps.done (kept_of f self.new.held) }
-        ensures again { (f : Reading) → Fits self.new.held.0.names f → result.again ≡ turn_goes_on most_bytes is_short more result.steps.done (kept_of f self.new.held) }
+        ensures again { IsGoneOn most_bytes is_short more result.steps.done self.new.held result.again }
         ensures counted { HasCounted self.old share.old (told_steps result.steps.done) self.new share.new }
         ensures out { self.new.is_out ≡ self.old.is_out }
         ensures before { (f : Reading) → Fits self.new.held.0.names f → Fits self.old.held.0.names f }

@@ -174,7 +174,7 @@ fn put_standing_word<H: Views>(
         if 0 < place {
             out.extend_from_slice(b", ")?;
         }
-        names.put_variable(u64::from(*number), out)?;
+        names.put_variable(*number, out)?;
     }
     Ok(())
 }

@@ -8,7 +8,7 @@ ghost use Rattle.kl1_model_server.specs.Journal.{runs, first_step, entry_step};
 ghost use Rattle.kl1_model_server.specs.Replay.{replay_name};
 ghost use Rattle.kl1_atoms.specs.Names.{AreNames};
 ghost use Rattle.kl1_user_events.specs.Views.{event_of, reply_of};
-ghost use Rattle.kl1_user.specs.Accounts.{Reading, Fits, IsNameList, state_of};
+ghost use Rattle.kl1_user.specs.Accounts.{Reading, Fits, IsNameList, StaysAs, state_of};
 ghost use Rattle.kl1_script.specs.Replays.{if_accepted};
 ghost use Rattle.kl1_script.specs.Steps.{Went};
 
@@ -19,6 +19,9 @@ use kl1_user::{AccountName, Rules, UserState};
 use kl1_user_events::{Event, Reply};
 use std::alloc::{AllocError, Global};
 use std::marker::Model;
+
+/// How many reductions of a run are done between two looks at whether a collection is due.
+const STEPS_A_LOOK: u64 = 64;
 
 /// The account that replays a journal, with the table of its names and its seat there, and the source of its codes.
 #[derive(Drop)]
@@ -84,8 +87,20 @@ impl<A: AtomSource + Drop, C: CodeSource + Drop> Replayed<A, C> {
         self.user.rules()
     }
 
-    /// What an event does to the account, and the reply. If memory is refused, the account is as before.
+    /// What an event does to the account, and the reply. If memory is refused, the account is as before. After it what nothing reaches any more is
+    /// given back, if that is due.
     pub(crate) fn apply(&mut self, event: &Event) -> Result<Reply, AllocError>
+        ensures step { IfOk result (λ reply. (f : Reading) → Fits self.new.names f → step (state_of f self.old) (event_of event.now) ≡ record { state = state_of f self.new; reply = reply_of reply }) }
+        ensures before { (f : Reading) → Fits self.new.names f → Fits self.old.names f }
+        ensures err { OnErr result (self.new ≡ self.old) }
+    {
+        let reply = self.apply_event(event)?;
+        self.collect_if_due();
+        Ok(reply)
+    }
+
+    /// `apply`, after which nothing is given back.
+    fn apply_event(&mut self, event: &Event) -> Result<Reply, AllocError>
         ensures step { IfOk result (λ reply. (f : Reading) → Fits self.new.names f → step (state_of f self.old) (event_of event.now) ≡ record { state = state_of f self.new; reply = reply_of reply }) }
         ensures before { (f : Reading) → Fits self.new.names f → Fits self.old.names f }
         ensures err { OnErr result (self.new ≡ self.old) }
@@ -96,6 +111,13 @@ impl<A: AtomSource + Drop, C: CodeSource + Drop> Replayed<A, C> {
             &mut self.code_source,
             event,
         )
+    }
+
+    /// Gives back what nothing reaches any more, if that is due. The account stays what it is.
+    fn collect_if_due(&mut self)
+        ensures { StaysAs self.old self.new }
+    {
+        let _collected = self.user.collect_if_due();
     }
 
     /// Does a first reduction. Answers whether one was done: none can be, or it is refused. If memory is refused, the account is as before.
@@ -119,8 +141,20 @@ impl<A: AtomSource + Drop, C: CodeSource + Drop> Replayed<A, C> {
         }
     }
 
+    /// `step`, after which what nothing reaches any more is given back, if that is due, once in `STEPS_A_LOOK` steps of those that are left.
+    fn collected_step(&mut self, left: u64) -> Result<bool, AllocError>
+        ensures step { IfOk result (λ accepted. (f : Reading) → Fits self.new.names f → Went accepted (if_accepted (first_step (state_of f self.old))) (state_of f self.new)) }
+        ensures before { (f : Reading) → Fits self.new.names f → Fits self.old.names f }
+    {
+        let accepted = self.step()?;
+        if left % STEPS_A_LOOK == 0 {
+            self.collect_if_due();
+        }
+        Ok(accepted)
+    }
+
     /// Does first reductions, one after another, `reductions` of them. Answers whether all were done; rules without runs refuse them. If
-    /// memory is refused, some may be done.
+    /// memory is refused, some may be done. Between them what nothing reaches any more is given back.
     pub(crate) fn run(&mut self, reductions: u64) -> Result<bool, AllocError>
         ensures step { IfOk result (λ accepted. (f : Reading) → Fits self.new.names f → Went accepted (if_accepted (entry_step (state_of f self.old) (runs reductions))) (state_of f self.new)) }
         ensures before { (f : Reading) → Fits self.new.names f → Fits self.old.names f }
@@ -130,7 +164,7 @@ impl<A: AtomSource + Drop, C: CodeSource + Drop> Replayed<A, C> {
         }
         let mut left = reductions;
         while left > 0 {
-            let accepted = self.step()?;
+            let accepted = self.collected_step(left)?;
             if !accepted {
                 return Ok(false);
             }

@@ -19,6 +19,8 @@ struct OpenGate;
 impl Gate for OpenGate {
     fn enter(&self, _worker: u64) {}
 
+    fn collected(&self, _worker: u64, _account: usize) {}
+
     fn leave(&self, _worker: u64) {}
 }
 

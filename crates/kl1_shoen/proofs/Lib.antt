@@ -8,3 +8,4 @@ pub mod Counting
 pub mod Flags
 pub mod Shifting
 pub mod Meaning
+pub mod Celling

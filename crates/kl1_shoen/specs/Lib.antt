@@ -2,3 +2,4 @@ pub mod Shoens
 pub mod Changes
 pub mod Shifts
 pub mod Meaning
+pub mod Cells

@@ -1,13 +1,15 @@
 // Shoens with a count of the living children of each, and what they were when they were last marked.
 
-ghost use Rattle.std.specs.Prelude.{◌≡◌, ◌<◌, ◌≤◌, ◌+◌, ◌-◌, ◌∷◌, ◌++◌, [], ℕ, set, get_or, length, OnOk, IsTrue};
+ghost use Rattle.std.specs.Prelude.{◌≡◌, ◌<◌, ◌≤◌, ◌+◌, ◌-◌, ◌∷◌, ◌++◌, [], ℕ, set, get_or, length, option_map, OnOk, IsTrue};
 ghost use Rattle.std.specs.List.{list_any};
 ghost use Rattle.kl1_model.specs.State.{is_living as living};
 ghost use Rattle.kl1_shoen_paths.specs.Tracked.{IsTrail};
+ghost use Rattle.kl1_shoen.specs.Cells.{cells_kept, cells_in, cells_of, shoen_at, origin_at, with_cells};
 ghost use Rattle.kl1_shoen.specs.Shoens.{counted_under, is_living_child_of, AreLower};
 
 use kl1_model::Life;
-use kl1_shoen_paths::{Shoen, TrackedList, Was, item_at};
+use kl1_shoen_paths::{Origin, Shoen, TrackedList, Was, item_at};
+use kl1_store::Cell;
 use kl1_text::NameValue;
 use std::alloc::{AllocError, Global};
 use std::marker::Model;
@@ -143,6 +145,17 @@ impl<N: NameValue> CountedShoens<N> {
         recount(&mut self.children, was.parent, was.life, shoen.life);
     }
 
+    /// Puts these cells in place of the shoens' in the same order, for good: `back` comes back to these shoens.
+    pub fn put_cells(&mut self, cells: &[Cell<N>])
+        requires { length (cells_of self.old.now) ≤ length cells.now }
+        ensures now { self.new.now ≡ with_cells cells.now 0 self.old.now }
+        ensures kept { self.new.kept ≡ self.new.now }
+        ensures room { self.new.room ≡ self.old.room }
+    {
+        self.begin();
+        put_each(&mut self.shoens, cells);
+    }
+
     /// Whether a shoen lives whose parent has this number.
     pub fn has_living_child(&self, number: u64) -> bool
         ensures { result ≡ list_any (is_living_child_of number) self.now.now }
@@ -157,6 +170,80 @@ impl<N: NameValue> CountedShoens<N> {
             return false;
         }
         true
+    }
+}
+
+/// Puts these cells in place of those of shoens that were marked as they are, in the same order.
+fn put_each<N: NameValue>(shoens: &mut TrackedList<Shoen<N>>, cells: &[Cell<N>])
+    requires marked { shoens.old.kept ≡ shoens.old.now }
+    requires enough { length (cells_of shoens.old.now) ≤ length cells.now }
+    ensures now { shoens.new.now ≡ with_cells cells.now 0 shoens.old.now }
+    ensures kept { shoens.new.kept ≡ shoens.new.now }
+    ensures room { shoens.new.room ≡ shoens.old.room }
+    ensures changes { shoens.old.changes ≤ shoens.new.changes }
+{
+    let mut at = 0;
+    for place in 0..shoens.items().len() {
+        let shoen = item_at(shoens.items(), place);
+        shoens.put_for_good(place, shoen_at(&shoen, cells, at));
+        at = further(at, count_of(&shoen), cells.len());
+    }
+}
+
+/// A shoen with the cells from a place on in place of its own.
+fn shoen_at<N: Copy>(shoen: &Shoen<N>, cells: &[Cell<N>], at: usize) -> Shoen<N>
+    requires { at + length (cells_in shoen.now) ≤ length cells.now }
+    ensures { result ≡ shoen_at cells.now at shoen.now }
+{
+    Shoen {
+        control: cell_at(cells, at, shoen.control),
+        tail: cell_at(cells, at + 1, shoen.tail),
+        origin: origin_at(shoen.origin, cells, at + 2),
+        ..*shoen
+    }
+}
+
+/// What the console keeps of a shoen, with the cells from a place on in place of its own.
+fn origin_at<N: Copy>(origin: Option<Origin<N>>, cells: &[Cell<N>], at: usize) -> Option<Origin<N>>
+    requires { at + length (cells_kept origin) ≤ length cells.now }
+    ensures { result ≡ option_map (origin_at cells.now at) origin }
+{
+    match origin {
+        None => None,
+        Some(own) => Some(Origin {
+            goal: cell_at(cells, at, own.goal),
+            reports: cell_at(cells, at + 1, own.reports),
+            control: cell_at(cells, at + 2, own.control),
+            forgotten: own.forgotten,
+        }),
+    }
+}
+
+/// The cell at a place; `own` if there is none.
+fn cell_at<N: Copy>(cells: &[Cell<N>], at: usize, own: Cell<N>) -> Cell<N>
+    ensures { result ≡ get_or cells.now at own }
+{
+    if at < cells.len() {
+        return cells[at];
+    }
+    own
+}
+
+/// A place `count` further on, of those up to `most`.
+fn further(at: usize, count: usize, most: usize) -> usize
+    requires { at + count ≤ most }
+    ensures { result ≡ at + count }
+{
+    at + count
+}
+
+/// How many cells a shoen has.
+fn count_of<N: Copy>(shoen: &Shoen<N>) -> usize
+    ensures { result ≡ length (cells_in shoen.now) }
+{
+    match shoen.origin {
+        None => 2,
+        Some(_) => 5,
     }
 }
 

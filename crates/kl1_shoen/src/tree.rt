@@ -1,5 +1,6 @@
 // The shoens of an account.
 
+mod cells;
 mod changing;
 mod charging;
 mod marking;

@@ -122,6 +122,20 @@ impl<T: Copy> TrackedList<T> {
         self.items.push_reserved(item);
     }
 
+    /// Puts an item in place of another for good: `back` comes back to this.
+    #[tactic(auto, using(crate::proofs::Putting::put_whole))]
+    pub fn put_for_good(&mut self, place: usize, item: T)
+        requires { place < length self.old.now }
+        ensures now { self.new.now ≡ set self.old.now place item }
+        ensures kept { self.new.kept ≡ self.new.now }
+        ensures room { self.new.room ≡ self.old.room }
+        ensures changes { self.old.changes ≤ self.new.changes }
+    {
+        self.items[place] = item;
+        self.was.clear();
+        self.mark = self.items.len();
+    }
+
     /// Puts an item in place of another.
     pub fn put(&mut self, place: usize, item: T)
         requires place { place < length self.old.now }

@@ -227,3 +227,15 @@ newest_some hs ls v head m l c p e q =
 
 pub head_within : (hs : List ℕ) (ls : List Link) (v head : ℕ) → AreChained hs ls → head ≡ get_or hs v 0 → head ≤ length ls
 head_within hs ls v head c p = let s = stands v ls (length ls) in let w = s.within in let e = c.heads v in omega arith
+
+-- ---- one hook after another
+
+-- the hook at a place is that of the link there
+pub hook_there : (ls : List Link) (i : ℕ) (l : Link) → i < length ls → l ≡ get_or ls i no_link → slice_get (hooks_in ls) i ≡ Some (hook_in l)
+hook_there [] i l lt e = absurd (omega arith)
+hook_there (k ∷ ls) zero l lt e = ap (λ (m : Link). Some (hook_in m)) (sym e)
+hook_there (k ∷ ls) (suc i) l lt e = hook_there ls i l (omega arith) e
+
+pub length-hooks_in : (ls : List Link) → length (hooks_in ls) ≡ length ls
+length-hooks_in [] = refl
+length-hooks_in (k ∷ ls) = ap suc (length-hooks_in ls)

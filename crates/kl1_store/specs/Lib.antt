@@ -34,3 +34,4 @@ pub mod InModules
 pub mod Constants
 pub mod Renames
 pub mod Fingers
+pub mod Bytes

@@ -1,6 +1,6 @@
 // Variables, and what they are bound to.
 
-ghost use Rattle.std.specs.Prelude.{◌≡◌, ◌+◌, ◌<◌, ◌≤◌, suc, false, [], ◌∷◌, ◌++◌, length, take, drop, IfOk, OnOk, OnErr, IsOk, vec_capacity};
+ghost use Rattle.std.specs.Prelude.{◌≡◌, ◌+◌, ◌*◌, ◌<◌, ◌≤◌, suc, false, [], ◌∷◌, ◌++◌, length, take, drop, IfOk, OnOk, OnErr, IsOk, vec_capacity};
 ghost use Rattle.kl1_store.specs.Held.{is_bound, found};
 ghost use Rattle.kl1_store.specs.Inside.{most};
 ghost use Rattle.kl1_store.specs.Renames.{binding_renamed, mapped_from};
@@ -71,6 +71,19 @@ impl<N: NameValue> Bindings<N> {
         ensures { result ≡ length self.now.bindings }
     {
         self.variables.len()
+    }
+
+    /// How many bytes they take: 4 for each variable, 12 for a binding, and 16 more if its value stands beside the words.
+    pub fn bytes(&self) -> u64
+        ensures least { self.now.variables * 4 + length self.now.bindings * 12 ≤ result }
+        ensures most { result ≤ self.now.variables * 4 + length self.now.bindings * 28 }
+        ensures few { self.now.variables ≤ most }
+        ensures few_bindings { length self.now.bindings ≤ most }
+    {
+        let values = self.values.bytes();
+        let variables = self.places.len() as u64 * 4;
+        let bound = self.variables.len() as u64 * 4;
+        values + variables + bound
     }
 
     /// A new variable, unbound.

@@ -1,8 +1,10 @@
 // The lists of a store, and what each growth does to them.
 
-ghost use Rattle.std.specs.Prelude.{◌≡◌, ℕ, suc, false, ◌+◌, ◌<◌, ◌≤◌, ◌↔◌, List, [], ◌∷◌, ◌++◌, Some, length, take, drop, reverse, MatchOption, IfOk, OnOk, OnErr, IsOk, IsTrue, slice_get, vec_capacity};
+ghost use Rattle.std.specs.Prelude.{◌≡◌, ℕ, suc, false, ◌+◌, ◌*◌, ◌<◌, ◌≤◌, ◌↔◌, List, [], ◌∷◌, ◌++◌, Some, length, take, drop, reverse, MatchOption, IfOk, OnOk, OnErr, IsOk, IsTrue, slice_get, vec_capacity};
 ghost use Rattle.kl1_model.specs.Term.{occurs};
-ghost use Rattle.kl1_store.specs.Held.{Held, nothing_held, with_variable, with_structure, with_binding, is_bound, found, arguments_of, IsIn, AreIn, IsLower, IsWalked, sizes_of, HasRoom};
+ghost use Rattle.kl1_store.specs.Bytes.{IsBytesOfHeld};
+ghost use Rattle.kl1_store.specs.Inside.{most};
+ghost use Rattle.kl1_store.specs.Held.{arguments_held, Held, nothing_held, with_variable, with_structure, with_binding, is_bound, found, arguments_of, IsIn, AreIn, IsLower, IsWalked, sizes_of, HasRoom};
 ghost use Rattle.kl1_store.specs.Meaning.{term_of};
 ghost use Rattle.kl1_store.specs.Spending.{Spends, SpendsOnBindings, FreesRoom};
 ghost use Rattle.kl1_store.specs.Sound.{IsFormed, Grown, IsBoundTo};
@@ -73,6 +75,23 @@ impl<N: NameValue> Cells<N> {
         ensures { result ≡ self.now.held.variables }
     {
         self.bindings.variables()
+    }
+
+    /// How many arguments all structures have.
+    #[inline]
+    pub fn arguments(&self) -> usize
+        ensures { result ≡ arguments_held self.now.held.structures }
+    {
+        self.arguments.len()
+    }
+
+    /// How many bytes the lists take, without the room for more.
+    pub fn bytes(&self) -> u64
+        ensures is { IsBytesOfHeld self.now.held result }
+        ensures few { result ≤ most * 72 }
+    {
+        let structures = self.nodes.len() as u64 * 16;
+        self.bindings.bytes() + structures + self.arguments.bytes()
     }
 
     /// A new variable, unbound.

@@ -1,6 +1,7 @@
 // Places in lists that are kept, so that a walk can begin there.
 
 ghost use Rattle.std.specs.Prelude.{◌≡◌, ◌≤◌, IsTrue};
+ghost use Rattle.std.specs.List.{All};
 ghost use Rattle.kl1_store.specs.Held.{Held, sizes_of, IsIn};
 ghost use Rattle.kl1_store.specs.Sound.{IsFormed, Grown};
 ghost use Rattle.kl1_store.specs.Fingers.{IsFinger, AreFingers};
@@ -97,6 +98,13 @@ impl<N: NameValue> Fingers<N> {
         {
             self.let_go();
         }
+    }
+
+    /// All places that are kept.
+    pub(crate) fn all(&self) -> &[Finger<N>]
+        ensures { (h : Held N) → AreFingers N.built h self.now → All (IsFinger N.built h) result.now }
+    {
+        self.places.as_slice()
     }
 
     /// Takes in a place that is right now, when this much is held. If memory is refused, it doesn't.

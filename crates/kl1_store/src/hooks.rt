@@ -1,7 +1,8 @@
 // What hangs on variables.
 
-ghost use Rattle.std.specs.Prelude.{◌≡◌, ℕ, ◌+◌, ◌<◌, ◌≤◌, List, [], ◌∷◌, ◌++◌, length, take, get_or, OnOk, OnErr, IsOk, slice_get, vec_capacity};
+ghost use Rattle.std.specs.Prelude.{◌≡◌, ℕ, ◌+◌, ◌<◌, ◌≤◌, List, [], ◌∷◌, ◌++◌, length, take, get_or, OnOk, OnErr, IsOk, Some, slice_get, vec_capacity};
 ghost use Rattle.kl1_store.specs.Hooks.{Hook, hanging_on};
+ghost use Rattle.kl1_store.specs.Inside.{most};
 ghost use Rattle.kl1_store.specs.Chains.{Hung, AreChained, hook_in, hooks_in, no_link, newest_place};
 
 use crate::link::Link;
@@ -89,9 +90,20 @@ impl Hooks {
     /// How many hooks there are.
     #[inline]
     pub fn len(&self) -> usize
-        ensures { result ≡ length self.now.hooks }
+        ensures is { result ≡ length self.now.hooks }
+        ensures few { result ≤ most }
     {
         self.links.len()
+    }
+
+    /// The variable and the number of a hook, by its place, from 0.
+    #[inline]
+    pub fn at(&self, place: usize) -> (u32, u64)
+        requires { place < length self.now.hooks }
+        ensures { slice_get self.now.hooks place ≡ Some (record { variable = result.0; number = result.1 }) }
+    {
+        let link = link_at(&self.links, place);
+        (link.variable, link.number)
     }
 
     /// Hangs a number on a variable.

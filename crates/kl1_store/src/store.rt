@@ -16,6 +16,7 @@ ghost use Rattle.kl1_store.specs.Tops.{firsts, others};
 mod build_one;
 mod build_three;
 mod constants;
+mod counting;
 mod fingers;
 mod occurring;
 mod renaming;

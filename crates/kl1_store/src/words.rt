@@ -1,6 +1,6 @@
 // Lists of cells, as words.
 
-ghost use Rattle.std.specs.Prelude.{◌≡◌, ◌+◌, ◌<◌, ◌≤◌, [], ◌∷◌, ◌++◌, length, take, get_or, OnOk, IsOk};
+ghost use Rattle.std.specs.Prelude.{◌≡◌, ◌+◌, ◌*◌, ◌<◌, ◌≤◌, [], ◌∷◌, ◌++◌, length, take, get_or, OnOk, IsOk};
 ghost use Rattle.kl1_store.specs.Inside.{most};
 ghost use Rattle.kl1_store.specs.Words.{AreInOrder, Splits};
 
@@ -54,6 +54,15 @@ impl<N: NameValue> Words<N> {
         ensures few { result + self.now.room ≤ most }
     {
         self.words.len()
+    }
+
+    /// How many bytes they take: 8 each, and 16 more for each that stands beside the words.
+    pub fn bytes(&self) -> u64
+        ensures least { length self.now.cells * 8 ≤ result }
+        ensures most { result ≤ length self.now.cells * 24 }
+        ensures few { length self.now.cells ≤ most }
+    {
+        self.words.len() as u64 * 8 + self.wide.len() as u64 * 16
     }
 
     /// A cell by its place, from 0.

@@ -97,6 +97,8 @@ impl Gate for Counter {
         self.come();
     }
 
+    fn collected(&self, _worker: u64, _account: usize) {}
+
     fn leave(&self, _worker: u64) {
         self.left.fetch_add(1, Ordering::SeqCst);
     }

@@ -267,7 +267,7 @@ impl<'a, W: Write + Drop> Trace<'a, W> {
         if let Some(variables) = host.awaited(goal.view.number)? {
             for variable in variables.as_slice() {
                 out.extend_from_slice(words)?;
-                self.texts.names.put_variable(u64::from(*variable), out)?;
+                self.texts.names.put_variable(*variable, out)?;
                 words = b", ";
             }
         }

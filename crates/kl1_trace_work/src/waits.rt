@@ -43,7 +43,7 @@ impl Waits {
             return Ok(());
         };
         for variable in variables.as_slice() {
-            self.put_to(u64::from(*variable), goal.0)?;
+            self.put_to(*variable, goal.0)?;
         }
         Ok(())
     }

@@ -1,5 +1,6 @@
 // One account over a table of names and a source of codes.
 
+mod collecting;
 mod viewing;
 
 ghost use Rattle.std.specs.Prelude.{◌≡◌, ◌↔◌, ◌≤◌, ℕ, [], length, IfOk, IsOk, OnErr, IsTrue, option_map};

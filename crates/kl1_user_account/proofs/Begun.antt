@@ -1,8 +1,8 @@
 -- What always holds holds of an account in which nothing has happened.
-use Rattle.kl1_user_account.proofs.Words.{◌≡◌, ℕ, List, refl, arith, Rules, Known, Hook, AreSmall, begun, IsKept, CountsWork}
+use Rattle.kl1_user_account.proofs.Words.{◌≡◌, ℕ, List, refl, arith, Rules, Known, AreSmall, begun, IsKept, CountsWork}
 
-pub begun_kept : (own : List ℕ) (rules : Rules) (names : List Known) (sessions : ℕ) (hooks : List Hook) → AreSmall names → IsKept (begun own rules names sessions) hooks 0 0
-begun_kept own rules names sessions hooks small = record {
+pub begun_kept : (own : List ℕ) (rules : Rules) (names : List Known) (sessions : ℕ) → AreSmall names → IsKept (begun own rules names sessions) 0 0
+begun_kept own rules names sessions small = record {
   some = omega arith;
   goals = tt;
   owned = tt;

@@ -1,7 +1,8 @@
 -- An account after an event that brought a goal, whose names were published.
-use Rattle.kl1_user_account.proofs.Words.{◌≡◌, ℕ, List, sym, ap, ◌∙◌, subst, arith, State, with_entry, CellName, Reading, Fits, state_of, AreSpared, Machine, Brought, Keeps, IsRested, goal_of, change_of, PublishesNames, Brings, IsPublished, published_states, published_rested, MayBring, NameShelf, Trail}
-use Rattle.std.proofs.Common.{None}
-use Rattle.kl1_user_account.proofs.Machines.{Aside, account_of, state_aside, state_is, kept_alike, Began, began_state, rules_after, rested_after, noted, noted_counts, Leaves, left_holds, Ends, ends_as}
+use Rattle.kl1_user_account.proofs.Words.{◌≡◌, ℕ, List, sym, ap, ◌∙◌, subst, arith, State, with_entry, CellName, Reading, Fits, local_state, AreSpared, Machine, Brought, Keeps, IsRested, goal_of, change_of, PublishesNames, Brings, IsPublished, published_states, published_rested, MayBring, NameShelf, Trail}
+use Rattle.std.proofs.Common.{None, refl}
+use Rattle.kl1_store.specs.Held.{Held}
+use Rattle.kl1_user_account.proofs.Machines.{Aside, account_of, state_aside, state_is, kept_alike, Began, began_state, rules_after, rested_after, noted, noted_counts, Leaves, left_holds, EndsInside, ends_inside_as}
 
 -- an event brought a goal, with spare numbers for those of its names that are new, and the names were published then
 pub record IsBrought (e : Began) (z : Brought) (texts : List (List ℕ)) (spares numbers : List CellName) (r n : Machine) : Type 0 where
@@ -39,7 +40,7 @@ module _ (e : Began) (z : Brought) (texts : List (List ℕ)) (spares numbers : L
   no_name = ap (λ (m : Machine). m.name) p.published.rest ∙ p.brings.named.name ∙ e.begun.name
 
   -- the state is the change of the state that was, with an entry more
-  states : (f : Reading) → Fits n.names.names f → with_entry (change_of z (state_of f e.account)) ≡ state_of f (account_of y n)
+  states : (f : Reading) → Fits n.names.names f → with_entry (change_of z (local_state f e.account)) ≡ local_state f (account_of y n)
   states f fits =
       ap (λ (s : State). with_entry (change_of z s)) (began_state e f)
       ∙ ap (λ (s : State). with_entry s) (published_states (change_of z) (goal_of z) spares numbers b r n is_published f fits (state_aside e.aside b))
@@ -52,6 +53,8 @@ module _ (e : Began) (z : Brought) (texts : List (List ℕ)) (spares numbers : L
       record {
         rested = rested_after e n rested;
         rules = rules_after e n rested;
+        labels = refl;
+        grown = (let same : n.store.held.variables ≡ r.store.held.variables = ap (λ (h : Held CellName). h.variables) p.published.held in omega (arith, same, p.keeps.grown.held.variables));
         most = omega (arith, room);
         small = p.published.small;
         fits = λ f fits. rw (ap (λ (t : Trail). t.names) p.keeps.trail) at (p.published.fits f fits);
@@ -59,5 +62,5 @@ module _ (e : Began) (z : Brought) (texts : List (List ℕ)) (spares numbers : L
         counts = noted_counts e n (ap (λ (m : Machine). m.shoens.work) p.published.rest ∙ p.brings.work);
       }
 
-  pub brought_ends : (x : Aside) → x ≡ y → Ends e.account (λ s t. with_entry (change_of z s) ≡ t) x n
-  brought_ends x beside = ends_as beside (record { holds = left_holds e _ y n left; states = states })
+  pub brought_ends : (x : Aside) → x ≡ y → EndsInside e.account (λ s t. with_entry (change_of z s) ≡ t) x n
+  brought_ends x beside = ends_inside_as beside (record { holds = left_holds e _ y n left; states = states })

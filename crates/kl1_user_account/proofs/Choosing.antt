@@ -1,8 +1,10 @@
 -- The first goal that can step, found one goal after another.
-use Rattle.kl1_user_account.proofs.Words.{◌≡◌, ℕ, ◌==◌, nat_lt, ◌&&◌, ◌||◌, Bool, true, false, not, if◌then◌else◌, List, [], ◌∷◌, map, refl, sym, ap, ◌∙◌, subst, arith, ◌⊎◌, inl, inr, Option, Some, None, option_map, option_and_then, is_some, filter, find, ⊤, list_any, AllByRecursion, cases_Bool, false≢true, nat_tests, State, Term, call_of, Control, awaits_message, tells, tells_other, ends, breaks_off, control_of, goal_look, Found, found, awaits, wrong, Move, moves, term_move, read_action, task_action, move_by, look_clause, call_clauses, has_runs, task_clauses, clause_for, can_step, quiet, goes_before, first_of_goals, Chosen, first, is_first, is_in_run, substitute_move, monitor_action, chosen, Hook, CellName, Task, Monitor, Reduces, Substitutes, Goal, Ready, clause_in, stands, ready_by, ready_of, better, first_from, Shoen, shoen_in, contents, Reading, Fits, Account, program_of, Means, meaning, aim_with, goal_with, task_with, shoen_with, state_of, front_with, control_with, control_clause, monitor_clause, task_clause, IsSettled, AreSettled, IsEnabled, AreEnabled, found_in, enabled_read, IsKept}
+use Rattle.kl1_user_account.proofs.Words.{◌≡◌, ℕ, ◌==◌, nat_lt, ◌&&◌, ◌||◌, Bool, true, false, not, if◌then◌else◌, List, [], ◌∷◌, map, refl, sym, ap, ◌∙◌, subst, arith, ◌⊎◌, inl, inr, Option, Some, None, option_map, option_and_then, is_some, filter, find, ⊤, list_any, AllByRecursion, cases_Bool, false≢true, nat_tests, State, Term, call_of, Control, awaits_message, tells, tells_other, ends, breaks_off, control_of, goal_look, Found, found, awaits, wrong, Move, moves, term_move, read_action, task_action, move_by, look_clause, call_clauses, has_runs, task_clauses, clause_for, can_step, quiet, goes_before, first_of_goals, Chosen, first, is_first, is_in_run, substitute_move, monitor_action, chosen, Hook, CellName, Task, Monitor, Reduces, Substitutes, Goal, Ready, clause_in, stands, ready_by, ready_of, better, first_from, Shoen, shoen_in, contents, Reading, Fits, Account, program_of, Means, meaning, aim_with, goal_with, task_with, shoen_with, local_state, front_with, control_with, control_clause, monitor_clause, task_clause, IsSettled, AreSettled, IsEnabled, AreEnabled, found_in, enabled_read, IsKept}
 use Rattle.kl1_model.specs.State as model
 use Rattle.kl1_goals.specs.Readies.{chosen as chosen_pair}
 use Rattle.kl1_goals.proofs.Ranking.{standing_in, stands_is}
+use Rattle.kl1_user_effects.specs.Account.{state_of}
+use Rattle.kl1_user_account.proofs.Lifting.{first_known, quiet_known}
 
 -- ---- one goal before another, in numbers
 
@@ -186,7 +188,7 @@ substitute_found u _ = refl
 
 -- the clause by which a task could step is the first that is allowed
 clause_found : (f : Reading) (a : Account) (n : ℕ) (k : Task CellName) →
-    find (λ c. is_some (task_action (state_of f a) n (task_with (meaning f a.held) k) c)) (task_clauses (contents a.modules) (task_with (meaning f a.held) k))
+    find (λ c. is_some (task_action (local_state f a) n (task_with (meaning f a.held) k) c)) (task_clauses (contents a.modules) (task_with (meaning f a.held) k))
     ≡ task_clause a.rules (contents a.modules) (control_with (meaning f a.held) a.shoens n) (task_with (meaning f a.held) k)
 clause_found f a n Monitor = ap (λ h. find (λ c. is_some (monitor_action h c)) (0 ∷ [])) (found_in (meaning f a.held) n a.shoens) ∙ monitor_found (meaning f a.held) (shoen_in n a.shoens)
 clause_found f a n (Reduces x) =
@@ -196,23 +198,23 @@ clause_found f a n (Reduces x) =
 clause_found f a n (Substitutes x) = substitute_found (meaning f a.held x) (goal_look (meaning f a.held x))
 
 -- a goal that is settled, and may step as the shoens have it, stands
-one_stands : (f : Reading) (a : Account) (hooks : List Hook) (g : Goal CellName) → IsSettled f hooks a.held (program_of a) a.shoens g → IsEnabled a.shoens a.work g → IsStanding (state_of f a) (meaning f a.held) g
+one_stands : (f : Reading) (a : Account) (hooks : List Hook) (g : Goal CellName) → IsSettled f hooks a.held (program_of a) a.shoens g → IsEnabled a.shoens a.work g → IsStanding (local_state f a) (meaning f a.held) g
 one_stands f a hooks g settled enabled =
-    ap (λ b. find (λ c. is_some (if b then task_action (state_of f a) g.shoen (task_with (meaning f a.held) g.task) c else None)) (task_clauses (contents a.modules) (task_with (meaning f a.held) g.task)))
-    (enabled_read f a.held a.shoens a.work (state_of f a) g refl refl enabled)
+    ap (λ b. find (λ c. is_some (if b then task_action (local_state f a) g.shoen (task_with (meaning f a.held) g.task) c else None)) (task_clauses (contents a.modules) (task_with (meaning f a.held) g.task)))
+    (enabled_read f a.held a.shoens a.work (local_state f a) g refl refl enabled)
     ∙ by_case g.is_enabled
   where
-    by_case : (b : Bool) → find (λ c. is_some (if b then task_action (state_of f a) g.shoen (task_with (meaning f a.held) g.task) c else None)) (task_clauses (contents a.modules) (task_with (meaning f a.held) g.task)) ≡ (if b then clause_in g.standing else None)
+    by_case : (b : Bool) → find (λ c. is_some (if b then task_action (local_state f a) g.shoen (task_with (meaning f a.held) g.task) c else None)) (task_clauses (contents a.modules) (task_with (meaning f a.held) g.task)) ≡ (if b then clause_in g.standing else None)
     by_case true = clause_found f a g.shoen g.task ∙ sym settled.standing
     by_case false = find_none (task_clauses (contents a.modules) (task_with (meaning f a.held) g.task))
 
 -- ---- of an account
 
 -- the goals of an account stand
-pub all_stand : {hooks : List Hook} {known put : ℕ} (f : Reading) (a : Account) → IsKept a hooks known put → Fits a.names f → AreStanding (state_of f a) (meaning f a.held) a.goals
+pub all_stand : {hooks : List Hook} {known put : ℕ} (f : Reading) (a : Account) → IsKept a hooks known put → Fits a.names f → AreStanding (local_state f a) (meaning f a.held) a.goals
 all_stand {hooks = hooks} f a i fits = each a.goals (i.settled f fits) i.enabled
   where
-    each : (gs : List (Goal CellName)) → AreSettled f hooks a.held (program_of a) a.shoens gs → AreEnabled a.shoens a.work gs → AreStanding (state_of f a) (meaning f a.held) gs
+    each : (gs : List (Goal CellName)) → AreSettled f hooks a.held (program_of a) a.shoens gs → AreEnabled a.shoens a.work gs → AreStanding (local_state f a) (meaning f a.held) gs
     each [] settled enabled = tt
     each (g ∷ gs) settled enabled = (one_stands f a hooks g settled.0 enabled.0, each gs settled.1 enabled.1)
 
@@ -222,7 +224,7 @@ chosen_by p = record { goal = p.0; clause = p.1 }
 
 -- what the table picks is the definition's first
 pub picks : {hooks : List Hook} {known put : ℕ} (f : Reading) (a : Account) (o : Option (ℕ × ℕ)) → IsKept a hooks known put → o ≡ option_map chosen_pair (first_from None a.goals) → Fits a.names f → option_map chosen_by o ≡ first (state_of f a)
-picks f a o i p fits = ap (option_map chosen_by) p ∙ pairs (first_from None a.goals) ∙ first_found (state_of f a) (meaning f a.held) a.goals (all_stand f a i fits)
+picks f a o i p fits = ap (option_map chosen_by) p ∙ pairs (first_from None a.goals) ∙ first_found (local_state f a) (meaning f a.held) a.goals (all_stand f a i fits) ∙ sym (first_known f a i.labels)
   where
     pairs : (r : Option Ready) → option_map chosen_by (option_map chosen_pair r) ≡ option_map shown r
     pairs None = refl
@@ -230,7 +232,7 @@ picks f a o i p fits = ap (option_map chosen_by) p ∙ pairs (first_from None a.
 
 -- and no goal can step just if the table has none ready
 pub is_quiet : {hooks : List Hook} {known put : ℕ} (f : Reading) (a : Account) (r : Bool) → IsKept a hooks known put → r ≡ list_any stands a.goals → Fits a.names f → not r ≡ quiet (state_of f a)
-is_quiet f a r i p fits = ap not (p ∙ any_stands (state_of f a) (meaning f a.held) a.goals (all_stand f a i fits))
+is_quiet f a r i p fits = ap not (p ∙ any_stands (local_state f a) (meaning f a.held) a.goals (all_stand f a i fits)) ∙ sym (quiet_known f a i.labels)
 
 -- ---- whether a reduction is noted in a run
 

@@ -1,5 +1,5 @@
 -- Reports and shoens of an account that are let go, and what its machine leaves.
-use Rattle.kl1_user_account.proofs.Words.{◌≡◌, ℕ, ◌<◌, not, ◌&&◌, Bool, true, false, if◌then◌else◌, List, [], map, length, length-map, refl, sym, ap, ◌∙◌, subst, arith, Option, Some, None, option_map, limits_of, Account, State, step, is_living, with_entry, Transition, CellName, Cell, Held, Origin, Shoen, Reading, Fits, built, Means, meaning, origin_with, shoen_with, state_of, worked, Machine, made, Trail, Keeps, IsRested, Reschedules, is_among, Reads}
+use Rattle.kl1_user_account.proofs.Words.{◌≡◌, ℕ, ◌<◌, not, ◌&&◌, Bool, true, false, if◌then◌else◌, List, [], map, length, length-map, refl, sym, ap, ◌∙◌, subst, arith, Option, Some, None, option_map, limits_of, Account, State, step, is_living, with_entry, Transition, CellName, Cell, Held, Origin, Shoen, Reading, Fits, built, Means, meaning, origin_with, shoen_with, local_state, state_of, worked, Machine, made, Trail, Keeps, IsRested, Reschedules, is_among, Reads}
 use Rattle.kl1_model.specs.State as model
 use Rattle.kl1_model.specs.State.{change_shoen}
 use Rattle.kl1_model.specs.Meaning.{nil}
@@ -19,7 +19,7 @@ use Rattle.kl1_machine.specs.Effects.{having_shoens}
 use Rattle.kl1_machine.specs.Forgetting.{none_left, forgetting_reports, Forgets, ForgetsReports}
 use Rattle.kl1_user_account.specs.Forgetting.{with_left, GoesInPart, GoesWhole, StepsInPart, StepsWhole}
 use Rattle.kl1_user_account.proofs.Counting.{more_entry}
-use Rattle.kl1_user_account.proofs.Machines.{Aside, account_of, state_aside, state_is, Began, began_state, rules_after, rested_after, noted, noted_counts, Holds, Leaves, left_holds}
+use Rattle.kl1_user_account.proofs.Machines.{Aside, account_of, state_aside, state_is, Began, began_state, rules_after, rested_after, noted, noted_counts, Holds, Leaves, left_holds, known_step}
 
 -- ---- the shoens, as they are kept and as the definitions have them
 
@@ -70,7 +70,7 @@ pub record LetsGo (e : Began) (n count : ℕ) (change : Reading → State → St
   pub is : v ≡ record left { told = v.told }
   pub name : left.name ≡ e.machine.name
   pub work : left.shoens.work ≡ e.machine.shoens.work
-  pub steps : (f : Reading) → Reads built f → step (state_of f e.account) (forget n count) ≡ record { state = with_entry (change f (state_of f e.account)); reply = forgot }
+  pub steps : (f : Reading) → Reads built f → step (local_state f e.account) (forget n count) ≡ record { state = with_entry (change f (local_state f e.account)); reply = forgot }
   pub changes : (f : Reading) → Reads built f → (s : State) → change f (worked f s e.machine.store.held (made e.machine)) ≡ worked f s left.store.held (made left)
   pub looks : Reschedules v u
   pub rested : IsRested e.program u
@@ -90,7 +90,7 @@ module _ (e : Began) (n count : ℕ) (change : Reading → State → State) (lef
   same_work : u.shoens.work ≡ e.machine.shoens.work
   same_work = ap (λ (x : Machine). x.shoens.work) l.looks.rest ∙ ap (λ (x : Machine). x.shoens.work) l.is ∙ l.work
 
-  steps : (f : Reading) → Reads built f → step (state_of f e.account) (forget n count) ≡ record { state = state_of f (account_of z u); reply = forgot }
+  steps : (f : Reading) → Reads built f → step (local_state f e.account) (forget n count) ≡ record { state = local_state f (account_of z u); reply = forgot }
   steps f reads =
       let T : State → Transition = λ t. record { state = with_entry t; reply = forgot } in
       let R : State → Transition = λ t. record { state = t; reply = forgot } in
@@ -110,6 +110,8 @@ module _ (e : Began) (n count : ℕ) (change : Reading → State → State) (lef
       record {
         rested = rested_after e u l.rested;
         rules = rules_after e u l.rested;
+        labels = refl;
+        grown = l.keeps.grown.held.variables;
         most = omega (arith, room);
         small = rw names e.holds.0.small;
         fits = λ f fits. rw names at fits;
@@ -118,7 +120,7 @@ module _ (e : Began) (n count : ℕ) (change : Reading → State → State) (lef
       }
 
   pub gone_ends : (y : Aside) → y ≡ z → Holds y u × ((f : Reading) → Reads built f → step (state_of f e.account) (forget n count) ≡ record { state = state_of f (account_of y u); reply = forgot })
-  gone_ends y beside = rw beside (left_holds e _ z u leaves, steps)
+  gone_ends y beside = rw beside (left_holds e _ z u leaves, λ f reads. known_step e z u (forget n count) forgot f refl tt (steps f reads))
 
 -- ---- for the calls
 
@@ -134,7 +136,7 @@ reports_gone e n count x u goes room g rested keeps =
       name = refl;
       work = refl;
       steps = λ f reads.
-          let R : Held CellName → Transition = λ h. record { state = with_entry (change_shoen n (with_left count (meaning f h x)) (state_of f e.account)); reply = forgot } in
+          let R : Held CellName → Transition = λ h. record { state = with_entry (change_shoen n (with_left count (meaning f h x)) (local_state f e.account)); reply = forgot } in
           goes f reads ∙ ap R held;
       changes = λ f reads s. reports_go f s m n count x;
       looks = g.reschedules;
@@ -162,17 +164,17 @@ shoen_gone e n u goes room g rested keeps =
 
 -- ---- what may go of an account, by what its fields have
 
-module _ (a : Account) (full : Bool) (n count : ℕ) (is : (f : Reading) → full ≡ is_full (state_of f a)) where
+module _ (a : Account) (full : Bool) (n count : ℕ) (is : (f : Reading) → full ≡ is_full (local_state f a)) where
   no_more_full : full ≡ false → a.entries < (limits_of a.rules).entries
   no_more_full e = more_entry a.entries (limits_of a.rules).entries (sym (is (λ c. [])) ∙ e)
 
   pub part_goes : (x : Cell CellName) → GoesInPart a.rules a.held a.shoens full n count x → StepsInPart a n count x × (a.entries < (limits_of a.rules).entries)
-  part_goes x g = ((λ f reads. g.steps f reads (record (state_of f a) { goals = []; shoens = []; last_variable = 0 }) a.goals refl (sym (is f))), no_more_full g.room)
+  part_goes x g = ((λ f reads. g.steps f reads (record (local_state f a) { goals = []; shoens = []; last_variable = 0 }) a.goals refl (sym (is f))), no_more_full g.room)
 
   pub whole_goes : GoesWhole a.rules a.held a.shoens full n count → StepsWhole a n × (a.entries < (limits_of a.rules).entries)
   whole_goes g = (
     λ f reads.
-        let S = state_of f a in
+        let S = local_state f a in
         let to : ℕ → Transition = λ k. step S (forget n k) in
         ap to (sym g.none) ∙ g.steps f reads (record S { goals = []; shoens = []; last_variable = 0 }) a.goals refl (sym (is f)),
     no_more_full g.room,

@@ -28,7 +28,16 @@ mod Started
 pub mod Words
 pub mod Givings
 pub mod GivenShapes
+mod KnownAs
+mod KnownViews
+mod KnownWaits
 pub mod ToldAmong
 mod GivenGoals
 mod ForgetSteps
+mod Collected
+mod Lifting
+mod Labelling
+mod Shown
 mod LettingGo
+mod OneState
+mod PutCopies

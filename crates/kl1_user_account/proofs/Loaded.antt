@@ -1,10 +1,11 @@
 -- An account after a module was loaded.
-use Rattle.kl1_user_account.proofs.Words.{◌≡◌, ℕ, suc, ◌<◌, false, List, [], ◌∷◌, ◌++◌, map, refl, sym, ap, ◌∙◌, subst, Rules, limits_of, Module, State, names_of_module, with_names, load, loaded, with_entry, Transition, step, with_module, CellName, AreNames, Hook, Held, with_texts, Goal, Shoen, Numbered, own_names, number_of, contents, is_numbered, Program, with_last, Reading, Fits, Account, Means, meaning, goal_with, shoen_with, texts_of, state_of, NameShelf, AreSmall, AreNumbersOf, AreSettled, IsEnabled, of_module, Machine, IsMachine, IsRested, unready, Reschedules, AllSettled, looked_hold, unready_hold, looked_read, settled_alike, IsDraftOf, IsSettled}
+use Rattle.kl1_user_account.proofs.Words.{◌≡◌, ℕ, suc, ◌<◌, false, List, [], ◌∷◌, ◌++◌, map, refl, sym, ap, ◌∙◌, subst, Rules, limits_of, Module, State, names_of_module, with_names, load, loaded, with_entry, Transition, step, with_module, CellName, AreNames, Hook, Held, with_texts, Goal, Shoen, Numbered, own_names, number_of, contents, is_numbered, Program, with_last, Reading, Fits, Account, Means, meaning, goal_with, shoen_with, texts_of, local_state, NameShelf, AreSmall, AreNumbersOf, AreSettled, IsEnabled, of_module, Machine, IsMachine, IsRested, unready, Reschedules, AllSettled, looked_hold, unready_hold, looked_read, settled_alike, IsDraftOf, IsSettled}
 use Rattle.kl1_model.specs.State as model
 use Rattle.kl1_user_effects.proofs.Lists.{all_then}
+use Rattle.std.proofs.Common.{arith}
 use Rattle.kl1_user_account.proofs.Counting.{more_entry}
 use Rattle.kl1_user_account.proofs.Loads.{read_more, contents_more, still_new, has_no_room}
-use Rattle.kl1_user_account.proofs.Machines.{Aside, account_of, program_in, Began, noted_counts, Leaves, left_holds, Ends, ends_as}
+use Rattle.kl1_user_account.proofs.Machines.{Aside, account_of, program_in, Began, noted_counts, Leaves, left_holds, Ends, ends_as, known_step}
 
 -- goals are settled by modules of the same contents too
 settled_by : (f : Reading) (hooks : List Hook) (h : Held CellName) (rules : Rules) (ms ns : List Numbered) (ss : List (Shoen CellName)) (gs : List (Goal CellName)) → contents ms ≡ contents ns → AreSettled f hooks h (record { rules = rules; loaded = ms }) ss gs → AreSettled f hooks h (record { rules = rules; loaded = ns }) ss gs
@@ -62,9 +63,9 @@ module _ (e : Began) (source : List ℕ) (d : Numbered) (r : Machine) (names : N
   looked_goals : (t : Means) → map (goal_with t) r.goals.goals ≡ map (goal_with t) b.goals.goals
   looked_goals t = looked_read t r.goals.goals b.goals.goals p.looks.goals
 
-  state : (f : Reading) → with_entry (with_module (state_of f (account_of x b)) d.content) ≡ state_of f (account_of y n)
+  state : (f : Reading) → with_entry (with_module (local_state f (account_of x b)) d.content) ≡ local_state f (account_of y n)
   state f =
-      let S = state_of f (account_of x b) in
+      let S = local_state f (account_of x b) in
       let T : List Module → List (List ℕ) → List model.Goal → State = λ ms ns gs. record S { modules = ms; names = ns; entries = suc x.entries; run = 0; goals = gs } in
       let gs = map (goal_with (meaning f b.store.held)) b.goals.goals in
       let own = own_names d.content in
@@ -74,15 +75,15 @@ module _ (e : Began) (source : List ℕ) (d : Numbered) (r : Machine) (names : N
       ap (λ (ms : List Module). T ms (with_names (texts_of b.names.names) (names_of_module d.content)) gs) (sym (contents_more x.modules (record d { row = row })))
       ∙ ap (λ (ns : List (List ℕ)). T (contents y.modules) ns gs) named
       ∙ ap (T (contents y.modules) (texts_of names.names)) (sym (looked_goals (meaning f b.store.held)))
-      ∙ ap (λ (h : Held CellName). state_of f (A h)) (sym p.looks.held)
-      ∙ ap (λ (z : Machine). state_of f (account_of y (record z { names = names }))) (sym p.looks.rest)
+      ∙ ap (λ (h : Held CellName). local_state f (A h)) (sym p.looks.held)
+      ∙ ap (λ (z : Machine). local_state f (account_of y (record z { names = names }))) (sym p.looks.rest)
 
-  steps : (f : Reading) → step (state_of f e.account) (load source) ≡ record { state = state_of f (account_of y n); reply = loaded d.content.name }
+  steps : (f : Reading) → step (local_state f e.account) (load source) ≡ record { state = local_state f (account_of y n); reply = loaded d.content.name }
   steps f =
       let R : State → Transition = λ z. record { state = z; reply = loaded d.content.name } in
-      ap (λ (a : Account). step (state_of f a) (load source)) (sym e.is)
-      ∙ draft.loads (state_of f (account_of x b))
-      ∙ draft.draft.loads (state_of f (account_of x b)) (record { modules_are = refl; names_are = refl; most_is = refl; full_is = refl })
+      ap (λ (a : Account). step (local_state f a) (load source)) (sym e.is)
+      ∙ draft.loads (local_state f (account_of x b))
+      ∙ draft.draft.loads (local_state f (account_of x b)) (record { modules_are = refl; names_are = refl; most_is = refl; full_is = refl })
       ∙ ap R (state f)
 
   -- ---- what always holds
@@ -122,6 +123,8 @@ module _ (e : Began) (source : List ℕ) (d : Numbered) (r : Machine) (names : N
       record {
         rested = subst R (sym p.looks.rest) rested;
         rules = ap (λ (z : Machine). z.rules) p.looks.rest;
+        labels = refl;
+        grown = (let same = ap (λ (h : Held CellName). h.variables) p.looks.held in omega (arith, same));
         most = more_entry x.entries (limits_of b.rules).entries draft.draft.room;
         small = p.small;
         fits = fits;
@@ -130,4 +133,4 @@ module _ (e : Began) (source : List ℕ) (d : Numbered) (r : Machine) (names : N
       }
 
   pub loaded_ends : (z : Aside) → z ≡ y → Ends e.account (λ s t. step s (load source) ≡ record { state = t; reply = loaded d.content.name }) z n
-  loaded_ends z beside = ends_as beside (record { holds = left_holds e _ y n left; states = λ f fit. steps f })
+  loaded_ends z beside = ends_as beside (record { holds = left_holds e _ y n left; states = λ f fit. known_step e y n (load source) (loaded d.content.name) f refl tt (steps f) })

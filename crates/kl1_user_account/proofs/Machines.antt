@@ -1,17 +1,23 @@
 -- An account and its machine: what always holds of the one, and what holds of the other between events.
-use Rattle.kl1_user_account.proofs.Words.{◌≡◌, ℕ, suc, ◌≤◌, false, List, [], length, refl, sym, ap, ◌∙◌, subst, Rules, limits_of, State, point_of, Known, Numbered, Program, Reading, Fits, Account, texts_of, state_of, NameShelf, AreSmall, names_with, worked, Machine, made, IsBegun, IsRested, ReadsAlike, Inside, IsKept, CountsWork, arith}
-use Rattle.std.proofs.Common.{Option, None}
+use Rattle.kl1_user_account.proofs.Words.{◌≡◌, ℕ, suc, ◌≤◌, false, List, [], length, refl, sym, ap, ◌∙◌, subst, Rules, limits_of, State, point_of, Known, Numbered, Program, Reading, Fits, Account, texts_of, local_state, state_of, NameShelf, AreSmall, names_with, worked, Machine, made, IsBegun, IsRested, ReadsAlike, Inside, IsKept, CountsWork, arith}
+use Rattle.std.proofs.Common.{Option, None, ◌<◌}
+use Rattle.kl1_model.specs.Event.{Event, Reply}
+use Rattle.kl1_model.specs.Step.{step}
+use Rattle.kl1_model.specs.laws.RelabelLaws.{IsBlind}
+use Rattle.kl1_user_account.specs.Keeping.{AreLabels}
+use Rattle.kl1_user_account.proofs.Lifting.{lifted}
 
 -- what an account has besides its machine
 pub record Aside : Type 0 where
   pub own_name : List ℕ
+  pub labels : List ℕ
   pub modules : List Numbered
   pub entries : ℕ
   pub run : ℕ
   pub sessions : ℕ
 
 abbrev pub aside_of : {C R : Type 0} → Inside C R → Aside
-aside_of u = record { own_name = u.name; modules = u.modules.loaded; entries = u.entries; run = u.run; sessions = u.sessions }
+aside_of u = record { own_name = u.name; labels = u.labels; modules = u.modules.loaded; entries = u.entries; run = u.run; sessions = u.sessions }
 
 -- the account with a machine
 abbrev pub account_of : Aside → Machine → Account
@@ -19,6 +25,8 @@ account_of x m = record {
   own_name = x.own_name;
   rules = m.rules;
   held = m.store.held;
+  hooks = m.store.hooks;
+  labels = x.labels;
   goals = m.goals.goals;
   shoens = m.shoens.shoens;
   work = m.shoens.work;
@@ -39,17 +47,17 @@ program_in x m = record { rules = m.rules; loaded = x.modules }
 
 -- a state that has what is beside the machine
 abbrev pub state_aside : Aside → Machine → State
-state_aside x m = state_of (λ c. []) (account_of x m)
+state_aside x m = local_state (λ c. []) (account_of x m)
 
 -- the state of an account is what its machine makes, if it has no new name
-pub state_is : (f : Reading) (x : Aside) (m : Machine) → m.name ≡ None → state_of f (account_of x m) ≡ worked f (state_aside x m) m.store.held (made m)
+pub state_is : (f : Reading) (x : Aside) (m : Machine) → m.name ≡ None → local_state f (account_of x m) ≡ worked f (state_aside x m) m.store.held (made m)
 state_is f x m none = ap (λ (o : Option (List ℕ)). worked f (state_aside x m) m.store.held (record (made m) { names = names_with (texts_of m.names.names) o })) (sym none)
 
 -- ---- what holds of the one holds of the other
 
 -- what always holds of an account with a machine
 abbrev pub Holds : Aside → Machine → Type 0
-Holds x m = IsKept (account_of x m) m.store.hooks m.goals.shoens m.goals.last × CountsWork (length m.shoens.work) x.entries x.run
+Holds x m = IsKept (account_of x m) m.goals.shoens m.goals.last × CountsWork (length m.shoens.work) x.entries x.run
 
 -- readings of the names read the same of it
 pub kept_alike : (x : Aside) (m : Machine) → Holds x m → ReadsAlike m
@@ -85,7 +93,7 @@ pub record Began : Type 0 where
 abbrev pub began : (x : Aside) (m b : Machine) (names : NameShelf) (a : Account) (program : Program) → names.names ≡ m.names.names → b ≡ begun_from (record m { names = names }) b → IsBegun b → account_of x m ≡ a → program ≡ program_in x m → Holds x m → Began
 began x m b names a program same is begun view lent h =
     let A : List Known → Account = λ ks. record (account_of x m) { names = ks } in
-    let H : List Known → Type 0 = λ ks. IsKept (A ks) m.store.hooks m.goals.shoens m.goals.last × CountsWork (length m.shoens.work) x.entries x.run in
+    let H : List Known → Type 0 = λ ks. IsKept (A ks) m.goals.shoens m.goals.last × CountsWork (length m.shoens.work) x.entries x.run in
     record {
       aside = x;
       machine = b;
@@ -111,12 +119,12 @@ began_rested e =
     })
 
 -- the state is what the machine makes of what is beside it
-pub began_state : (e : Began) (f : Reading) → state_of f e.account ≡ worked f (state_aside e.aside e.machine) e.machine.store.held (made e.machine)
-began_state e f = ap (state_of f) (sym e.is) ∙ state_is f e.aside e.machine e.begun.name
+pub began_state : (e : Began) (f : Reading) → local_state f e.account ≡ worked f (state_aside e.aside e.machine) e.machine.store.held (made e.machine)
+began_state e f = ap (local_state f) (sym e.is) ∙ state_is f e.aside e.machine e.begun.name
 
 -- all readings of its names read the same state
-began_named : (e : Began) (f g : Reading) → Fits e.machine.names.names f → Fits e.machine.names.names g → state_of f e.account ≡ state_of g e.account
-began_named e f g one two = let S : Account → Type 0 = λ a. state_of f a ≡ state_of g a in subst S e.is (e.holds.0.named f g one two)
+began_named : (e : Began) (f g : Reading) → Fits e.machine.names.names f → Fits e.machine.names.names g → local_state f e.account ≡ local_state g e.account
+began_named e f g one two = let S : Account → Type 0 = λ a. local_state f a ≡ local_state g a in subst S e.is (e.holds.0.named f g one two)
 
 -- ---- an event that ends
 
@@ -139,15 +147,21 @@ noted_counts e v same =
     let all = e.holds.1.all in
     rw same (record { longest = omega arith; all = omega (arith, all); last = λ lt. absurd (omega (arith, lt)) })
 
+-- numbers by which variables are known know more of them as well
+more_known : (labels : List ℕ) (count more : ℕ) → count ≤ more → AreLabels count labels → AreLabels more labels
+more_known labels count more le known = record { rising = known.rising; first = known.first; few = omega (arith, le, known.few) }
+
 -- an event has left an account with a machine that rests, whose state is what this change makes of the state that was, for each reading of the
--- names that there are now, and whose journal has room and counts
+-- names that there are now, and whose journal has room and counts; its variables are known as before
 pub record Leaves (e : Began) (change : State → State) (y : Aside) (v : Machine) : Type 0 where
   pub rested : IsRested (program_in y v) v
   pub rules : v.rules ≡ e.machine.rules
+  pub labels : y.labels ≡ e.aside.labels
+  pub grown : e.machine.store.held.variables ≤ v.store.held.variables
   pub most : y.entries ≤ (limits_of e.machine.rules).entries
   pub small : AreSmall v.names.names
   pub fits : (f : Reading) → Fits v.names.names f → Fits e.machine.names.names f
-  pub states : (f : Reading) → Fits v.names.names f → change (state_of f e.account) ≡ state_of f (account_of y v)
+  pub states : (f : Reading) → Fits v.names.names f → change (local_state f e.account) ≡ local_state f (account_of y v)
   pub counts : CountsWork (length v.shoens.work) y.entries y.run
 
 -- what always holds holds of it: all readings read the same, since they did so before
@@ -156,6 +170,7 @@ left_holds e change y v l =
     let r = l.rested in (
       record {
         some = r.machine.inside.some;
+        labels = rw l.labels (more_known e.aside.labels e.machine.store.held.variables v.store.held.variables l.grown e.holds.0.labels);
         goals = r.machine.inside.goals;
         owned = r.machine.inside.owned;
         shoens = r.machine.inside.shoens;
@@ -178,6 +193,24 @@ pub record Ends (a : Account) (Steps : State → State → Type 0) (y : Aside) (
   pub holds : Holds y v
   pub states : (f : Reading) → Fits v.names.names f → Steps (state_of f a) (state_of f (account_of y v))
 
+-- or by the numbers of its store
+pub record EndsInside (a : Account) (Steps : State → State → Type 0) (y : Aside) (v : Machine) : Type 0 where
+  pub holds : Holds y v
+  pub states : (f : Reading) → Fits v.names.names f → Steps (local_state f a) (local_state f (account_of y v))
+
 -- by whatever name what is beside the machine goes
 pub ends_as : {a : Account} {Steps : State → State → Type 0} {x y : Aside} {v : Machine} → x ≡ y → Ends a Steps y v → Ends a Steps x v
 ends_as {a} {Steps} {x} {y} {v} same e = let E : Aside → Type 0 = λ z. Ends a Steps z v in subst E (sym same) e
+
+pub ends_inside_as : {a : Account} {Steps : State → State → Type 0} {x y : Aside} {v : Machine} → x ≡ y → EndsInside a Steps y v → EndsInside a Steps x v
+ends_inside_as {a} {Steps} {x} {y} {v} same e = let E : Aside → Type 0 = λ z. EndsInside a Steps z v in subst E (sym same) e
+
+-- ---- by the numbers by which variables are known
+
+-- a step of an account in which an event has begun, by the numbers of its store, is one by those by which its variables are known
+pub known_step : (e : Began) (y : Aside) (v : Machine) (ev : Event) (r : Reply) (f : Reading) → y.labels ≡ e.aside.labels → IsBlind (local_state f e.account) ev →
+    step (local_state f e.account) ev ≡ record { state = local_state f (account_of y v); reply = r } → step (state_of f e.account) ev ≡ record { state = state_of f (account_of y v); reply = r }
+known_step e y v ev r f same blind done =
+    let K : Account → Type 0 = λ a. (0 < a.held.variables) × AreLabels a.held.variables a.labels in
+    let k : K e.account = subst K e.is (e.holds.0.some, e.holds.0.labels) in
+    lifted f e.account (account_of y v) ev r k.0 k.1 (same ∙ ap (λ (a : Account). a.labels) e.is) blind done

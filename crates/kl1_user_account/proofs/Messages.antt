@@ -1,6 +1,6 @@
 -- A message to a shoen of an account, which its machine is sent.
-use Rattle.kl1_user_account.proofs.Words.{◌≡◌, ℕ, refl, sym, ap, ◌∙◌, subst, arith, Message, control, sent, refused, Transition, State, step, Reads, Refusal, refusal_of, Reading, Fits, built, state_of, NameShelf, AreSmall, Machine, Trail, Keeps, Sends, IsRefusedMessage, refused_as}
-use Rattle.kl1_user_account.proofs.Machines.{Aside, account_of, state_aside, state_is, Began, began_state, rules_after, rested_after, noted, noted_counts, Holds, Leaves, left_holds}
+use Rattle.kl1_user_account.proofs.Words.{◌≡◌, ℕ, refl, sym, ap, ◌∙◌, subst, arith, Message, control, sent, refused, Transition, State, step, Reads, Refusal, refusal_of, Reading, Fits, built, local_state, state_of, NameShelf, AreSmall, Machine, Trail, Keeps, Sends, IsRefusedMessage, refused_as}
+use Rattle.kl1_user_account.proofs.Machines.{Aside, account_of, state_aside, state_is, known_step, Began, began_state, rules_after, rested_after, noted, noted_counts, Holds, Leaves, left_holds}
 
 module _ (e : Began) (n : ℕ) (message : Message) (u : Machine) (s : Sends e.program e.aside.entries n message e.machine u) (keeps : Keeps e.machine u) where
   abbrev m : Machine
@@ -10,7 +10,7 @@ module _ (e : Began) (n : ℕ) (message : Message) (u : Machine) (s : Sends e.pr
   z = noted e.aside
 
   -- the step is the message
-  steps : (f : Reading) → Reads built f → step (state_of f e.account) (control n message) ≡ record { state = state_of f (account_of z u); reply = sent }
+  steps : (f : Reading) → Reads built f → step (local_state f e.account) (control n message) ≡ record { state = local_state f (account_of z u); reply = sent }
   steps f reads =
       let T : State → Transition = λ t. record { state = t; reply = sent } in
       ap (λ (t : State). step t (control n message)) (began_state e f)
@@ -25,6 +25,8 @@ module _ (e : Began) (n : ℕ) (message : Message) (u : Machine) (s : Sends e.pr
       record {
         rested = rested_after e u s.rested;
         rules = rules_after e u s.rested;
+        labels = refl;
+        grown = keeps.grown.held.variables;
         most = omega (arith, journal);
         small = rw names e.holds.0.small;
         fits = λ f fits. rw names at fits;
@@ -33,14 +35,14 @@ module _ (e : Began) (n : ℕ) (message : Message) (u : Machine) (s : Sends e.pr
       }
 
   pub sent_ends : (y : Aside) → y ≡ z → Holds y u × ((f : Reading) → Reads built f → step (state_of f e.account) (control n message) ≡ record { state = state_of f (account_of y u); reply = sent })
-  sent_ends y beside = rw beside (left_holds e _ z u left, steps)
+  sent_ends y beside = rw beside (left_holds e _ z u left, λ f reads. known_step e z u (control n message) sent f refl tt (steps f reads))
 
 -- the step is refused
 pub refused_message : (e : Began) (u : Machine) (n : ℕ) (message : Message) (r : Refusal) → IsRefusedMessage e.aside.entries n message e.machine u r → (f : Reading) →
     step (state_of f e.account) (control n message) ≡ record { state = state_of f (account_of e.aside u); reply = refused (refusal_of r) }
-refused_message e u n message r i f =
+refused_message e u n message r i f = known_step e e.aside u (control n message) (refused (refusal_of r)) f refl tt (
     let T : State → Transition = λ z. record { state = z; reply = refused (refusal_of r) } in
     ap (λ (z : State). step z (control n message)) (began_state e f)
     ∙ refused_as e.machine e.aside.entries n message r i.refuses f (state_aside e.aside e.machine) refl
     ∙ ap T (sym (state_is f e.aside e.machine e.begun.name))
-    ∙ ap (λ (z : Machine). T (state_of f (account_of e.aside z))) (sym i.same)
+    ∙ ap (λ (z : Machine). T (local_state f (account_of e.aside z))) (sym i.same))

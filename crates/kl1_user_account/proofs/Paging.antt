@@ -1,5 +1,9 @@
 -- What is shown of shoens and goals, one after another from a number on.
-use Rattle.kl1_user_account.proofs.Words.{◌≡◌, ◌⊎◌, inl, inr, ℕ, zero, suc, ◌+◌, ◌-◌, ◌<◌, ◌≤◌, nat_lt, ◌&&◌, Bool, true, false, if◌then◌else◌, List, [], ◌∷◌, ◌++◌, map, take, drop, refl, sym, ap, ap₂, subst, ◌∙◌, arith, append_assoc, append-nil, Some, None, filter, find, slice_get, is_some, AllByRecursion, cases_lt, lt-ltb, le-ltb, le-leb, lt-leb, take-map, drop_more, drop_all, slice_get_within, get_or_from_slice_get, nat_tests, State, CellName, Hook, Task, Monitor, Reduces, Substitutes, Goal, is_after, Ascend, Shoen, found_at, AreNumbered, ShoenView, TaskKind, GoalView, shoen_view, shoen_page, kind_of, goal_view, goal_page, Reading, Fits, Account, Means, meaning, task_with, goal_with, shoen_with, state_of, IsKept, shoen_shown, kind_shown, goal_shown, same_goal, none-some, slice_get_cases, cases_Bool, Life, Forgotten, is_forgotten}
+use Rattle.kl1_user_account.proofs.Words.{◌≡◌, ◌⊎◌, inl, inr, ℕ, zero, suc, ◌+◌, ◌-◌, ◌<◌, ◌≤◌, nat_lt, ◌&&◌, Bool, true, false, if◌then◌else◌, List, [], ◌∷◌, ◌++◌, map, take, drop, refl, sym, ap, ap₂, subst, ◌∙◌, arith, append_assoc, append-nil, Some, None, filter, find, slice_get, is_some, AllByRecursion, cases_lt, lt-ltb, le-ltb, le-leb, lt-leb, take-map, drop_more, drop_all, slice_get_within, get_or_from_slice_get, nat_tests, State, CellName, Hook, Task, Monitor, Reduces, Substitutes, Goal, is_after, Ascend, Shoen, found_at, AreNumbered, ShoenView, TaskKind, GoalView, shoen_view, shoen_page, kind_of, goal_view, goal_page, Reading, Fits, Account, Means, meaning, task_with, goal_with, shoen_with, local_state, IsKept, shoen_shown, kind_shown, goal_shown, same_goal, none-some, slice_get_cases, cases_Bool, Life, Forgotten, is_forgotten}
+use Rattle.kl1_store_copy.specs.Numbers.{numbered}
+use Rattle.kl1_store_copy.proofs.Rising.{increasing}
+use Rattle.kl1_user_effects.specs.Account.{state_of}
+use Rattle.kl1_user_account.proofs.KnownViews.{shoens_known, goals_known}
 use Rattle.std.proofs.Common.{nat_le}
 use Rattle.std.proofs.Math.Seq.{take-nil}
 use Rattle.std.proofs.lemmas.Simd.{map-map}
@@ -154,14 +158,14 @@ shoens_shown f a from count views up e =
     let k = shoen_with (meaning f a.held) in
     let shown = shoen_shown a.shoens a.work a.goals in
     let page = filter is_kept_shoen (drop (from - 1) a.shoens) in
-    let view = shoen_view (state_of f a) in
+    let view = shoen_view (local_state f a) in
     let test = λ (h : model.Shoen). nat_le from h.number && is_kept h.life in
     let low = λ (h : Shoen CellName). nat_le from h.number in
     let all : from - 1 - 0 ≡ from - 1 = omega arith in
     let is =
     filter_each k test (λ (h : Shoen CellName). nat_le from h.number && is_kept_shoen h) (λ h. refl) a.shoens
     ∙ ap (map k) (filter_both low is_kept_shoen a.shoens ∙ ap (filter is_kept_shoen) (numbered_from from 0 a.shoens up ∙ ap (λ n. drop n a.shoens) all)) in
-    e ∙ sym (page_shown k view shown test a.shoens page count is (all_of (λ (h : Shoen CellName). view (k h) ≡ shown h) (shoen_read f a) page))
+    e ∙ sym (page_shown k view shown test a.shoens page count is (all_of (λ (h : Shoen CellName). view (k h) ≡ shown h) (shoen_read f a) page)) ∙ sym (shoens_known (numbered a.labels) (local_state f a) from count)
 
 -- a goal that stands as the definitions have it is shown as it is kept
 goal_read : (s : State) (t : Means) (g : Goal CellName) → IsStanding s t g → goal_view s (goal_with t g) ≡ goal_shown g
@@ -178,11 +182,11 @@ from_after from n some = grind (arith, nat_tests)
 -- a page of goals is shown as they are kept
 pub goals_shown : {hooks : List Hook} {known put : ℕ} (f : Reading) (a : Account) (from count : ℕ) (views : List GoalView) → IsKept a hooks known put → Fits a.names f → views ≡ map goal_shown (take count (filter (is_after (from - 1)) a.goals)) → views ≡ goal_page (state_of f a) from count
 goals_shown f a from count views i fits e =
-    let s = state_of f a in
+    let s = local_state f a in
     let t = meaning f a.held in
     let test = λ (g : model.Goal). nat_le from g.number in
     let page = filter (is_after (from - 1)) a.goals in
     let tested = all_then (λ (g : Goal CellName). 0 < g.number) (λ g. nat_le from g.number ≡ nat_lt (from - 1) g.number) (λ g. from_after from g.number) a.goals i.first in
     let standing = all_filter (IsStanding s t) (is_after (from - 1)) a.goals (all_stand f a i fits) in
     let each = all_then (IsStanding s t) (λ g. goal_view s (goal_with t g) ≡ goal_shown g) (goal_read s t) page standing in
-    e ∙ sym (page_shown (goal_with t) (goal_view s) goal_shown test a.goals page count (filter_by (goal_with t) test (is_after (from - 1)) a.goals tested) each)
+    e ∙ sym (page_shown (goal_with t) (goal_view s) goal_shown test a.goals page count (filter_by (goal_with t) test (is_after (from - 1)) a.goals tested) each) ∙ sym (goals_known (numbered a.labels) (local_state f a) from count (λ v w lt. increasing 0 a.labels v w i.labels.rising lt))

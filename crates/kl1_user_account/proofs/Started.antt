@@ -1,5 +1,5 @@
 -- A goal that the console brings to an account, if nothing refuses it.
-use Rattle.kl1_user_account.proofs.Words.{◌≡◌, ℕ, suc, ◌+◌, ◌≤◌, ◌&&◌, true, List, [], length, sym, ap, ◌∙◌, arith, nat_le, and_parts, leb-true, Limits, Term, is_goal, highest, goal_nodes, structures_of, names_of, with_names, with_texts, IsNameList, Reading, Account, state_of, texts_of, Answer, Starts, Answers, Start, Counted, HasNames, has_room_beside, IsFree, IsStartable, has_room_to_answer_beside, IsAnswerable, MayBring, Given, new_in}
+use Rattle.kl1_user_account.proofs.Words.{◌≡◌, ℕ, suc, ◌+◌, ◌≤◌, ◌&&◌, true, List, [], length, sym, ap, ◌∙◌, arith, nat_le, and_parts, leb-true, Limits, Term, is_goal, highest, goal_nodes, structures_of, names_of, with_names, with_texts, IsNameList, Reading, Account, local_state, texts_of, Answer, Starts, Answers, Start, Counted, HasNames, has_room_beside, IsFree, IsStartable, has_room_to_answer_beside, IsAnswerable, MayBring, Given, new_in}
 use Rattle.std.specs.Prelude.{nat_lt}
 use Rattle.kl1_model.specs.Meaning.{is_numbered}
 use Rattle.kl1_model.specs.Rules.{limits_of}
@@ -27,7 +27,7 @@ few_names a most goal code texts same are few = rw (are, same) few
 
 -- ---- the goal may be brought
 
-pub may_start_it : (a : Account) (c : Counted) (goal : Term) (texts : List (List ℕ)) (s : Start) → IsStartable a.names c s.allowance s.low s.high goal s.code.now → ((f : Reading) → HasNames (state_of f a) a.names c) →
+pub may_start_it : (a : Account) (c : Counted) (goal : Term) (texts : List (List ℕ)) (s : Start) → IsStartable a.names c s.allowance s.low s.high goal s.code.now → ((f : Reading) → HasNames (local_state f a) a.names c) →
     texts ≡ with_names [] (names_of s.code.now) → IsNameList texts → s.variables ≡ highest goal → MayBring a texts (Starts s)
 may_start_it a c goal texts s may counts are list variables =
     let at = counts (λ x. []) in
@@ -61,7 +61,7 @@ pub record IsOf (s : Answer) (g : Given) (nodes : ℕ) : Type 0 where
   pub new : s.new ≡ g.new
   pub nodes_are : s.nodes ≡ nodes
 
-pub may_answer_it : (a : Account) (c : Counted) (n report : ℕ) (goal : Term) (texts : List (List ℕ)) (s : Answer) (g : Given) → {nodes : ℕ} → IsAnswerable a.rules a.held a.shoens a.names c n report goal g nodes s.variable → ((f : Reading) → HasNames (state_of f a) a.names c) →
+pub may_answer_it : (a : Account) (c : Counted) (n report : ℕ) (goal : Term) (texts : List (List ℕ)) (s : Answer) (g : Given) → {nodes : ℕ} → IsAnswerable a.rules a.held a.labels a.shoens a.names c n report goal g nodes s.variable → ((f : Reading) → HasNames (local_state f a) a.names c) →
     texts ≡ with_names [] (names_of g.code) → IsNameList texts → IsOf s g nodes → MayBring a texts (Answers s)
 may_answer_it a c n report goal texts s g {nodes} may counts are list of =
     let at = counts (λ x. []) in

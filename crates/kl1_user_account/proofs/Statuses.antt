@@ -1,5 +1,5 @@
 -- What is shown of a shoen, and of the modules.
-use Rattle.kl1_user_account.proofs.Words.{◌≡◌, ◌≢◌, ℕ, zero, suc, ◌+◌, ◌≤◌, ◌==◌, ◌&&◌, ◌||◌, not, Bool, true, false, if◌then◌else◌, List, [], ◌∷◌, ◌++◌, map, take, length, count_by, refl, sym, ap, ap₂, ◌∙◌, arith, Option, Some, find, option_map, slice_get, cond, AllPairs, eqb-true, sum_by-cons, Life, Living, Terminated, Aborted, Condition, Stopped, Exhausted, Running, is_among, shoen_at, path_within, charged_of, goals_below, Transition, syntax, status_is, refuse, read, status, is_number, condition_by, status_of, condition_of, module_line, step, CellName, Goal, is_monitor, is_goal_of, Shoen, contains_among, parents_in, charged_in, AreBelow, Numbered, contents, ShoenView, parent_shown, is_goal_in, shoen_view, Reading, Account, meaning, goal_with, shoen_with, state_of, AreOwned, is_of_any, found_in, parents_read, condition_at, is_alive_in, shoen_shown, AllByRecursion, Means, false_from_ne_true, nat_tests, Forgotten, None, option_and_then, no_shoen, is_forgotten}
+use Rattle.kl1_user_account.proofs.Words.{◌≡◌, ◌≢◌, ℕ, zero, suc, ◌+◌, ◌≤◌, ◌==◌, ◌&&◌, ◌||◌, not, Bool, true, false, if◌then◌else◌, List, [], ◌∷◌, ◌++◌, map, take, length, count_by, refl, sym, ap, ap₂, ◌∙◌, arith, Option, Some, find, option_map, slice_get, cond, AllPairs, eqb-true, sum_by-cons, Life, Living, Terminated, Aborted, Condition, Stopped, Exhausted, Running, is_among, shoen_at, path_within, charged_of, goals_below, Transition, syntax, status_is, refuse, read, status, is_number, condition_by, status_of, condition_of, module_line, step, CellName, Goal, is_monitor, is_goal_of, Shoen, contains_among, parents_in, charged_in, AreBelow, Numbered, contents, ShoenView, parent_shown, is_goal_in, shoen_view, Reading, Account, meaning, goal_with, shoen_with, local_state, AreOwned, is_of_any, found_in, parents_read, condition_at, is_alive_in, shoen_shown, AllByRecursion, Means, false_from_ne_true, nat_tests, Forgotten, None, option_and_then, no_shoen, is_forgotten}
 use Rattle.std.proofs.Common.{nat_le}
 use Rattle.std.proofs.Math.Bool.{and-false}
 use Rattle.kl1_model.specs.State as model
@@ -18,28 +18,28 @@ count_read p q t (g ∷ gs) e =
 -- ---- a shoen
 
 -- what a shoen is charged
-charged_read : (f : Reading) (a : Account) (n : ℕ) → charged_of (state_of f a) n ≡ charged_in a.shoens a.work n
+charged_read : (f : Reading) (a : Account) (n : ℕ) → charged_of (local_state f a) n ≡ charged_in a.shoens a.work n
 charged_read f a n = ap (λ ps. count_by (λ w. is_among n (path_within w ps w)) a.work) (parents_read (meaning f a.held) a.shoens)
 
 -- the state of a shoen
-condition_read : (f : Reading) (a : Account) (h : Shoen CellName) (life : Life) → condition_by (state_of f a) (shoen_with (meaning f a.held) h) life ≡ condition_at h (charged_in a.shoens a.work h.number) life
+condition_read : (f : Reading) (a : Account) (h : Shoen CellName) (life : Life) → condition_by (local_state f a) (shoen_with (meaning f a.held) h) life ≡ condition_at h (charged_in a.shoens a.work h.number) life
 condition_read f a h Living = ap (λ m. if h.is_stopped then Stopped else if nat_le h.allowance m then Exhausted else Running) (charged_read f a h.number)
 condition_read f a h _ = refl
 
 -- a shoen is shown as it is kept
-pub shoen_read : (f : Reading) (a : Account) (h : Shoen CellName) → shoen_view (state_of f a) (shoen_with (meaning f a.held) h) ≡ shoen_shown a.shoens a.work a.goals h
+pub shoen_read : (f : Reading) (a : Account) (h : Shoen CellName) → shoen_view (local_state f a) (shoen_with (meaning f a.held) h) ≡ shoen_shown a.shoens a.work a.goals h
 shoen_read f a h =
     let t = meaning f a.held in
     let V : Condition → ℕ → ℕ → ShoenView = λ x c n. record { number = record { 0 = h.number }; parent = parent_shown h.parent; condition = x; charged = c; allowance = h.allowance; alive = n } in
     let one = λ (g : Goal CellName). ap (λ b. g.shoen == h.number && not b) (monitor_read t g.task) in
     let goals = all_of (λ (g : Goal CellName). is_goal_in h.number (goal_with t g) ≡ is_goal_of h.number g) one a.goals in
-    ap₂ (V (condition_of (state_of f a) (shoen_with t h))) (charged_read f a h.number) (count_read (is_goal_in h.number) (is_goal_of h.number) t a.goals goals)
+    ap₂ (V (condition_of (local_state f a) (shoen_with t h))) (charged_read f a h.number) (count_read (is_goal_in h.number) (is_goal_of h.number) t a.goals goals)
     ∙ ap (λ x. V x (charged_in a.shoens a.work h.number) (count_by (is_goal_of h.number) a.goals)) (condition_read f a h h.life)
 
 -- ---- goals below
 
 -- the goals in a shoen and below it are those of the shoens that are found there
-pub below_read : (f : Reading) (a : Account) (n : ℕ) (below : List ℕ) → AreBelow a.shoens n below → AreOwned (length a.shoens) a.goals → goals_below (state_of f a) n ≡ count_by (is_alive_in below) a.goals
+pub below_read : (f : Reading) (a : Account) (n : ℕ) (below : List ℕ) → AreBelow a.shoens n below → AreOwned (length a.shoens) a.goals → goals_below (local_state f a) n ≡ count_by (is_alive_in below) a.goals
 below_read f a n below b owned =
     let t = meaning f a.held in
     let alive : List ℕ → model.Goal → Bool = λ ps g. not (model.is_monitor g.task) && is_among n (path_within g.shoen ps g.shoen) in
@@ -101,21 +101,21 @@ kept_none Forgotten h e = refl
 kept_none _ h e = absurd (cc)
 
 -- what is told of a shoen that may be there
-pub status_read : (f : Reading) (a : Account) (n : ℕ) (o : Option (Shoen CellName)) → is_number n ≡ true → o ≡ find (has_number n) a.shoens → step (state_of f a) (read (status n)) ≡ status_of (state_of f a) (option_and_then kept (option_map (shoen_with (meaning f a.held)) o))
+pub status_read : (f : Reading) (a : Account) (n : ℕ) (o : Option (Shoen CellName)) → is_number n ≡ true → o ≡ find (has_number n) a.shoens → step (local_state f a) (read (status n)) ≡ status_of (local_state f a) (option_and_then kept (option_map (shoen_with (meaning f a.held)) o))
 status_read f a n o e is =
-    ap (λ b. if b then status_of (state_of f a) (option_and_then kept (shoen_at n (state_of f a).shoens)) else refuse (state_of f a) syntax) e
-    ∙ ap (λ (h : Option model.Shoen). status_of (state_of f a) (option_and_then kept h)) (found_in (meaning f a.held) n a.shoens ∙ ap (option_map (shoen_with (meaning f a.held))) (sym is))
+    ap (λ b. if b then status_of (local_state f a) (option_and_then kept (shoen_at n (local_state f a).shoens)) else refuse (local_state f a) syntax) e
+    ∙ ap (λ (h : Option model.Shoen). status_of (local_state f a) (option_and_then kept h)) (found_in (meaning f a.held) n a.shoens ∙ ap (option_map (shoen_with (meaning f a.held))) (sym is))
 
 -- what is told of one that was let go
-pub status_gone : (f : Reading) (a : Account) (n : ℕ) (h : Shoen CellName) → is_number n ≡ true → Some h ≡ find (has_number n) a.shoens → is_forgotten h.life ≡ true → step (state_of f a) (read (status n)) ≡ refuse (state_of f a) no_shoen
-status_gone f a n h e is gone = status_read f a n (Some h) e is ∙ ap (status_of (state_of f a)) (kept_none h.life (shoen_with (meaning f a.held) h) gone)
+pub status_gone : (f : Reading) (a : Account) (n : ℕ) (h : Shoen CellName) → is_number n ≡ true → Some h ≡ find (has_number n) a.shoens → is_forgotten h.life ≡ true → step (local_state f a) (read (status n)) ≡ refuse (local_state f a) no_shoen
+status_gone f a n h e is gone = status_read f a n (Some h) e is ∙ ap (status_of (local_state f a)) (kept_none h.life (shoen_with (meaning f a.held) h) gone)
 
 -- what is told of one that is there
-pub status_some : (f : Reading) (a : Account) (n : ℕ) (h : Shoen CellName) (v : ShoenView) (alive : ℕ) → is_number n ≡ true → Some h ≡ find (has_number n) a.shoens → is_forgotten h.life ≡ false → v ≡ shoen_shown a.shoens a.work a.goals h → goals_below (state_of f a) h.number ≡ alive →
-    step (state_of f a) (read (status n)) ≡ record { state = state_of f a; reply = status_is v.condition v.charged v.allowance alive }
+pub status_some : (f : Reading) (a : Account) (n : ℕ) (h : Shoen CellName) (v : ShoenView) (alive : ℕ) → is_number n ≡ true → Some h ≡ find (has_number n) a.shoens → is_forgotten h.life ≡ false → v ≡ shoen_shown a.shoens a.work a.goals h → goals_below (local_state f a) h.number ≡ alive →
+    step (local_state f a) (read (status n)) ≡ record { state = local_state f a; reply = status_is v.condition v.charged v.allowance alive }
 status_some f a n h v alive e is there shown below =
-    let R : ShoenView → ℕ → Transition = λ w m. record { state = state_of f a; reply = status_is w.condition w.charged w.allowance m } in
-    status_read f a n (Some h) e is ∙ ap (status_of (state_of f a)) (kept_some h.life (shoen_with (meaning f a.held) h) there) ∙ ap₂ R (shoen_read f a h ∙ sym shown) below
+    let R : ShoenView → ℕ → Transition = λ w m. record { state = local_state f a; reply = status_is w.condition w.charged w.allowance m } in
+    status_read f a n (Some h) e is ∙ ap (status_of (local_state f a)) (kept_some h.life (shoen_with (meaning f a.held) h) there) ∙ ap₂ R (shoen_read f a h ∙ sym shown) below
 
 -- the lines of modules
 abbrev pub lines_of : List Numbered → List (List ℕ)

@@ -89,7 +89,7 @@ pub use Rattle.kl1_user_effects.proofs.Words.{AreNumbersOf, AreRead, AreSpared, 
 pub use Rattle.kl1_user_effects.proofs.Exchanged.{is_known, is_small, read_as}
 pub use Rattle.kl1_user_effects.proofs.Swapping.{spared_count}
 unfoldable pub use Rattle.kl1_user_effects.proofs.Words.{with_text}
-pub use Rattle.kl1_user_effects.specs.Account.{Account, program_of, state_of, with_kept}
+pub use Rattle.kl1_user_effects.specs.Account.{Account, local_state, program_of, state_of, with_kept}
 pub use Rattle.kl1_ready.proofs.Ready.{no_control}
 pub use Rattle.kl1_ready.proofs.SettledStays.{control_in}
 pub use Rattle.kl1_ready.proofs.Words.{Contains-dedup_nat, Contains-from_dedup, HasPredicate, IfOk-weaker, IsKind, IsStrictlyIncreasing-dedup, Kind, Module, Rules, StandsAs, arguments_of, awaited_by_monitor, awaited_by_task, awaits_message, contains_among, control_clause, control_of, control_with, dedup_is, ends, front_with, goal_look, kind_at, look_clause, monitor_action, monitor_clause, move_by, nil_from_length, qualified_term, read_action, shoen_in, substitute_move, task_clause, vec_len}

@@ -11,6 +11,8 @@ kept_in u = record {
   own_name = u.name;
   rules = u.machine.rules;
   held = u.machine.store.held;
+  hooks = u.machine.store.hooks;
+  labels = u.labels;
   goals = u.machine.goals.goals;
   shoens = u.machine.shoens.shoens;
   work = u.machine.shoens.work;
@@ -27,4 +29,4 @@ kept_in u = record {
 
 -- what always holds of the fields
 abbrev pub IsKept : {C R : Type 0} → Inside C R → Type 0
-IsKept u = keeping.IsKept (kept_in u) u.machine.store.hooks u.machine.goals.shoens u.machine.goals.last × CountsWork (length u.machine.shoens.work) u.entries u.run
+IsKept u = keeping.IsKept (kept_in u) u.machine.goals.shoens u.machine.goals.last × CountsWork (length u.machine.shoens.work) u.entries u.run

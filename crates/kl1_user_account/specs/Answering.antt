@@ -24,6 +24,7 @@ use Rattle.kl1_user_effects.specs.Account.{with_kept}
 use Rattle.kl1_machine.specs.Bringing.{AreOthers}
 use Rattle.kl1_user_account.specs.declared.given.Given.{Given}
 use Rattle.kl1_user_account.specs.Giving.{given_goal}
+pub use Rattle.kl1_user_account.specs.Giving.{known_state}
 use Rattle.kl1_user_account.specs.declared.counted.Counted.{Counted}
 use Rattle.kl1_user_account.specs.declared.answerable.Answering.{Answering}
 use Rattle.kl1_user_account.specs.declared.answerable.Answering.TheVariants.{Refused, Coded}
@@ -33,14 +34,14 @@ use Rattle.kl1_user_account.specs.Starting.{HasNames, IsFree}
 abbrev pub has_room_to_answer_beside : Counted → ℕ → ℕ → Bool
 has_room_to_answer_beside c variables nodes = nat_le (c.variables + variables) c.most.variables && nat_le (c.nodes + nodes) c.most.nodes
 
--- an answer to a report of shoen `n` is refused for a reason, if this is counted
-abbrev pub RefusesAnswer : Rules → Held CellName → List (Shoen CellName) → List Known → Counted → ℕ → ℕ → Term → Refusal → Type 0
-RefusesAnswer rules h ss names counted n report goal r =
+-- an answer to a report of shoen `n` is refused for a reason, if this is counted, in an account whose variables are known by these numbers
+abbrev pub RefusesAnswer : Rules → Held CellName → List ℕ → List (Shoen CellName) → List Known → Counted → ℕ → ℕ → Term → Refusal → Type 0
+RefusesAnswer rules h labels ss names counted n report goal r =
     (f : Reading) → Reads built f → (s : State) (goals : List (Goal CellName)) → s.rules ≡ rules → HasNames (with_kept f s h goals ss) names counted →
-    step (with_kept f s h goals ss) (answer n report goal) ≡ refuse (with_kept f s h goals ss) (refusal_of r)
+    step (known_state labels (with_kept f s h goals ss)) (answer n report goal) ≡ refuse (known_state labels (with_kept f s h goals ss)) (refusal_of r)
 
 -- an answer to a report of shoen `n` may be given: this is its goal, with this many structures, and a substitute waits for this variable
-pub record IsAnswerable (rules : Rules) (h : Held CellName) (ss : List (Shoen CellName)) (names : List Known) (counted : Counted) (n report : ℕ) (goal : Term) (g : Given) (nodes v : ℕ) : Type 0 where
+pub record IsAnswerable (rules : Rules) (h : Held CellName) (labels : List ℕ) (ss : List (Shoen CellName)) (names : List Known) (counted : Counted) (n report : ℕ) (goal : Term) (g : Given) (nodes v : ℕ) : Type 0 where
   pub goal_is : is_goal g.code ≡ true
   pub numbered : IsTrue (is_numbered g.code)
   pub count : length g.told.items ≡ highest g.code
@@ -51,10 +52,10 @@ pub record IsAnswerable (rules : Rules) (h : Held CellName) (ss : List (Shoen Ce
   pub told : AreTold h g.told.items
   pub others : AreOthers v g.told.items
   pub steps : (f : Reading) → Reads built f → (s : State) (goals : List (Goal CellName)) → s.rules ≡ rules → HasNames (with_kept f s h goals ss) names counted →
-      step (with_kept f s h goals ss) (answer n report goal)
-      ≡ record { state = with_entry (answered v (record { goal = given_goal (h.variables - 1) g; new = g.new; tells_gone = false }) g.code (with_kept f s h goals ss)); reply = sent }
+      step (known_state labels (with_kept f s h goals ss)) (answer n report goal)
+      ≡ record { state = known_state labels (with_entry (answered v (record { goal = given_goal (h.variables - 1) g; new = g.new; tells_gone = false }) g.code (with_kept f s h goals ss))); reply = sent }
 
 -- what comes of an answer to a report of shoen `n`
-abbrev pub AnswersAs : Rules → Held CellName → List (Shoen CellName) → List Known → Counted → ℕ → ℕ → Term → Answering → Type 0
-AnswersAs rules h ss names counted n report goal (Refused r) = RefusesAnswer rules h ss names counted n report goal r
-AnswersAs rules h ss names counted n report goal (Coded g nodes v) = IsAnswerable rules h ss names counted n report goal g nodes v
+abbrev pub AnswersAs : Rules → Held CellName → List ℕ → List (Shoen CellName) → List Known → Counted → ℕ → ℕ → Term → Answering → Type 0
+AnswersAs rules h labels ss names counted n report goal (Refused r) = RefusesAnswer rules h labels ss names counted n report goal r
+AnswersAs rules h labels ss names counted n report goal (Coded g nodes v) = IsAnswerable rules h labels ss names counted n report goal g nodes v

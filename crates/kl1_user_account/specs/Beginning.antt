@@ -1,8 +1,10 @@
 -- An account in which nothing has happened.
-use Rattle.std.specs.Prelude.{ℕ, List, []}
+use Rattle.std.specs.Prelude.{◌≡◌, ℕ, List, []}
 use Rattle.kl1_model.specs.declared.rules.Rules.{Rules}
 use Rattle.kl1_atoms.specs.declared.known.Known.{Known}
+use Rattle.kl1_text.specs.declared.cell_name.CellName.{CellName}
 use Rattle.kl1_store.specs.Held.{nothing_held, with_variable}
+use Rattle.kl1_store.specs.Hooks.{Kept}
 pub use Rattle.kl1_clause.specs.NameList.{IsNameList}
 use Rattle.kl1_user_effects.specs.Account.{Account}
 
@@ -13,6 +15,8 @@ begun own rules names sessions = record {
   own_name = own;
   rules = rules;
   held = with_variable nothing_held;
+  hooks = [];
+  labels = [];
   goals = [];
   shoens = [];
   work = [];
@@ -26,3 +30,8 @@ begun own rules names sessions = record {
   run = 0;
   sessions = sessions;
 }
+
+-- the store of such an account: it holds this one variable, on which nothing hangs
+pub record IsFirst (k : Kept CellName) : Type 0 where
+  pub held : k.held ≡ with_variable nothing_held
+  pub hooks : k.hooks ≡ []

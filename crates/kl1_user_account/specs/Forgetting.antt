@@ -17,7 +17,7 @@ use Rattle.kl1_shoen_paths.specs.declared.shoen.Shoen as kept
 use Rattle.kl1_stream.specs.Letting.{may_leave, LeavesAfter}
 use Rattle.kl1_user_events.specs.Views.{refusal_of}
 use Rattle.kl1_user_effects.specs.Fitting.{Reading, built}
-use Rattle.kl1_user_effects.specs.Account.{Account, meaning, with_kept, state_of}
+use Rattle.kl1_user_effects.specs.Account.{Account, meaning, with_kept, local_state}
 use Rattle.kl1_user_account.specs.declared.forgettable.Forgetting.{Forgetting}
 use Rattle.kl1_user_account.specs.declared.forgettable.Forgetting.TheVariants.{Refused, Reports, Shoen as Whole}
 
@@ -59,8 +59,8 @@ ForgetsAs rules h ss full n count Whole = GoesWhole rules h ss full n count
 -- the step of an account lets the first `count` reports of shoen `n` go, so that this is left
 abbrev pub StepsInPart : Account → ℕ → ℕ → Cell CellName → Type 0
 StepsInPart a n count left =
-    (f : Reading) → Reads built f → step (state_of f a) (forget n count) ≡ record { state = with_entry (change_shoen n (with_left count (meaning f a.held left)) (state_of f a)); reply = forgot }
+    (f : Reading) → Reads built f → step (local_state f a) (forget n count) ≡ record { state = with_entry (change_shoen n (with_left count (meaning f a.held left)) (local_state f a)); reply = forgot }
 
 -- the step lets shoen `n` go
 abbrev pub StepsWhole : Account → ℕ → Type 0
-StepsWhole a n = (f : Reading) → Reads built f → step (state_of f a) (forget n 0) ≡ record { state = with_entry (without_shoen n (state_of f a)); reply = forgot }
+StepsWhole a n = (f : Reading) → Reads built f → step (local_state f a) (forget n 0) ≡ record { state = with_entry (without_shoen n (local_state f a)); reply = forgot }

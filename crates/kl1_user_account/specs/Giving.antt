@@ -10,6 +10,7 @@ use Rattle.kl1_model.specs.State.{State, names_of}
 use Rattle.kl1_model.specs.Answering.{asked_at, given}
 use Rattle.kl1_model.specs.Telling.{Asked, stands_at, is_gone}
 use Rattle.kl1_model.specs.Telling as model
+use Rattle.kl1_model.specs.laws.RelabelLaws.{renamed, relabelled, asked_renamed}
 use Rattle.kl1_text.specs.Reading.{Reads}
 use Rattle.kl1_text.specs.declared.cell_name.CellName.{CellName}
 use Rattle.kl1_store.specs.Held.{Held}
@@ -17,6 +18,7 @@ use Rattle.kl1_match.specs.GoalCells.{new_in, told_at, AreTold}
 use Rattle.kl1_shoen_paths.specs.declared.shoen.Origin.{Origin}
 use Rattle.kl1_stream.specs.declared.answers.Asking.{Asking}
 use Rattle.kl1_stream.specs.Askings.{asked_of}
+use Rattle.kl1_store_copy.specs.Numbers.{numbered}
 use Rattle.kl1_user_effects.specs.Fitting.{Reading, built}
 use Rattle.kl1_user_effects.specs.Account.{meaning, origin_with}
 use Rattle.kl1_machine.specs.Bringing.{AreOthers}
@@ -38,11 +40,6 @@ occurs_at a n = elim a [ None ↦ false | Some a ↦ occurs n a.goal ]
 abbrev pub AreFound : Held CellName → Option (Asking CellName) → List ℕ → List Bool → Type 0
 AreFound h a numbers found = (f : Reading) → found ≡ map (occurs_at (option_map (asked_of f h) a)) numbers
 
--- numbers none of which is 0
-abbrev pub AreFromOne : List ℕ → Type 0
-AreFromOne [] = Unit {0}
-AreFromOne (n ∷ ns) = (1 ≤ n) × AreFromOne ns
-
 -- whether a number isn't that of the variable that the substitute waits for
 abbrev pub is_other : Option (Asking CellName) → ℕ → Bool
 is_other None n = true
@@ -60,6 +57,14 @@ IsTell n t (Some v) = (t ≡ true) × (v ≡ n)
 abbrev pub IsToldBy : Option (Asking CellName) → ℕ → Bool → Bool → Option ℕ → Type 0
 IsToldBy a n stands made r = IsTell n (tells a n stands made) r
 
+-- a state with the numbers by which its variables are known
+abbrev pub known_state : List ℕ → State → State
+known_state labels s = relabelled (numbered labels) s
+
+-- an exception that may be there, with the numbers by which its variables are known
+abbrev pub shown_of : List ℕ → Reading → Held CellName → Option (Asking CellName) → Option Asked
+shown_of labels f h a = option_map (asked_renamed (numbered labels)) (option_map (asked_of f h) a)
+
 -- a number if it is told to an exception that may be there
 abbrev pub tell : Option Asked → ℕ → Option ℕ
 tell a n = if stands_at a n then Some n else None
@@ -73,11 +78,13 @@ abbrev pub gone_with : Bool → Bool → Option ℕ → Bool
 gone_with gone made None = gone || made
 gone_with gone made (Some v) = gone
 
--- what variables of these numbers come to: what each tells, how many are new, and whether one is gone
-pub record AreToldAmong (h : Held CellName) (a : Option (Asking CellName)) (numbers : List ℕ) (told : List (Option ℕ)) (new : ℕ) (gone : Bool) : Type 0 where
-  pub told_is : (f : Reading) → told ≡ map (tell (option_map (asked_of f h) a)) numbers
+-- what variables that are told by these numbers come to: which variable of the store each tells, how many are new, and whether one is gone
+pub record AreToldAmong (h : Held CellName) (labels : List ℕ) (a : Option (Asking CellName)) (ns : List ℕ) (told : List (Option ℕ)) (new : ℕ) (gone : Bool) : Type 0 where
+  pub told_is : (f : Reading) → map (option_map (numbered labels)) told ≡ map (tell (shown_of labels f h a)) ns
+  pub free : AreTold h told
+  pub others : IfSome a (λ x. AreOthers x.new told)
   pub new_is : new ≡ new_in told
-  pub gone_is : (f : Reading) → gone ≡ list_any (is_gone (option_map (asked_of f h) a) (h.variables - 1)) numbers
+  pub gone_is : (f : Reading) → gone ≡ list_any (is_gone (shown_of labels f h a) (numbered labels (h.variables - 1))) ns
 
 -- what stands for the variables of an answer, after the last variable
 abbrev pub given_goal : ℕ → Given → Term
@@ -87,8 +94,12 @@ given_goal last g = substituted (λ v. variable (told_at (suc last) g.told.items
 abbrev pub given_view : ℕ → Given → model.Given
 given_view last g = record { goal = given_goal last g; new = g.new; tells_gone = g.tells_gone }
 
--- the goal of an answer by these rules, to an exception that may be there
-pub record IsGiven (rules : Rules) (h : Held CellName) (a : Option (Asking CellName)) (goal : Term) (g : Given) : Type 0 where
+-- and that with the numbers by which variables are known
+abbrev pub given_shown : List ℕ → ℕ → Given → model.Given
+given_shown labels last g = record (given_view last g) { goal = renamed (numbered labels) (given_goal last g) }
+
+-- the goal of an answer by these rules, to an exception that may be there, in an account whose variables are known by these numbers
+pub record IsGiven (rules : Rules) (h : Held CellName) (labels : List ℕ) (a : Option (Asking CellName)) (goal : Term) (g : Given) : Type 0 where
   pub goal_is : is_goal g.code ≡ is_goal goal
   pub numbered : IsTrue (is_numbered g.code)
   pub names_are : names_of g.code ≡ names_of goal
@@ -97,4 +108,5 @@ pub record IsGiven (rules : Rules) (h : Held CellName) (a : Option (Asking CellN
   pub new_is : g.new ≡ new_in g.told.items
   pub told : AreTold h g.told.items
   pub others : IfSome a (λ x. AreOthers x.new g.told.items)
-  pub given_is : (f : Reading) → Reads built f → (s : State) → s.rules ≡ rules → s.last_variable ≡ h.variables - 1 → given s (option_map (asked_of f h) a) goal ≡ given_view s.last_variable g
+  pub given_is : (f : Reading) → Reads built f → (s : State) → s.rules ≡ rules → s.last_variable ≡ h.variables - 1 →
+      given (known_state labels s) (shown_of labels f h a) goal ≡ given_shown labels s.last_variable g

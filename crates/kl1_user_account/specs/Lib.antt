@@ -5,9 +5,11 @@ pub mod Loadings
 pub mod Starting
 pub mod Asked
 pub mod Beginning
+pub mod Labelled
 pub mod Giving
 pub mod Answering
 pub mod Forgetting
 pub mod Viewed
 pub mod NameRows
 pub mod Bringing
+pub mod Collecting

@@ -1,5 +1,5 @@
 -- Cells on a stack as nodes, one after another, with names as numbers.
-use Rattle.std.specs.Prelude.{◌≡◌, ℕ, suc, ◌+◌, ◌<◌, List, [], ◌∷◌, length, reverse, codes, Option, Some, None}
+use Rattle.std.specs.Prelude.{◌≡◌, ℕ, suc, ◌+◌, ◌<◌, List, [], ◌∷◌, length, reverse, map, codes, Option, Some, None}
 use Rattle.kl1_model.specs.Term.{Term, size}
 use Rattle.kl1_term.specs.declared.node.Node.{Node}
 use Rattle.kl1_term.specs.declared.node.Node.TheVariants as node
@@ -10,7 +10,9 @@ use Rattle.kl1_store.specs.Held.{Held, AreIn}
 use Rattle.kl1_store.specs.ComparesEach.{term_list}
 use Rattle.kl1_user_account.specs.declared.top.Top.{Top}
 use Rattle.kl1_user_account.specs.declared.top.Top.TheVariants as top
+use Rattle.kl1_store_copy.specs.Numbers.{numbered}
 use Rattle.kl1_user_effects.specs.Fitting.{Reading}
+use Rattle.kl1_user_effects.specs.Relabelled.{renamed}
 use Rattle.kl1_user_effects.specs.Account.{meaning}
 
 -- what is at the top of a term, with its name read as a text
@@ -19,6 +21,13 @@ node_with f (top.Variable n) = node.Variable n
 node_with f (top.Integer i) = node.Integer i
 node_with f (top.Atom a) = node.Atom (f a)
 node_with f (top.Structure a n) = node.Structure (f a) n
+
+-- the same, with the number by which its variable is known
+abbrev pub node_shown : List ℕ → Reading → Top → Node
+node_shown labels f (top.Variable n) = node.Variable (numbered labels n)
+node_shown labels f (top.Integer i) = node.Integer i
+node_shown labels f (top.Atom a) = node.Atom (f a)
+node_shown labels f (top.Structure a n) = node.Structure (f a) n
 
 -- the node of a list cell
 abbrev pub list_cell : Node
@@ -34,6 +43,14 @@ count_at (top.Structure a n) = n
 -- the terms of cells on a stack, the top first, for a reading
 abbrev pub stacked_terms : Reading → Held CellName → List (Cell CellName) → List Term
 stacked_terms f h stack = term_list f h (reverse stack)
+
+-- a term with the numbers by which its variables are known
+abbrev pub shown : List ℕ → Term → Term
+shown labels t = renamed (numbered labels) t
+
+-- the terms of cells on a stack with these numbers, the top first, for a reading
+abbrev pub stacked_shown : List ℕ → Reading → Held CellName → List (Cell CellName) → List Term
+stacked_shown labels f h stack = map (shown labels) (stacked_terms f h stack)
 
 -- how much stands in terms
 abbrev pub weight : List Term → ℕ

@@ -1,5 +1,5 @@
 -- What is shown of an account, as it is kept.
-use Rattle.std.specs.Prelude.{ℕ, ◌==◌, Bool, false, List, count_by, Some}
+use Rattle.std.specs.Prelude.{ℕ, ◌≡◌, ◌==◌, Bool, false, List, map, count_by, Some}
 use Rattle.std.specs.List.Sorted.{IsStrictlyIncreasing}
 use Rattle.kl1_model.specs.Control.{control_of}
 use Rattle.kl1_model.specs.code.Waits.{awaited_by_control}
@@ -28,6 +28,8 @@ use Rattle.kl1_user_effects.specs.Fitting.{Reading, built}
 use Rattle.kl1_user_effects.specs.Account.{meaning, task_with}
 use Rattle.kl1_user_effects.specs.Works.{Knows}
 use Rattle.kl1_user_effects.specs.Settled.{control_with, awaited_by_task}
+use Rattle.kl1_store_copy.specs.Numbers.{numbered}
+use Rattle.kl1_user_account.specs.Tops.{shown}
 use Rattle.kl1_user_account.specs.declared.top.Top.{Top}
 use Rattle.kl1_user_account.specs.declared.top.Top.TheVariants as top
 use Rattle.kl1_user_account.specs.Asked.{condition_by}
@@ -71,18 +73,20 @@ AwaitsMessage h x vs = (f : Reading) → Reads built f → AreSame vs (awaited_b
 abbrev pub Awaits : Program → List (Shoen CellName) → Held CellName → ℕ → Task CellName → List ℕ → Type 0
 Awaits program shoens h n t vs = (f : Reading) → Knows program.loaded f → AreSame vs (awaited_by_task program.rules (contents program.loaded) (control_with (meaning f h) shoens n) (task_with (meaning f h) t))
 
--- these are they, once each in increasing order
-pub record ListsAwaited (program : Program) (shoens : List (Shoen CellName)) (h : Held CellName) (n : ℕ) (t : Task CellName) (vs : List ℕ) : Type 0 where
-  pub increasing : IsStrictlyIncreasing vs
-  pub awaits : Awaits program shoens h n t vs
+-- these are they, with the numbers by which they are known, once each in increasing order
+pub record ListsAwaited (labels : List ℕ) (program : Program) (shoens : List (Shoen CellName)) (h : Held CellName) (n : ℕ) (t : Task CellName) (numbers : List ℕ) : Type 0 where
+  pub variables : List ℕ
+  pub increasing : IsStrictlyIncreasing variables
+  pub awaits : Awaits program shoens h n t variables
+  pub numbers_are : numbers ≡ map (numbered labels) variables
 
--- whether what is at the top of a term is variable `v`
-abbrev pub is_variable_top : ℕ → Top → Bool
-is_variable_top v (top.Variable n) = v == n
-is_variable_top v (top.Integer i) = false
-is_variable_top v (top.Atom a) = false
-is_variable_top v (top.Structure a n) = false
+-- whether what is at the top of a term is the variable that is known by the number `v`
+abbrev pub is_variable_top : List ℕ → ℕ → Top → Bool
+is_variable_top labels v (top.Variable n) = v == numbered labels n
+is_variable_top labels v (top.Integer i) = false
+is_variable_top labels v (top.Atom a) = false
+is_variable_top labels v (top.Structure a n) = false
 
--- what is known of whether variable `v` is in a cell's term, however names are read
-abbrev pub IsPresenceIn : Held CellName → Cell CellName → ℕ → ℕ → Presence → Type 0
-IsPresenceIn h x v most p = (f : Reading) → IsPresence v most (Some (meaning f h x)) p
+-- what is known of whether the variable that is known by the number `v` is in a cell's term, however names are read
+abbrev pub IsPresenceIn : List ℕ → Held CellName → Cell CellName → ℕ → ℕ → Presence → Type 0
+IsPresenceIn labels h x v most p = (f : Reading) → IsPresence v most (Some (shown labels (meaning f h x))) p

@@ -4,6 +4,7 @@ mod answering;
 mod asking;
 mod beginning;
 mod bringing;
+mod collecting;
 mod forgetting;
 mod loading;
 mod reducing;
@@ -16,12 +17,13 @@ ghost use Rattle.std.specs.Prelude.{◌≡◌, ◌&&◌, option_map};
 ghost use Rattle.kl1_model.specs.Choice.{first, is_in_run, quiet};
 ghost use Rattle.kl1_model.specs.Event.{is_full, needs_entry};
 ghost use Rattle.kl1_user_effects.specs.Fitting.{Reading, Fits};
-ghost use Rattle.kl1_user_effects.specs.Account.{state_of, texts_of};
+ghost use Rattle.kl1_user_effects.specs.Account.{local_state, state_of, texts_of};
 ghost use Rattle.kl1_user_account.specs.Starting.{HasNames};
 ghost use Rattle.kl1_user_events.specs.Views.{chosen_of};
 
 use crate::account_name::AccountName;
 use crate::counted::Counted;
+use crate::labels::Labels;
 use crate::runs::needs_entry;
 use kl1_codes::{CodeSource, Modules};
 use kl1_goals::Rules;
@@ -36,15 +38,18 @@ use std::alloc::Global;
 use std::marker::Model;
 
 /// One account, whose names are numbers of a table of names and whose modules refer to codes in a source of codes: its cells,
-/// goals, shoens, modules and names.
+/// goals, shoens, modules and names, and the numbers by which its variables are known; and how many bytes its cells take when what nothing
+/// reaches is looked for.
 #[derive(Drop)]
 pub struct Account<C: CodeSource> {
     name: AccountName,
     machine: Machine,
+    labels: Labels,
     modules: Modules<C>,
     entries: u64,
     run: u32,
     sessions: u64,
+    due: u64,
     trial: Trial<CellName>,
     scan: PathScan,
     cells: Vec<Qualified<CellName>>,
@@ -109,7 +114,7 @@ impl<C: CodeSource> Account<C> {
 
     /// What an account has of what is counted.
     fn counted(&self) -> Counted
-        ensures { (f : Reading) → HasNames (state_of f self.now) self.now.names result }
+        ensures { (f : Reading) → HasNames (local_state f self.now) self.now.names result }
     {
         Counted {
             goals: self.machine.goals.alive(),

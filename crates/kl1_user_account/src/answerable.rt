@@ -1,12 +1,14 @@
 // What may be answered.
 
-ghost use Rattle.std.specs.Prelude.{◌≡◌, nat_le, IfOk};
+ghost use Rattle.std.specs.Prelude.{◌≡◌, ◌<◌, nat_le, IfOk};
 ghost use Rattle.kl1_model.specs.Answering.{may_answer, is_numbered_by};
 ghost use Rattle.kl1_user_effects.specs.Kept.{AreShoensIn};
 ghost use Rattle.kl1_user_account.specs.Answering.{AnswersAs};
+ghost use Rattle.kl1_user_account.specs.Keeping.{AreLabels};
 
 use crate::counted::Counted;
 use crate::given::{Given, asked_at, given_for};
+use crate::labels::Labels;
 use crate::line_length::fits_answer;
 use kl1_clause::structures_of;
 use kl1_goals::Rules;
@@ -64,18 +66,21 @@ fn may_answer(
     fits_answer(alloc, number, report, goal)
 }
 
-/// The goal of an answer to a report of shoen `number`, in an account with this machine and these counts, with the variable for which a
-/// substitute waits, or why it is refused.
+/// The goal of an answer to a report of shoen `number`, in an account with this machine, whose variables are known by these labels, and
+/// these counts, with the variable for which a substitute waits, or why it is refused.
 pub(crate) fn code_of_answer(
     alloc: Global,
     machine: &mut Machine,
+    labels: &Labels,
     counted: Counted,
     number: u64,
     report: u64,
     goal: &Term,
 ) -> Result<Answering, AllocError>
     requires shoens { AreShoensIn machine.old.store.held machine.old.shoens.shoens }
-    ensures answers { IfOk result (AnswersAs machine.old.rules machine.old.store.held machine.old.shoens.shoens machine.old.names.names counted number report goal.now) }
+    requires known { AreLabels machine.old.store.held.variables labels.now }
+    requires some { 0 < machine.old.store.held.variables }
+    ensures answers { IfOk result (AnswersAs machine.old.rules machine.old.store.held labels.now machine.old.shoens.shoens machine.old.names.names counted number report goal.now) }
     ensures same { machine.new ≡ machine.old }
 {
     if !may_answer(alloc, machine.rules, number, report, goal)? {
@@ -88,7 +93,14 @@ pub(crate) fn code_of_answer(
         return Ok(Answering::Refused(Refusal::Ended));
     }
     let asked = asked_at(&machine.store, &origin, report);
-    let given = given_for(alloc, machine.rules, &mut machine.store, asked, goal)?;
+    let given = given_for(
+        alloc,
+        machine.rules,
+        &mut machine.store,
+        labels,
+        asked,
+        goal,
+    )?;
     let nodes = structures_of(goal);
     let has_room = counted.has_room_to_answer(given.new, nodes);
     if let Some(refusal) = counted.refusal_of(&machine.names, given.code.names(), has_room) {

@@ -13,8 +13,10 @@ ghost use Rattle.kl1_codes.specs.Finding.{contents};
 ghost use Rattle.kl1_text.specs.declared.cell_name.CellName.{CellName};
 ghost use Rattle.kl1_user_effects.specs.Fitting.{Reading, Fits};
 ghost use Rattle.kl1_user_effects.specs.Naming.{AreSmall, Keeps};
+ghost use Rattle.kl1_user_account.specs.Tops.{shown};
 ghost use Rattle.kl1_user_account.specs.Asked.{condition_by, is_forgotten, is_alive_in, cells_of};
 
+use crate::labels::Labels;
 use crate::printing::print_cell;
 use itoa::Buffer;
 use kl1_atoms::AtomSource;
@@ -81,6 +83,7 @@ pub(crate) fn list_cells<A: AtomSource>(
     names: &mut A,
     seat: &mut A::Seat,
     store: &Store<CellName>,
+    labels: &Labels,
     list: Cell<CellName>,
     most: usize,
 ) -> Result<Listed, AllocError>
@@ -88,7 +91,7 @@ pub(crate) fn list_cells<A: AtomSource>(
     requires of { A.is_of names.old seat.old }
     requires small { AreSmall (A.knows seat.old) }
     requires named { (f g : Reading) → Fits (A.knows seat.old) f → Fits (A.knows seat.old) g → cells_of f store.now.held list ≡ cells_of g store.now.held list }
-    ensures listed { IfOk result (λ listed. (f : Reading) → Fits (A.knows seat.old) f → listed ≡ map cut_print (take most (cells_of f store.now.held list))) }
+    ensures listed { IfOk result (λ listed. (f : Reading) → Fits (A.knows seat.old) f → listed ≡ map cut_print (take most (map (shown labels.now) (cells_of f store.now.held list)))) }
     ensures keeps { Keeps A.is_of A.place A.knows A.published names.old names.new seat.old seat.new }
     ensures knows { A.knows seat.new ≡ A.knows seat.old }
 {
@@ -99,7 +102,8 @@ pub(crate) fn list_cells<A: AtomSource>(
         let Some((element, rest)) = next_element(store, at) else {
             return Ok(listed);
         };
-        let text = print_cell(alloc, names, seat, store, element, Some(MOST_PRINTED_BYTES))?;
+        let most = Some(MOST_PRINTED_BYTES);
+        let text = print_cell(alloc, names, seat, store, labels, element, most)?;
         listed.push(text)?;
         at = rest;
         left -= 1;

@@ -1,6 +1,6 @@
 // The goals of answers, and what stands for their variables.
 
-ghost use Rattle.std.specs.Prelude.{◌≡◌, ◌<◌, ◌-◌, ◌^◌, true, false, get_or, replicate, Option, None, IsTrue, IfOk, IfSome};
+ghost use Rattle.std.specs.Prelude.{◌≡◌, ◌<◌, ◌-◌, ◌^◌, ℕ, List, true, false, get_or, replicate, Option, None, IsTrue, IfOk, IfSome};
 ghost use Rattle.kl1_model.specs.Answering.{is_numbered_by};
 ghost use Rattle.kl1_model.specs.Meaning.{is_numbered};
 ghost use Rattle.kl1_model.specs.State.{has_told};
@@ -10,8 +10,12 @@ ghost use Rattle.kl1_text.specs.declared.cell_name.CellName.{CellName};
 ghost use Rattle.kl1_store.specs.Held.{Held, IsIn};
 ghost use Rattle.kl1_stream.specs.declared.answers.Asking.{Asking};
 ghost use Rattle.kl1_stream.specs.Askings.{IsAskingIn};
-ghost use Rattle.kl1_user_account.specs.Giving.{IsAsked, IsGiven, IsToldBy, AreFound, AreFromOne, AreToldAmong, is_other, is_variable_of, new_with, gone_with};
+ghost use Rattle.kl1_store_copy.specs.Numbers.{numbered};
+ghost use Rattle.kl1_user_account.specs.Giving.{IsAsked, IsGiven, IsToldBy, AreFound, AreToldAmong, is_other, is_variable_of, new_with, gone_with};
+ghost use Rattle.kl1_user_account.specs.Keeping.{AreLabels};
+ghost use Rattle.kl1_user_account.specs.Labelled.{AreNumbersOf};
 
+use crate::labels::Labels;
 use kl1_clause::GoalCode;
 use kl1_goals::Rules;
 use kl1_shoen::Origin;
@@ -21,7 +25,7 @@ use kl1_term::Term;
 use kl1_text::CellName;
 use std::alloc::{AllocError, Global};
 
-/// The goal of an answer: its code, in which variables are numbered from 1; for each of them the variable of the account that it tells,
+/// The goal of an answer: its code, in which variables are numbered from 1; for each of them the variable of the store that it tells,
 /// or `None` if it is new; how many are new; and whether the answer tells a variable of the account that doesn't stand in the goal of the
 /// exception.
 #[derive(Drop)]
@@ -48,13 +52,22 @@ pub(crate) fn asked_at(
     asked_in(store, origin.reports, report - 1 - origin.forgotten)
 }
 
-/// Whether a number is that of a variable that the account has made.
+/// Whether a number is that of a variable of the store.
 fn is_variable_of(store: &Store<CellName>, number: u64) -> bool
     ensures value { result ≡ is_variable_of store.now.held number }
     ensures small { result ≡ true → number < 2 ^ 32 }
 {
     let held = store.mark();
     number < held.sizes.variables as u64
+}
+
+/// The number by which the last variable of the store is known.
+fn last_known(store: &Store<CellName>, labels: &Labels) -> u64
+    requires { 0 < store.now.held.variables }
+    ensures { result ≡ numbered labels.now (store.now.held.variables - 1) }
+{
+    let held = store.mark();
+    labels.of(held.sizes.variables - 1)
 }
 
 /// For each of these numbers, whether it is that of a variable in the goal of an exception that may be there.
@@ -97,13 +110,13 @@ fn is_other(asked: Option<Asking<CellName>>, number: u64) -> bool
     }
 }
 
-/// The variable that a number tells to an exception that may be there: one that the account has made, that stands in the exception's goal,
-/// and isn't what the substitute waits for.
-fn told_by(asked: Option<Asking<CellName>>, number: u64, stands: bool, made: bool) -> Option<u32>
-    requires { made ≡ true → number < 2 ^ 32 }
-    ensures { IsToldBy asked number stands made result }
+/// The variable that is told to an exception that may be there by its number: one that the store holds, that stands in the exception's
+/// goal, and isn't what the substitute waits for.
+fn told_by(asked: Option<Asking<CellName>>, number: u64, stands: bool, held: bool) -> Option<u32>
+    requires { held ≡ true → number < 2 ^ 32 }
+    ensures { IsToldBy asked number stands held result }
 {
-    if !made {
+    if !held {
         return None;
     }
     if !stands {
@@ -136,7 +149,7 @@ fn gone_with(gone: bool, made: bool, told: Option<u32>) -> bool
     }
 }
 
-/// What the variables of an answer come to: for each of them the variable of the account that it tells, or `None` if it is new; how many are
+/// What the variables of an answer come to: for each of them the variable of the store that it tells, or `None` if it is new; how many are
 /// new; and whether one is told that the account has made, but that doesn't stand in the goal of the exception.
 #[derive(Drop)]
 struct Told {
@@ -145,31 +158,38 @@ struct Told {
     tells_gone: bool,
 }
 
-/// What variables of these numbers come to, by which of them stand in the goal of an exception that may be there.
+/// What variables that are told by these labels come to, which have these numbers in the store, by which of them stand in the goal of an
+/// exception that may be there.
 fn told_among(
     alloc: Global,
     store: &Store<CellName>,
+    labels: &Labels,
     asked: Option<Asking<CellName>>,
+    told_as: &[u64],
     numbers: &[u64],
     found: &[bool],
 ) -> Result<Told, AllocError>
     requires inside { IfSome asked (IsAskingIn store.now.held) }
+    requires known { AreLabels store.now.held.variables labels.now }
+    requires some { 0 < store.now.held.variables }
+    requires numbers { AreNumbersOf labels.now told_as.now numbers.now }
     requires found { AreFound store.now.held asked numbers.now found.now }
-    requires least { AreFromOne numbers.now }
-    ensures { IfOk result (λ t. AreToldAmong store.now.held asked numbers.now t.told.items t.new t.tells_gone) }
+    ensures { IfOk result (λ t. AreToldAmong store.now.held labels.now asked told_as.now t.told.items t.new t.tells_gone) }
 {
     // Only for the proof: what the store holds is formed.
     let _held = store.mark();
+    let last = last_known(store, labels);
     let mut told = Vec::new(alloc);
     let mut new = 0;
     let mut tells_gone = false;
     let mut place = 0;
-    for number in numbers {
-        let made = is_variable_of(store, *number);
+    for label in told_as {
+        let number = numbers[place];
+        let held = is_variable_of(store, number);
         let stands = flag_at(found, place);
-        let variable = told_by(asked, *number, stands, made);
+        let variable = told_by(asked, number, stands, held);
         new = new_with(new, variable);
-        tells_gone = gone_with(tells_gone, made, variable);
+        tells_gone = gone_with(tells_gone, *label <= last, variable);
         told.push(variable)?;
         place += 1;
     }
@@ -180,23 +200,35 @@ fn told_among(
     })
 }
 
-/// The goal of an answer that tells variables by their numbers, to an exception that may be there.
+/// The goal of an answer that tells variables by the numbers by which they are known, to an exception that may be there.
 fn given_told(
     alloc: Global,
     store: &mut Store<CellName>,
+    labels: &Labels,
     asked: Option<Asking<CellName>>,
     goal: &Term,
 ) -> Result<Given, AllocError>
     requires inside { IfSome asked (IsAskingIn store.old.held) }
+    requires known { AreLabels store.old.held.variables labels.now }
+    requires some { 0 < store.old.held.variables }
     requires numbered { IsTrue (is_told_term goal.now) }
-    ensures given { (rules : Rules) → has_told rules ≡ true → IfOk result (IsGiven rules store.old.held asked goal.now) }
+    ensures given { (rules : Rules) → has_told rules ≡ true → IfOk result (IsGiven rules store.old.held labels.now asked goal.now) }
     ensures same { store.new ≡ store.old }
 {
-    let mut numbers = Vec::new(alloc);
-    let anew = goal.numbered_anew(alloc, &mut numbers)?;
+    let mut told_as = Vec::new(alloc);
+    let anew = goal.numbered_anew(alloc, &mut told_as)?;
     let code = GoalCode::compile(alloc, &anew)?;
+    let numbers = labels.numbers_of(alloc, told_as.as_slice())?;
     let found = find_told(alloc, store, asked, numbers.as_slice())?;
-    let all = told_among(alloc, store, asked, numbers.as_slice(), found.as_slice())?;
+    let all = told_among(
+        alloc,
+        store,
+        labels,
+        asked,
+        told_as.as_slice(),
+        numbers.as_slice(),
+        found.as_slice(),
+    )?;
     // Only for the proof: what the store holds is formed.
     let _held = store.mark();
     let Told {
@@ -224,7 +256,7 @@ fn none_told(alloc: Global, count: usize) -> Result<Vec<Option<u32>>, AllocError
 /// The goal of an answer all whose variables are new, and numbered from 1.
 fn given_anew(alloc: Global, goal: &Term) -> Result<Given, AllocError>
     requires { IsTrue (is_numbered goal.now) }
-    ensures { (rules : Rules) (h : Held CellName) (asked : Option (Asking CellName)) → has_told rules ≡ false → IfOk result (IsGiven rules h asked goal.now) }
+    ensures { (rules : Rules) (h : Held CellName) (labels : List ℕ) (asked : Option (Asking CellName)) → has_told rules ≡ false → AreLabels h.variables labels → 0 < h.variables → IfOk result (IsGiven rules h labels asked goal.now) }
 {
     let new = goal.highest();
     let code = GoalCode::compile(alloc, goal)?;
@@ -242,16 +274,19 @@ pub(crate) fn given_for(
     alloc: Global,
     rules: Rules,
     store: &mut Store<CellName>,
+    labels: &Labels,
     asked: Option<Asking<CellName>>,
     goal: &Term,
 ) -> Result<Given, AllocError>
     requires inside { IfSome asked (IsAskingIn store.old.held) }
+    requires known { AreLabels store.old.held.variables labels.now }
+    requires some { 0 < store.old.held.variables }
     requires numbered { IsTrue (is_numbered_by rules goal.now) }
-    ensures given { IfOk result (IsGiven rules store.old.held asked goal.now) }
+    ensures given { IfOk result (IsGiven rules store.old.held labels.now asked goal.now) }
     ensures same { store.new ≡ store.old }
 {
     if rules.has_told() {
-        return given_told(alloc, store, asked, goal);
+        return given_told(alloc, store, labels, asked, goal);
     }
     given_anew(alloc, goal)
 }

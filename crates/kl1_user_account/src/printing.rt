@@ -12,8 +12,9 @@ ghost use Rattle.kl1_user_effects.specs.Fitting.{Reading, Fits};
 ghost use Rattle.kl1_user_effects.specs.Account.{meaning, told_in, aim};
 ghost use Rattle.kl1_user_effects.specs.Naming.{AreSmall, Keeps};
 ghost use Rattle.kl1_user_account.specs.declared.top.Top.TheVariants.{Atom, Structure};
-ghost use Rattle.kl1_user_account.specs.Tops.{node_with, count_at, list_cell, stacked_terms, IsNext, TakesTop};
+ghost use Rattle.kl1_user_account.specs.Tops.{node_with, node_shown, count_at, list_cell, stacked_terms, stacked_shown, shown, IsNext, TakesTop};
 
+use crate::labels::Labels;
 use crate::top::Top;
 use kl1_atoms::AtomSource;
 use kl1_model::BuiltIn;
@@ -55,7 +56,7 @@ fn top_of(
     // Only for the proof: what the store holds is formed.
     let _ = store.mark();
     match store.walk(cell) {
-        Cell::Variable(number) => Ok(Top::Variable(u64::from(number))),
+        Cell::Variable(number) => Ok(Top::Variable(number)),
         Cell::Integer(number) => Ok(Top::Integer(number)),
         Cell::Atom(name) => Ok(Top::Atom(name)),
         Cell::Structure(structure) => {
@@ -149,19 +150,20 @@ fn put_structure<A: AtomSource>(
 fn put_top<A: AtomSource>(
     names: &mut A,
     seat: &mut A::Seat,
+    labels: &Labels,
     printer: &mut Printer,
     top: Top,
 ) -> Result<(), AllocError>
     requires of { A.is_of names.old seat.old }
     requires small { AreSmall (A.knows seat.old) }
     requires named { (f g : Reading) → Fits (A.knows seat.old) f → Fits (A.knows seat.old) g → node_with f top ≡ node_with g top }
-    ensures text { OnOk result ((f : Reading) → Fits (A.knows seat.old) f → (ts : List Term) → text_with printer.new ts ≡ text_with printer.old (with_node (node_with f top) ts)) }
+    ensures text { OnOk result ((f : Reading) → Fits (A.knows seat.old) f → (ts : List Term) → text_with printer.new ts ≡ text_with printer.old (with_node (node_shown labels.now f top) ts)) }
     ensures waits { OnOk result (0 < waits_of printer.old → waits_of printer.new + 1 ≡ count_at top + waits_of printer.old) }
     ensures keeps { Keeps A.is_of A.place A.knows A.published names.old names.new seat.old seat.new }
     ensures knows { A.knows seat.new ≡ A.knows seat.old }
 {
     match top {
-        Top::Variable(number) => printer.put_variable(number),
+        Top::Variable(number) => printer.put_variable(labels.of(number)),
         Top::Integer(number) => printer.put_integer(number),
         Top::Atom(name) => put_atom(names, seat, printer, name),
         Top::Structure(name, count) => {
@@ -178,6 +180,7 @@ fn print_rest<A: AtomSource>(
     names: &mut A,
     seat: &mut A::Seat,
     store: &Store<CellName>,
+    labels: &Labels,
     mut printer: Printer,
     mut stack: Vec<Cell<CellName>>,
 ) -> Result<Vec<u8>, AllocError>
@@ -186,7 +189,7 @@ fn print_rest<A: AtomSource>(
     requires of { A.is_of names.old seat.old }
     requires small { AreSmall (A.knows seat.old) }
     requires named { (f g : Reading) → Fits (A.knows seat.old) f → Fits (A.knows seat.old) g → stacked_terms f store.now.held stack.items ≡ stacked_terms g store.now.held stack.items }
-    ensures text { IfOk result (λ text. (f : Reading) → Fits (A.knows seat.old) f → text.items ≡ text_with printer (stacked_terms f store.now.held stack.items)) }
+    ensures text { IfOk result (λ text. (f : Reading) → Fits (A.knows seat.old) f → text.items ≡ text_with printer (stacked_shown labels.now f store.now.held stack.items)) }
     ensures keeps { Keeps A.is_of A.place A.knows A.published names.old names.new seat.old seat.new }
     ensures knows { A.knows seat.new ≡ A.knows seat.old }
 {
@@ -194,7 +197,7 @@ fn print_rest<A: AtomSource>(
         let Some(top) = next_top(store, &mut stack)? else {
             break;
         };
-        put_top(names, seat, &mut printer, top)?;
+        put_top(names, seat, labels, &mut printer, top)?;
     }
     printer.into_text()
 }
@@ -205,6 +208,7 @@ pub(crate) fn print_cell<A: AtomSource>(
     names: &mut A,
     seat: &mut A::Seat,
     store: &Store<CellName>,
+    labels: &Labels,
     cell: Cell<CellName>,
     most: Option<usize>,
 ) -> Result<Vec<u8>, AllocError>
@@ -212,14 +216,14 @@ pub(crate) fn print_cell<A: AtomSource>(
     requires of { A.is_of names.old seat.old }
     requires small { AreSmall (A.knows seat.old) }
     requires named { (f g : Reading) → Fits (A.knows seat.old) f → Fits (A.knows seat.old) g → meaning f store.now.held cell ≡ meaning g store.now.held cell }
-    ensures text { IfOk result (λ text. (f : Reading) → Fits (A.knows seat.old) f → text.items ≡ limited most (print (meaning f store.now.held cell))) }
+    ensures text { IfOk result (λ text. (f : Reading) → Fits (A.knows seat.old) f → text.items ≡ limited most (print (shown labels.now (meaning f store.now.held cell)))) }
     ensures keeps { Keeps A.is_of A.place A.knows A.published names.old names.new seat.old seat.new }
     ensures knows { A.knows seat.new ≡ A.knows seat.old }
 {
     let printer = Printer::new(alloc, most);
     let mut stack = Vec::new(alloc);
     stack.push(cell)?;
-    print_rest(names, seat, store, printer, stack)
+    print_rest(names, seat, store, labels, printer, stack)
 }
 
 /// The text of a goal in a module by its name, as that of a cell's term.
@@ -228,6 +232,7 @@ fn print_called<A: AtomSource>(
     names: &mut A,
     seat: &mut A::Seat,
     store: &Store<CellName>,
+    labels: &Labels,
     module_name: CellName,
     cell: Cell<CellName>,
     most: Option<usize>,
@@ -236,7 +241,7 @@ fn print_called<A: AtomSource>(
     requires of { A.is_of names.old seat.old }
     requires small { AreSmall (A.knows seat.old) }
     requires named { (f g : Reading) → Fits (A.knows seat.old) f → Fits (A.knows seat.old) g → told_in (meaning f store.now.held) (Some module_name) (meaning f store.now.held cell) ≡ told_in (meaning g store.now.held) (Some module_name) (meaning g store.now.held cell) }
-    ensures text { IfOk result (λ text. (f : Reading) → Fits (A.knows seat.old) f → text.items ≡ limited most (print (told_in (meaning f store.now.held) (Some module_name) (meaning f store.now.held cell)))) }
+    ensures text { IfOk result (λ text. (f : Reading) → Fits (A.knows seat.old) f → text.items ≡ limited most (print (shown labels.now (told_in (meaning f store.now.held) (Some module_name) (meaning f store.now.held cell))))) }
     ensures keeps { Keeps A.is_of A.place A.knows A.published names.old names.new seat.old seat.new }
     ensures knows { A.knows seat.new ≡ A.knows seat.old }
 {
@@ -245,7 +250,7 @@ fn print_called<A: AtomSource>(
     stack.push(cell)?;
     stack.push(Cell::Atom(module_name))?;
     put_structure(names, seat, &mut printer, CellName::of(BuiltIn::Colon), 2)?;
-    print_rest(names, seat, store, printer, stack)
+    print_rest(names, seat, store, labels, printer, stack)
 }
 
 /// The text of what is to be reduced, as that of a cell's term.
@@ -254,6 +259,7 @@ pub(crate) fn print_qualified<A: AtomSource>(
     names: &mut A,
     seat: &mut A::Seat,
     store: &Store<CellName>,
+    labels: &Labels,
     goal: Qualified<CellName>,
     most: Option<usize>,
 ) -> Result<Vec<u8>, AllocError>
@@ -261,12 +267,12 @@ pub(crate) fn print_qualified<A: AtomSource>(
     requires of { A.is_of names.old seat.old }
     requires small { AreSmall (A.knows seat.old) }
     requires named { (f g : Reading) → Fits (A.knows seat.old) f → Fits (A.knows seat.old) g → aim f store.now.held goal ≡ aim g store.now.held goal }
-    ensures text { IfOk result (λ text. (f : Reading) → Fits (A.knows seat.old) f → text.items ≡ limited most (print (aim f store.now.held goal))) }
+    ensures text { IfOk result (λ text. (f : Reading) → Fits (A.knows seat.old) f → text.items ≡ limited most (print (shown labels.now (aim f store.now.held goal)))) }
     ensures keeps { Keeps A.is_of A.place A.knows A.published names.old names.new seat.old seat.new }
     ensures knows { A.knows seat.new ≡ A.knows seat.old }
 {
     match goal.module_name {
-        None => print_cell(alloc, names, seat, store, goal.cell, most),
-        Some(name) => print_called(alloc, names, seat, store, name, goal.cell, most),
+        None => print_cell(alloc, names, seat, store, labels, goal.cell, most),
+        Some(name) => print_called(alloc, names, seat, store, labels, name, goal.cell, most),
     }
 }

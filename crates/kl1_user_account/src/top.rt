@@ -6,7 +6,7 @@ use kl1_text::CellName;
 /// structure with the number of its arguments.
 #[derive(Clone, Copy)]
 pub(crate) enum Top {
-    Variable(u64),
+    Variable(u32),
     Integer(i64),
     Atom(CellName),
     Structure(CellName, usize),

@@ -21,3 +21,6 @@ pub mod Swapping
 pub mod Spares
 pub mod Messages
 pub mod Words
+pub mod Relabelling
+pub mod AwaitedRenamed
+pub mod Unrenamed

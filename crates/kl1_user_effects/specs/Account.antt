@@ -10,6 +10,7 @@ use Rattle.kl1_store.specs.declared.cell.Cell.{Cell}
 use Rattle.kl1_store.specs.declared.cell.Cell.TheVariants.{Atom}
 use Rattle.kl1_store.specs.declared.qualified.Qualified.{Qualified}
 use Rattle.kl1_store.specs.Held.{Held}
+use Rattle.kl1_store.specs.Hooks.{Hook}
 use Rattle.kl1_store.specs.Meaning.{term_of}
 use Rattle.kl1_goals.specs.declared.task.Task.{Task}
 use Rattle.kl1_goals.specs.declared.task.Task.TheVariants.{Monitor, Reduces, Substitutes}
@@ -19,9 +20,12 @@ use Rattle.kl1_shoen_paths.specs.declared.shoen.Shoen.{Shoen}
 use Rattle.kl1_codes.specs.Numbered.{Numbered}
 use Rattle.kl1_codes.specs.Finding.{contents}
 use Rattle.kl1_codes.specs.Shelves.{Program}
+use Rattle.kl1_store_copy.specs.Numbers.{numbered}
 use Rattle.kl1_user_effects.specs.Fitting.{Reading}
+use Rattle.kl1_user_effects.specs.Relabelled.{relabelled}
 
--- what an account keeps: its own name; its rules; what its cells are; its goals and its shoens; for each reduction that was charged, the number
+-- what an account keeps: its own name; its rules; what its cells are, what hangs on its variables, and the numbers by which the first of
+-- these are known, which go on from the last; its goals and its shoens; for each reduction that was charged, the number
 -- of its goal's shoen, the newest first; its modules, each with its row of numbers; its names with their numbers, in order of first
 -- use; the last number of a goal; how many variables and structures its starts, messages from the console and commits had; how many
 -- reports it made; how many entries its journal has, and how many reductions the last of them if it is a run, or else 0; and how many
@@ -30,6 +34,8 @@ pub record Account : Type 0 where
   pub own_name : List ℕ
   pub rules : Rules
   pub held : Held CellName
+  pub hooks : List Hook
+  pub labels : List ℕ
   pub goals : List (Goal CellName)
   pub shoens : List (Shoen CellName)
   pub work : List ℕ
@@ -114,9 +120,9 @@ state_with s t last goals shoens = record s { goals = map (goal_with t) goals; s
 abbrev pub with_kept : Reading → State → Held CellName → List (Goal CellName) → List (Shoen CellName) → State
 with_kept f s h goals shoens = state_with s (meaning f h) (h.variables - 1) goals shoens
 
--- the state that an account is, for a reading
-abbrev pub state_of : Reading → Account → State
-state_of f a =
+-- the state that an account is with the numbers that variables have in its store, for a reading
+abbrev pub local_state : Reading → Account → State
+local_state f a =
     with_kept f (record {
       own_name = a.own_name;
       rules = a.rules;
@@ -135,3 +141,7 @@ state_of f a =
       run = a.run;
       sessions = a.sessions;
     }) a.held a.goals a.shoens
+
+-- the state that an account is, for a reading: its variables have the numbers by which they are known
+abbrev pub state_of : Reading → Account → State
+state_of f a = relabelled (numbered a.labels) (local_state f a)

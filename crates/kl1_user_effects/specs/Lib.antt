@@ -1,4 +1,5 @@
 pub mod Fitting
+pub mod Relabelled
 pub mod Account
 pub mod Kept
 pub mod Works

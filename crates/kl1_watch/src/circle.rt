@@ -19,7 +19,7 @@ fn place_of(waiting: &[WaitingGoal], goal: GoalNo) -> Option<usize> {
 }
 
 /// Whether the goal at a place waits for a variable.
-fn is_awaited(waiting: &[WaitingGoal], place: usize, variable: u32) -> bool {
+fn is_awaited(waiting: &[WaitingGoal], place: usize, variable: u64) -> bool {
     if let Some(goal) = waiting.get(place) {
         for awaited in goal.awaits.as_slice() {
             if awaited.variable == variable {

@@ -41,7 +41,7 @@ impl Holders {
 }
 
 /// The variables that a goal waits for, or none if there is no such goal.
-pub(crate) fn variables_of(awaited: &Option<Vec<u32>>) -> &[u32] {
+pub(crate) fn variables_of(awaited: &Option<Vec<u64>>) -> &[u64] {
     match awaited {
         Some(variables) => variables.as_slice(),
         None => &[],
@@ -68,13 +68,13 @@ fn note_in<H: Views>(
     most: u64,
     view: &GoalView,
     goal: GoalNo,
-    variable: u32,
+    variable: u64,
     holders: &mut Holders,
 ) -> Result<(), AllocError> {
     if view.number.0 == goal.0 {
         return Ok(());
     }
-    let presence = host.presence(view.number, u64::from(variable), most)?;
+    let presence = host.presence(view.number, variable, most)?;
     holders.note(view.number, presence)
 }
 
@@ -84,7 +84,7 @@ pub(crate) fn holders_of<H: Views>(
     host: &H,
     goals: &[GoalView],
     goal: GoalNo,
-    variable: u32,
+    variable: u64,
 ) -> Result<Holders, AllocError> {
     let mut holders = Holders {
         first: Vec::new(alloc),

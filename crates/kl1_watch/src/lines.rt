@@ -152,7 +152,7 @@ fn put_awaited<H: Views>(
     out: &mut Vec<u8>,
 ) -> Result<(), AllocError> {
     out.extend_from_slice(b"    waits for ")?;
-    put_variable(u64::from(awaited.variable), told, out)?;
+    put_variable(awaited.variable, told, out)?;
     let holders = &awaited.holders;
     if holders.is_none() {
         return out.extend_from_slice(b": no other goal has it\n");

@@ -28,7 +28,7 @@ fn is_alone<H: Views>(
     host: &H,
     goals: &[GoalView],
     goal: GoalNo,
-    variable: &u32,
+    variable: &u64,
 ) -> Result<bool, AllocError> {
     let holders = holders_of(alloc, host, goals, goal, *variable)?;
     Ok(holders.is_none())
@@ -40,7 +40,7 @@ fn are_alone<H: Views>(
     host: &H,
     goals: &[GoalView],
     goal: GoalNo,
-    variables: &[u32],
+    variables: &[u64],
 ) -> Result<bool, AllocError> {
     for variable in variables {
         let alone = is_alone(alloc, host, goals, goal, variable)?;

@@ -11,7 +11,7 @@ use std::alloc::{AllocError, Global};
 /// A variable that a goal waits for, by its number, and which other goals have it.
 #[derive(Drop)]
 pub struct Awaited {
-    pub variable: u32,
+    pub variable: u64,
     pub holders: Holders,
 }
 
@@ -43,7 +43,7 @@ fn awaits_of<H: Views>(
     host: &H,
     goals: &[GoalView],
     goal: GoalNo,
-    variables: &[u32],
+    variables: &[u64],
 ) -> Result<Vec<Awaited>, AllocError> {
     let mut awaits = Vec::new(alloc);
     for variable in variables {

@@ -219,6 +219,11 @@ impl<A: AtomSource + Drop, C: CodeSource + Drop> Host for World<A, C> {
         kept.reduce(&mut self.names, &self.code_source, goal, clause)
     }
 
+    fn collect_if_due(&mut self) {
+        let kept = &mut self.accounts[self.at];
+        let _collected = kept.collect_if_due();
+    }
+
     fn journal(&self, from: u64, count: u64) -> Result<Listed, AllocError> {
         self.journal_at(self.at, from, count)
     }

@@ -65,7 +65,7 @@ impl<A: AtomSource, C: CodeSource> JournaledAccount<A, C> {
 
     /// The numbers of the variables that a goal waits for, once each in increasing order, whether it is held back or not; `None` if there
     /// is no such goal. A variable has the number with which it is printed.
-    pub fn awaited(&self, codes: &C, goal: GoalNo) -> Result<Option<Vec<u32>>, AllocError>
+    pub fn awaited(&self, codes: &C, goal: GoalNo) -> Result<Option<Vec<u64>>, AllocError>
         requires { ArePlaced (C.has codes.now) self.now.1.0.modules }
         ensures { IfOk result (λ awaited. (f : Reading) → Fits self.now.1.0.names f → AreAwaited (kept_of f self.now.1).state goal.0 (option_map (λ numbers. numbers.items) awaited)) }
     {

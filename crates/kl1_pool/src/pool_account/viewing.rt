@@ -1,23 +1,18 @@
 // What is shown of an account with its book.
 
-ghost use Rattle.std.specs.Prelude.{◌≡◌, [], nat_lt, Some, slice_get, IfOk, IsTrue, true, false, option_map};
-ghost use Rattle.kl1_command.specs.Commands.{command_view};
+ghost use Rattle.std.specs.Prelude.{◌≡◌, [], Some, slice_get, IfOk, IsTrue, true, false, option_map};
 ghost use Rattle.kl1_journal.specs.Keeping.{Reading, Fits, kept_of};
 ghost use Rattle.kl1_journal_stamps.specs.Stamps.{StampValue};
 ghost use Rattle.kl1_user_events.specs.Viewing.{shoen_page, goal_page, goal_text, goal_term, AreAwaited, IsPresence, usage_of};
-ghost use Rattle.kl1_pool.specs.Counted.{reduces_in};
-ghost use Rattle.kl1_pool.specs.Memory.{bytes_taken, IsBeyond, IsWithin, IsWithinTurn};
 ghost use Rattle.kl1_pool.specs.Names.{called_at};
 ghost use Rattle.kl1_pool.specs.Showing.{IsFound, IsLastOf};
 
 use crate::looking::JournalReader;
-use crate::memory::{bound_of, bytes_of, takes_memory, turn_bound};
 use crate::named_atoms::NamedAtoms;
 use crate::pool_account::PoolAccount;
 use crate::pool_ids::PoolIds;
 use crate::tenancy::LastReader;
 use kl1_codes::SharedCodes;
-use kl1_command::Command;
 use kl1_journal_stamps::ShownHistory;
 use kl1_tally::BookSeat;
 use kl1_user_events::{Extent, GoalNo, GoalView, Presence, ShoenNo, ShoenView, Usage};
@@ -65,7 +60,7 @@ impl<'t, R: Wait, K: PoolIds> PoolAccount<'t, R, K> {
         &self,
         codes: &SharedCodes<'t, R>,
         goal: GoalNo,
-    ) -> Result<Option<Vec<u32>>, AllocError>
+    ) -> Result<Option<Vec<u64>>, AllocError>
         requires codes { codes.now.table.now ≡ K.codes }
         ensures { IfOk result (λ awaited. (f : Reading) → Fits self.now.held.0.names f → AreAwaited (kept_of f self.now.held).state goal.0 (option_map (λ numbers. numbers.items) awaited)) }
     {
@@ -107,48 +102,6 @@ impl<'t, R: Wait, K: PoolIds> PoolAccount<'t, R, K> {
         self.account() == account
     }
 
-    /// How many reductions were done since the last reset.
-    fn steps_since_reset(&self) -> u64
-        ensures { result ≡ reduces_in self.now.held.1.entries }
-    {
-        // Called for the fact that it proves: what the book tells.
-        self.shows_counts();
-        self.counted().steps.saturating_sub(self.past().steps)
-    }
-
-    /// About how many bytes the account takes.
-    pub fn bytes(&self) -> u64
-        ensures { (f : Reading) → result ≡ bytes_taken (kept_of f self.now.held) }
-    {
-        bytes_of(&self.usage(), self.steps_since_reset())
-    }
-
-    /// Whether the account takes more bytes than `most`.
-    pub fn is_over(&self, most: u64) -> bool
-        ensures { (f : Reading) → result ≡ nat_lt most (bytes_taken (kept_of f self.now.held)) }
-    {
-        self.bytes() > most
-    }
-
-    /// Whether a command may make the account take more bytes, and it takes more than the command may find: `most`, and those that are kept
-    /// for it.
-    pub(crate) fn is_beyond(&self, most: u64, command: &Command) -> bool
-        ensures beyond { IsTrue result → IsBeyond most self.now (command_view command.now) }
-        ensures within { result ≡ false → IsWithin most self.now (command_view command.now) }
-    {
-        if !takes_memory(command) {
-            return false;
-        }
-        self.is_over(bound_of(most, command))
-    }
-
-    /// Whether the account may have a turn, which is a short one or not, if it may take `most` bytes.
-    pub(crate) fn may_turn(&self, most: u64, is_short: bool) -> bool
-        ensures { IsTrue result → IsWithinTurn most is_short self.now }
-    {
-        !self.is_over(turn_bound(most, is_short))
-    }
-
     /// Lets a reader read the journal, and how many events were counted before the last reset. Answers whether it did: it didn't if
     /// the history of the account has other journals, which never is so.
     pub fn look<L: JournalReader>(&mut self, reader: &mut L) -> bool
@@ -185,6 +138,7 @@ impl<'t, R: Wait, K: PoolIds> PoolAccount<'t, R, K> {
             is_out,
             mut shown,
             name,
+            collections,
             of,
         } = self;
         let journal = kept.lent_journal();
@@ -196,6 +150,7 @@ impl<'t, R: Wait, K: PoolIds> PoolAccount<'t, R, K> {
                 is_out,
                 shown,
                 name,
+                collections,
                 of,
             });
         };
@@ -208,6 +163,7 @@ impl<'t, R: Wait, K: PoolIds> PoolAccount<'t, R, K> {
                 is_out,
                 shown,
                 name,
+                collections,
                 of,
             });
         }

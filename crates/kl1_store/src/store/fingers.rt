@@ -1,6 +1,7 @@
 // Places in lists that the store keeps.
 
 ghost use Rattle.std.specs.Prelude.{◌≡◌, ◌≤◌};
+ghost use Rattle.std.specs.List.{All};
 ghost use Rattle.kl1_store.specs.Held.{IsIn};
 ghost use Rattle.kl1_store.specs.Fingers.{IsFinger};
 
@@ -20,6 +21,13 @@ impl<N: NameValue> Store<N> {
     {
         let now = self.cells.mark();
         self.fingers.keep(finger, now);
+    }
+
+    /// All places that are kept.
+    pub fn fingers(&self) -> &[Finger<N>]
+        ensures { All (IsFinger N.built self.now.held) result.now }
+    {
+        self.fingers.all()
     }
 
     /// The furthest place of a list that is kept, of those after at most `most` elements; if there is none, its beginning.

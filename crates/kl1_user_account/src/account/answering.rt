@@ -43,7 +43,15 @@ impl<C: CodeSource> Account<C> {
     {
         let counted = self.counted();
         let machine = &mut self.machine;
-        let answering = code_of_answer(self.alloc, machine, counted, number, report, goal)?;
+        let answering = code_of_answer(
+            self.alloc,
+            machine,
+            &self.labels,
+            counted,
+            number,
+            report,
+            goal,
+        )?;
         let (given, nodes, variable) = match answering {
             Answering::Refused(refusal) => return Ok(Reply::Refused(refusal)),
             Answering::Coded(given, nodes, variable) => (given, nodes, variable),

@@ -75,7 +75,15 @@ impl<C: CodeSource> Account<C> {
         }
         let store = &self.machine.store;
         let first = nth_cell(store, origin.reports, from - 1 - origin.forgotten);
-        let listed = list_cells(self.alloc, names, seat, store, first, MOST_LISTED)?;
+        let listed = list_cells(
+            self.alloc,
+            names,
+            seat,
+            store,
+            &self.labels,
+            first,
+            MOST_LISTED,
+        )?;
         Ok(Reply::Listed(listed))
     }
 

@@ -4,14 +4,14 @@ ghost use Rattle.std.specs.Prelude.{◌≡◌, ◌≤◌, [], length, IfOk, OnOk
 ghost use Rattle.kl1_model.specs.Event.{reset, was_reset};
 ghost use Rattle.kl1_model.specs.State.{fresh, fresh_with};
 ghost use Rattle.kl1_model.specs.Step.{step};
-ghost use Rattle.kl1_store.specs.Held.{nothing_held, with_variable};
 ghost use Rattle.kl1_user_effects.specs.Account.{state_of};
 ghost use Rattle.kl1_user_effects.specs.Fitting.{Reading, Fits};
 ghost use Rattle.kl1_user_effects.specs.Naming.{AreSmall, Keeps};
-ghost use Rattle.kl1_user_account.specs.Beginning.{IsNameList, begun};
+ghost use Rattle.kl1_user_account.specs.Beginning.{IsFirst, IsNameList, begun};
 
 use crate::account::Account;
 use crate::account_name::AccountName;
+use crate::labels::Labels;
 use kl1_atoms::AtomSource;
 use kl1_codes::{CodeSource, Modules};
 use kl1_goals::{GoalTable, Rules};
@@ -81,7 +81,7 @@ impl<C: CodeSource> Account<C> {
     /// Puts an account in which nothing has happened in place of this one, of the same name, and with the same rules, names and
     /// sessions. Its cells are those of a store that holds one variable.
     fn begin_again(&mut self, store: Store<CellName>)
-        requires { store.held ≡ with_variable nothing_held }
+        requires { IsFirst store }
         ensures { self.new ≡ begun self.old.own_name self.old.rules self.old.names self.old.sessions }
     {
         let names = mem::replace(&mut self.machine.names, AccountNames::new(self.alloc));
@@ -105,7 +105,7 @@ impl<C: CodeSource> Account<C> {
         names: AccountNames,
         sessions: u64,
     ) -> Self
-        requires store { store.held ≡ with_variable nothing_held }
+        requires store { IsFirst store }
         requires small { AreSmall names.names }
         ensures { result ≡ begun name rules names.names sessions }
     {
@@ -133,10 +133,12 @@ impl<C: CodeSource> Account<C> {
         Account {
             name,
             machine,
+            labels: Labels::new(alloc),
             modules: Modules::new(alloc),
             entries: 0,
             run: 0,
             sessions,
+            due: 0,
             trial: Trial::new(alloc),
             scan: PathScan::new(alloc),
             cells: Vec::new(alloc),
@@ -148,7 +150,7 @@ impl<C: CodeSource> Account<C> {
 
 /// A store that holds one variable, which no account uses: an account's variables are numbered from 1.
 fn first_store(alloc: Global) -> Result<Store<CellName>, AllocError>
-    ensures { IfOk result (λ store. store.held ≡ with_variable nothing_held) }
+    ensures { IfOk result IsFirst }
 {
     let mut store = Store::new(alloc);
     let _first = store.fresh()?;

@@ -5,7 +5,7 @@ ghost use Rattle.kl1_model.specs.Rules.{limits_of};
 ghost use Rattle.kl1_model.specs.Event.{with_entry};
 ghost use Rattle.kl1_codes.specs.Numbered.{ArePlaced};
 ghost use Rattle.kl1_user_effects.specs.Fitting.{Reading, Fits};
-ghost use Rattle.kl1_user_effects.specs.Account.{state_of};
+ghost use Rattle.kl1_user_effects.specs.Account.{local_state};
 ghost use Rattle.kl1_user_effects.specs.Naming.{Keeps};
 ghost use Rattle.kl1_machine.specs.Bringing.{change_of};
 ghost use Rattle.kl1_user_account.specs.Bringing.{MayBring};
@@ -34,7 +34,8 @@ impl<C: CodeSource> Account<C> {
         requires room { (limits_of self.old.rules).names ≤ (A.place seat.old).0.1 }
         requires placed { ArePlaced (C.has codes.now) self.old.modules }
         requires may { MayBring self.old texts.now brought.now }
-        ensures brings { OnOk result ((f : Reading) → Fits self.new.names f → with_entry (change_of brought.now (state_of f self.old)) ≡ state_of f self.new) }
+        ensures brings { OnOk result ((f : Reading) → Fits self.new.names f → with_entry (change_of brought.now (local_state f self.old)) ≡ local_state f self.new) }
+        ensures labels { self.new.labels ≡ self.old.labels }
         ensures err { OnErr result (self.new ≡ self.old) }
         ensures keeps { Keeps A.is_of A.place A.knows A.published names.old names.new seat.old seat.new }
         ensures knows { A.knows seat.new ≡ self.new.names }

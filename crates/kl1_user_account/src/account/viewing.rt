@@ -73,6 +73,7 @@ impl<C: CodeSource> Account<C> {
                     names,
                     seat,
                     &self.machine.store,
+                    &self.labels,
                     origin.goal,
                     most,
                 )?;
@@ -102,6 +103,7 @@ impl<C: CodeSource> Account<C> {
                 names,
                 seat,
                 &self.machine.store,
+                &self.labels,
                 goal.task,
                 extent,
             ),
@@ -110,7 +112,7 @@ impl<C: CodeSource> Account<C> {
 
     /// The numbers of the variables that goal `number` waits for, once each in increasing order, whether it is held back or not; `None`
     /// if no goal has the number.
-    pub fn awaited(&self, codes: &C, number: u64) -> Result<Option<Vec<u32>>, AllocError>
+    pub fn awaited(&self, codes: &C, number: u64) -> Result<Option<Vec<u64>>, AllocError>
         requires { ArePlaced (C.has codes.now) self.now.modules }
         ensures { IfOk result (λ awaited. (f : Reading) → Fits self.now.names f → AreAwaited (state_of f self.now) number (option_map (λ numbers. numbers.items) awaited)) }
     {
@@ -121,6 +123,7 @@ impl<C: CodeSource> Account<C> {
                 let awaited = awaited_by(
                     self.alloc,
                     &self.machine.store,
+                    &self.labels,
                     &self.machine.shoens,
                     &modules,
                     &goal,
@@ -137,7 +140,14 @@ impl<C: CodeSource> Account<C> {
     {
         match self.machine.goals.get(number) {
             None => Ok(Presence::Absent),
-            Some(goal) => presence_of(self.alloc, &self.machine.store, goal.task, variable, most),
+            Some(goal) => presence_of(
+                self.alloc,
+                &self.machine.store,
+                &self.labels,
+                goal.task,
+                variable,
+                most,
+            ),
         }
     }
 

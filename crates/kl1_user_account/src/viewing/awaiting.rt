@@ -1,6 +1,7 @@
 // The variables that goals wait for.
 
-ghost use Rattle.std.specs.Prelude.{◌≡◌, ℕ, List, IfOk, OnOk};
+ghost use Rattle.std.specs.Prelude.{◌≡◌, ℕ, List, map, IfOk, OnOk};
+ghost use Rattle.kl1_store_copy.specs.Numbers.{numbered};
 ghost use Rattle.kl1_store.specs.Held.{IsIn};
 ghost use Rattle.kl1_shoen_paths.specs.declared.shoen.Shoen.{Shoen};
 ghost use Rattle.kl1_goals.specs.declared.task.Task.TheVariants.{Monitor, Reduces, Substitutes};
@@ -8,6 +9,7 @@ ghost use Rattle.kl1_codes.specs.Shelves.{Program};
 ghost use Rattle.kl1_user_effects.specs.Kept.{IsTaskIn, AreShoensIn};
 ghost use Rattle.kl1_user_account.specs.Viewed.{AwaitsMessage, Awaits, ListsAwaited};
 
+use crate::labels::Labels;
 use kl1_codes::{CodeSource, CodedModules};
 use kl1_goals::{Goal, Task};
 use kl1_goals_moves::{Trial, kind_of_qualified, standing_of, substitute_standing};
@@ -108,22 +110,35 @@ fn await_as<C: CodeSource>(
     }
 }
 
-/// The variables that a goal waits for, once each in increasing order.
+/// The numbers by which the variables that a goal waits for are known, once each in increasing order.
 pub(crate) fn awaited_by<C: CodeSource>(
     alloc: Global,
     store: &Store<CellName>,
+    labels: &Labels,
     shoens: &ShoenTree<CellName>,
     modules: &CodedModules<'_, C>,
     goal: &Goal<CellName>,
-) -> Result<Vec<u32>, AllocError>
+) -> Result<Vec<u64>, AllocError>
     requires task { IsTaskIn store.now.held goal.now.task }
     requires shoens { AreShoensIn store.now.held shoens.now.shoens }
-    ensures { IfOk result (λ vs. ListsAwaited modules.now shoens.now.shoens store.now.held goal.now.shoen goal.now.task vs.items) }
+    ensures { IfOk result (λ vs. ListsAwaited labels.now modules.now shoens.now.shoens store.now.held goal.now.shoen goal.now.task vs.items) }
 {
     let mut trial = Trial::new(alloc);
     await_as(store, shoens, modules, &mut trial, goal)?;
     let Trial { mut awaited, .. } = trial;
     awaited.sort_unstable();
     awaited.dedup();
-    Ok(awaited)
+    // Numbers keep their order.
+    labels_of(alloc, labels, awaited.as_slice())
+}
+
+/// The numbers by which variables are known.
+fn labels_of(alloc: Global, labels: &Labels, variables: &[u32]) -> Result<Vec<u64>, AllocError>
+    ensures { IfOk result (λ numbers. numbers.items ≡ map (numbered labels.now) variables.now) }
+{
+    let mut numbers = Vec::with_capacity(alloc, variables.len())?;
+    for variable in variables {
+        numbers.push(labels.of(*variable))?;
+    }
+    Ok(numbers)
 }

@@ -22,7 +22,7 @@ impl<A: AtomSource + Drop, C: CodeSource + Drop> World<A, C> {
     }
 
     /// The variables that a goal of that account waits for.
-    fn awaited_here(&self, goal: GoalNo) -> Result<Option<Vec<u32>>, AllocError>
+    fn awaited_here(&self, goal: GoalNo) -> Result<Option<Vec<u64>>, AllocError>
         ensures { IfOk result (λ awaited. (f : Reading) → Fits (account_in self.now.0 self.now.1).0.names f → AreAwaited (kept_of f (account_in self.now.0 self.now.1)).state goal.0 (option_map (λ numbers. numbers.items) awaited)) }
     {
         let kept = &self.accounts[self.at];
@@ -73,7 +73,7 @@ impl<A: AtomSource + Drop, C: CodeSource + Drop> Views for World<A, C> {
         self.goal_text_at(self.at, goal, extent)
     }
 
-    fn awaited(&self, goal: GoalNo) -> Result<Option<Vec<u32>>, AllocError> {
+    fn awaited(&self, goal: GoalNo) -> Result<Option<Vec<u64>>, AllocError> {
         self.awaited_here(goal)
     }
 

@@ -13,4 +13,4 @@ pub given_anew-requires : goal.given_anew-requires
 given_anew-requires c = subst (λ (b : Bool). IsTrue (if b then is_told_term c.args.goal.now else is_numbered c.args.goal.now)) (sym c.has_told.ensures ∙ c.if-has_told.false) c.requires.numbered
 
 pub returns-clause-given : goal.returns-clause-given
-returns-clause-given c = c.given_anew.ensures c.args.rules c.args.store.now.held c.args.asked (sym c.has_told.ensures ∙ c.if-has_told.false)
+returns-clause-given c = c.given_anew.ensures c.args.rules c.args.store.now.held c.args.labels.now c.args.asked (sym c.has_told.ensures ∙ c.if-has_told.false) c.requires.known c.requires.some

@@ -1,4 +1,5 @@
-use Rattle.kl1_user_account.proofs.Words.{◌∙◌, ap, on_ok_weaker, node_with, sym, Node, text_of, with_node}
+use Rattle.kl1_user_account.proofs.Words.{◌∙◌, ap, on_ok_weaker, sym, Node, text_of, with_node}
+use Rattle.kl1_user_account.specs.Tops.{node_shown}
 use Rattle.kl1_user_account.proofs.printing.put_top.Goals as goal
 
 pub put_atom-requires-clause-named : goal.put_atom-requires-clause-named
@@ -13,5 +14,5 @@ pub returns-then-is_list_cell-clause-text : goal.returns-then-is_list_cell-claus
 returns-then-is_list_cell-clause-text g c =
     let ks = g.A.AtomSource.knows c.args.seat.now in
     on_ok_weaker c.put_cell.result (λ printed. λ f fits ts.
-    let is = ap (node_with f) c.in-Structure.is ∙ c.is_list_cell.ensures.node c.if-is_list_cell.true ks f fits in
+    let is = ap (node_shown c.args.labels.now f) c.in-Structure.is ∙ c.is_list_cell.ensures.node c.if-is_list_cell.true ks f fits in
     printed ts ∙ sym (ap (λ (n : Node). text_of c.args.printer.now (with_node n ts)) is)) c.put_cell.ensures.text

@@ -9,10 +9,8 @@ pub returns-in-Variable : goal.returns-in-Variable
 returns-in-Variable c =
     let h = c.args.store.now.held in
     let n = c.in-Variable.number in
-    let e : n ≡ c.from.result = search rules in
-    subst (λ k. IsNext h c.args.cell (top.Variable k) c.args.stack.now.items c.args.stack.now.items) e
-    (plain_next h c.args.cell (top.Variable n) (λ f. variable n) c.args.stack.now.items c.requires.stack (λ f. sym (c.walk.ensures.means f) ∙ ap (meaning f h) c.in-Variable.is ∙ term_of-unbound f h n c.in-Variable.ensures.walked)
-    refl (λ f ts. refl) (λ f. omega arith) (λ f g e. refl))
+    plain_next h c.args.cell (top.Variable n) (λ f. variable n) c.args.stack.now.items c.requires.stack (λ f. sym (c.walk.ensures.means f) ∙ ap (meaning f h) c.in-Variable.is ∙ term_of-unbound f h n c.in-Variable.ensures.walked)
+    refl (λ f ts. refl) (λ f. omega arith) (λ f g e. refl)
 
 pub returns-in-Integer : goal.returns-in-Integer
 returns-in-Integer c =

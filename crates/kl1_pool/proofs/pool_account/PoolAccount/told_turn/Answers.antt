@@ -1,13 +1,12 @@
-use Rattle.std.proofs.Common.{ℕ, ◌≤◌, sym, subst}
-use Rattle.kl1_journal.specs.Keeping.{kept_of}
-use Rattle.kl1_pool.specs.Memory.{bytes_taken, turn_bound}
+use Rattle.std.proofs.Common.{ℕ, sym, subst}
+use Rattle.kl1_pool.specs.Memory.{HasAtMost, turn_bound}
 use Rattle.kl1_pool.specs.Names.{called_at}
 use Rattle.kl1_pool_tickets.specs.declared.serving.TimeSlice.{TimeSlice}
 use Rattle.kl1_pool.proofs.Answering.{turn_of}
 use Rattle.kl1_pool.proofs.pool_account.PoolAccount.told_turn.Goals as goal
 
 pub turn_if-turn-requires : goal.turn_if-turn-requires
-turn_if-turn-requires g c = record { within = λ f. subst (λ (m : ℕ). bytes_taken (kept_of f c.args.self.now.held) ≤ turn_bound m c.args.is_short) (sym c.requires.bound) (c.requires.within f) }
+turn_if-turn-requires g c = record { within = subst (λ (m : ℕ). HasAtMost c.args.self.now.held (turn_bound m c.args.is_short)) (sym c.requires.bound) c.requires.within }
 
 pub returns-clause-turn : goal.returns-clause-turn
 returns-clause-turn g c =

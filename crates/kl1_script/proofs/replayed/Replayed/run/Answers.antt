@@ -24,17 +24,17 @@ loop-left-preserved g c =
     record {
       few = omega (arith, c.loop-left.invariant.few);
       steps = λ f fits.
-          let P : Bool → Type 0 = λ b. Went b (if_accepted (first_step (state_of f c.loop-left.self))) (state_of f c.step.new.self) in
-          steps_on (c.args.reductions - c.loop-left.left) (c.args.reductions - (c.loop-left.left - 1)) (state_of f c.args.self.now) (state_of f c.loop-left.self) (state_of f c.step.new.self) (omega (arith, c.loop-left.invariant.few)) (c.loop-left.invariant.steps f (c.step.ensures.before f fits)) (subst P accepted (c.in_ok-accepted.ensures.step f fits));
-      before = λ f fits. c.loop-left.invariant.before f (c.step.ensures.before f fits);
+          let P : Bool → Type 0 = λ b. Went b (if_accepted (first_step (state_of f c.loop-left.self))) (state_of f c.collected_step.new.self) in
+          steps_on (c.args.reductions - c.loop-left.left) (c.args.reductions - (c.loop-left.left - 1)) (state_of f c.args.self.now) (state_of f c.loop-left.self) (state_of f c.collected_step.new.self) (omega (arith, c.loop-left.invariant.few)) (c.loop-left.invariant.steps f (c.collected_step.ensures.before f fits)) (subst P accepted (c.in_ok-accepted.ensures.step f fits));
+      before = λ f fits. c.loop-left.invariant.before f (c.collected_step.ensures.before f fits);
     }
 
 pub returns-then-not-accepted-clause-step : goal.returns-then-not-accepted-clause-step
 returns-then-not-accepted-clause-step g c = λ f fits.
     let refused : c.in_ok-accepted.accepted ≡ false = cc in
     let has : has_runs (state_of f c.args.self.now).rules ≡ true = sym (c.if-not-has_runs.ensures ∙ ap has_runs c.rules.ensures ∙ ap (λ (a : Account). has_runs a.rules) c.self.view_is) in
-    let P : Bool → Type 0 = λ b. Went b (if_accepted (first_step (state_of f c.loop-left.self))) (state_of f c.step.new.self) in
-    run_stops c.args.reductions (c.args.reductions - c.loop-left.left) (state_of f c.args.self.now) (state_of f c.loop-left.self) (state_of f c.step.new.self) (state_of f c.step.new.self) (omega (arith, c.loop-left.invariant.few)) has (c.loop-left.invariant.steps f (c.step.ensures.before f fits)) (subst P refused (c.in_ok-accepted.ensures.step f fits))
+    let P : Bool → Type 0 = λ b. Went b (if_accepted (first_step (state_of f c.loop-left.self))) (state_of f c.collected_step.new.self) in
+    run_stops c.args.reductions (c.args.reductions - c.loop-left.left) (state_of f c.args.self.now) (state_of f c.loop-left.self) (state_of f c.collected_step.new.self) (state_of f c.collected_step.new.self) (omega (arith, c.loop-left.invariant.few)) has (c.loop-left.invariant.steps f (c.collected_step.ensures.before f fits)) (subst P refused (c.in_ok-accepted.ensures.step f fits))
 
 pub returns-clause-step : goal.returns-clause-step
 returns-clause-step g c = λ f fits.

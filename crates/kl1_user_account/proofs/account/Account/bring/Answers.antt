@@ -1,5 +1,5 @@
 use Rattle.kl1_user_account.proofs.Words.{◌≡◌, List, length, sym, ap, ap₂, ◌∙◌, arith, subst, with_entry, CellName, Known, Account, AreSpared, NameShelf, Machine, Trail, change_of, CanBring}
-use Rattle.kl1_user_account.proofs.Machines.{Aside, aside_of, began, began_rested, Ends}
+use Rattle.kl1_user_account.proofs.Machines.{Aside, aside_of, began, began_rested, EndsInside}
 use Rattle.kl1_user_account.proofs.Bringing.{IsBrought, brought_ends}
 use Rattle.kl1_user_account.proofs.account.Account.bring.Goals.{In_ok-or_back, After-note_entry}
 use Rattle.kl1_user_account.proofs.account.Account.bring.Goals as goal
@@ -36,7 +36,7 @@ publish_names-requires-clause-spares g c = ap length c.as_slice-spares.ensures.v
 
 -- ---- what comes of it
 
-ends : (g : _) (c : goal.After-note_entry g) → Ends c.args.self.now (λ s t. with_entry (change_of c.args.brought.now s) ≡ t) (record (aside_of c.self.inside) { entries = c.note_entry.new.entries; run = c.note_entry.new.run }) c.publish_names.new.self
+ends : (g : _) (c : goal.After-note_entry g) → EndsInside c.args.self.now (λ s t. with_entry (change_of c.args.brought.now s) ≡ t) (record (aside_of c.self.inside) { entries = c.note_entry.new.entries; run = c.note_entry.new.run }) c.publish_names.new.self
 ends g c =
     let u = c.self.inside in
     let spares = c.as_slice-spares.result.now in
@@ -60,3 +60,6 @@ invariant_of-self-2 g c = (ends g (goal.at.invariant_of-self-2 g c).After-note_e
 
 pub returns-clause-brings : goal.returns-clause-brings
 returns-clause-brings g c = (ends g (goal.at.returns-clause-brings g c).After-note_entry).states
+
+pub returns-clause-labels : goal.returns-clause-labels
+returns-clause-labels g c = ap (λ (a : Account). a.labels) c.self.view_is

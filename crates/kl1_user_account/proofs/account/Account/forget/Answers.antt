@@ -1,5 +1,7 @@
-use Rattle.kl1_user_account.proofs.Words.{◌≡◌, ◌<◌, [], refl, sym, ◌∙◌, limits_of, Reading, state_of, kept_in}
+use Rattle.kl1_user_account.proofs.Words.{◌≡◌, ◌<◌, [], refl, sym, ◌∙◌, limits_of, Reading, local_state, kept_in}
+use Rattle.kl1_model.specs.Event.{forget as forget_event}
 use Rattle.kl1_user_account.specs.Forgetting.{StepsInPart, StepsWhole}
+use Rattle.kl1_user_account.proofs.Lifting.{lifted}
 use Rattle.kl1_user_account.proofs.LettingGo.{part_goes, whole_goes}
 use Rattle.kl1_user_account.proofs.account.Account.forget.Goals.{In-Reports, In-Shoen}
 use Rattle.kl1_user_account.proofs.account.Account.forget.Goals as goal
@@ -10,7 +12,7 @@ forgetting_of-requires g c = c.self.invariant.0.shoens
 pub returns-in-Refused-clause-step : goal.returns-in-Refused-clause-step
 returns-in-Refused-clause-step g c =
     let a = kept_in c.self.inside in
-    rw (← c.self.view_is) (λ f fits. c.in-Refused.ensures f fits.reads (record (state_of f a) { goals = []; shoens = []; last_variable = 0 }) a.goals refl (rw (← c.self.view_is) at (sym (c.is_full-is_full.ensures f))))
+    rw (← c.self.view_is) (λ f fits. lifted f a a (forget_event c.args.number c.args.count) _ c.self.invariant.0.some c.self.invariant.0.labels refl tt (c.in-Refused.ensures f fits.reads (record (local_state f a) { goals = []; shoens = []; last_variable = 0 }) a.goals refl (rw (← c.self.view_is) at (sym (c.is_full-is_full.ensures f)))))
 
 -- ---- reports that go
 

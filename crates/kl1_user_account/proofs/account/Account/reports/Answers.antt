@@ -1,5 +1,5 @@
 use Rattle.kl1_user_account.proofs.Words.{ℕ, ◌-◌, ◌&&◌, List, map, take, sym, ap, ap₂, ◌∙◌, arith, Some, None, nat_le, lt-leb, MOST_LISTED, Term, cut_print, Transition, listed, state_of, origin_in, kept_in}
-use Rattle.kl1_user_account.proofs.Listing.{reports_syntax, reports_read, reports_gone, reports_there, first_named}
+use Rattle.kl1_user_account.proofs.Listing.{reports_syntax, reports_read, reports_gone, reports_there, told_from, first_named}
 use Rattle.kl1_user_account.proofs.account.Account.reports.Goals as goal
 
 pub nth_cell-first-requires : goal.nth_cell-first-requires
@@ -36,5 +36,5 @@ returns-clause-step g c =
     let R : List (List ℕ) → Transition = λ ts. record { state = state_of f (kept_in c.self.inside); reply = listed ts } in
     reports_there f (kept_in c.self.inside) c.args.number c.args.from c.in-Some.origin (sym c.are_numbers.ensures ∙ c.if-not-are_numbers.false) (let le = c.if-from-lt1.false in omega (arith, le)) (sym c.origin_at.ensures ∙ c.in-Some.is)
     (let lt = c.if-from-origin.false in omega (arith, lt))
-    ∙ ap (λ (ts : List Term). R (map cut_print (take MOST_LISTED ts))) (sym (c.nth_cell-first.ensures.elements f fits.reads))
+    ∙ ap (λ (ts : List Term). R (map cut_print (take MOST_LISTED ts))) (sym (told_from f (kept_in c.self.inside) c.in-Some.origin (c.args.from - 1 - c.in-Some.origin.forgotten) c.nth_cell-first.result (c.nth_cell-first.ensures.elements f fits.reads)))
     ∙ ap R (sym (texts f fits)))

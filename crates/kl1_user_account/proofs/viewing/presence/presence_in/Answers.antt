@@ -4,7 +4,7 @@ use Rattle.kl1_user_account.proofs.viewing.presence.presence_in.Goals as goal
 
 pub loop-left-init : goal.loop-left-init
 loop-left-init c =
-    looking_begins c.args.store.now.held c.args.cell c.args.variable c.args.most c.push.new.self.items (c.requires, tt)
+    looking_begins c.args.labels.now c.args.store.now.held c.args.cell c.args.variable c.args.most c.push.new.self.items (c.requires, tt)
     (c.in_ok-push.ensures.items ∙ ap (λ (xs : List (Cell CellName)). xs ++ c.args.cell ∷ []) c.new-stack.ensures.items)
 
 pub returns-in_default : goal.returns-in_default

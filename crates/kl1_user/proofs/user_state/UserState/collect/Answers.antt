@@ -1,0 +1,4 @@
+use Rattle.kl1_user.proofs.user_state.UserState.collect.Goals as goal
+
+pub invariant_of-self : goal.invariant_of-self
+invariant_of-self g c = rw c.collect.ensures.stays.names c.self.invariant
