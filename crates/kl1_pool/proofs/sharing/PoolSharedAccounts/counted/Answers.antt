@@ -1,6 +1,6 @@
 use Rattle.kl1_pool.specs.Names.{called_at}
 use Rattle.kl1_pool.proofs.Answering.{counted_by_some}
-use Rattle.kl1_pool.proofs.pool.PoolSharedAccounts.counted.Goals as goal
+use Rattle.kl1_pool.proofs.sharing.PoolSharedAccounts.counted.Goals as goal
 
 pub returns : goal.returns
 returns g c =

@@ -2,7 +2,7 @@ use Rattle.std.proofs.lemmas.Result.{IfOk-weaker}
 use Rattle.kl1_user_events.specs.Viewing.{goal_term, IsPresence}
 use Rattle.kl1_pool.specs.Names.{called_at}
 use Rattle.kl1_pool.proofs.Answering.{of_some}
-use Rattle.kl1_pool.proofs.pool.PoolSharedAccounts.presence.Goals as goal
+use Rattle.kl1_pool.proofs.sharing.PoolSharedAccounts.presence.Goals as goal
 
 pub returns : goal.returns
 returns g c =

@@ -3,7 +3,7 @@ use Rattle.std.specs.Prelude.{◌≡◌}
 use Rattle.kl1_user_events.specs.Viewing.{goal_page}
 use Rattle.kl1_pool.specs.Names.{called_at}
 use Rattle.kl1_pool.proofs.Answering.{of_some}
-use Rattle.kl1_pool.proofs.pool.PoolSharedAccounts.goals_from.Goals as goal
+use Rattle.kl1_pool.proofs.sharing.PoolSharedAccounts.goals_from.Goals as goal
 
 pub returns : goal.returns
 returns g c =

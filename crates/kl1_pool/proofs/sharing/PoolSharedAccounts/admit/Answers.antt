@@ -1,7 +1,7 @@
 use Rattle.std.proofs.Common.{inl, inr, refl, arith}
 use Rattle.kl1_pool_tickets.proofs.Counting.{not_moved}
 use Rattle.kl1_pool.proofs.Calling.{called_beyond}
-use Rattle.kl1_pool.proofs.pool.PoolSharedAccounts.admit.Goals as goal
+use Rattle.kl1_pool.proofs.sharing.PoolSharedAccounts.admit.Goals as goal
 
 -- nobody comes to a place that has a name
 pub returns-then-account-self-clause-restored : goal.returns-then-account-self-clause-restored

@@ -3,7 +3,7 @@ use Rattle.std.specs.Prelude.{option_map}
 use Rattle.kl1_user_events.specs.Viewing.{AreAwaited}
 use Rattle.kl1_pool.specs.Names.{called_at}
 use Rattle.kl1_pool.proofs.Answering.{of_some}
-use Rattle.kl1_pool.proofs.pool.PoolSharedAccounts.awaited.Goals as goal
+use Rattle.kl1_pool.proofs.sharing.PoolSharedAccounts.awaited.Goals as goal
 
 pub returns : goal.returns
 returns g c =

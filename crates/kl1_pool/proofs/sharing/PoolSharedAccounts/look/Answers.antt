@@ -1,6 +1,6 @@
 use Rattle.kl1_pool.specs.Names.{called_at}
 use Rattle.kl1_pool.proofs.Answering.{seen_of_some}
-use Rattle.kl1_pool.proofs.pool.PoolSharedAccounts.look.Goals as goal
+use Rattle.kl1_pool.proofs.sharing.PoolSharedAccounts.look.Goals as goal
 
 pub returns-in-Some-Account-clause-seen : goal.returns-in-Some-Account-clause-seen
 returns-in-Some-Account-clause-seen g c = λ yes.

@@ -6,7 +6,7 @@ use Rattle.kl1_pool.specs.PoolAccounts.{PoolAccountValue}
 use Rattle.kl1_pool.specs.Showing.{IsFound}
 use Rattle.kl1_pool.specs.Names.{called_at}
 use Rattle.kl1_pool.proofs.Answering.{of_some}
-use Rattle.kl1_pool.proofs.pool.PoolSharedAccounts.goal_text.Goals as goal
+use Rattle.kl1_pool.proofs.sharing.PoolSharedAccounts.goal_text.Goals as goal
 
 pub returns-in-Some-Account : goal.returns-in-Some-Account
 returns-in-Some-Account g c =
