@@ -5,7 +5,7 @@ use kl1_command::Views;
 use kl1_lines::put_decimal;
 use kl1_model::Condition;
 use kl1_user_events::{Extent, GoalNo, GoalView, ShoenNo, ShoenView, TaskKind, Usage, Used};
-use kl1_watch::{Names, Notes, Told, put_standing, standing_of};
+use kl1_watch::{Names, Notes, Told, alive_in, holder_of, put_standing, standing_of};
 use std::alloc::{AllocError, Global};
 
 /// The most goals and shoens that are looked at for a table.
@@ -99,6 +99,14 @@ fn is_row(goal: &GoalView) -> bool {
     }
 }
 
+/// Whether a goal is to be reduced, and waits for no answer.
+fn is_reduced(goal: &GoalView) -> bool {
+    match goal.task {
+        TaskKind::Reduces => true,
+        TaskKind::Monitor | TaskKind::Substitutes => false,
+    }
+}
+
 /// Puts the line that tells how many more there are after the bytes, if there are any.
 fn put_more(count: u64, rows: u64, out: &mut Vec<u8>) -> Result<(), AllocError> {
     if count <= rows {
@@ -163,8 +171,12 @@ fn put_standing_word<H: Views>(
         Some(awaited) => awaited,
         None => return Ok(()),
     };
-    if awaited.is_empty() {
-        return out.extend_from_slice(b", is held back");
+    // In a shoen that went on it might have a clause that takes it, whatever its other clauses wait for.
+    if awaited.is_empty() || is_reduced(goal) {
+        if let Some(holder) = holder_of(host, goal.shoen)? {
+            out.extend_from_slice(b", is held back by shoen ")?;
+            return put_decimal(out, holder.0);
+        }
     }
     match goal.task {
         TaskKind::Substitutes => out.extend_from_slice(b", waits for an answer in ")?,
@@ -180,7 +192,7 @@ fn put_standing_word<H: Views>(
 }
 
 /// Puts a line for each shoen that lives after the bytes, up to the most rows, and how many have ended.
-fn put_shoens<H: Views>(host: &H, out: &mut Vec<u8>) -> Result<(), AllocError> {
+fn put_shoens<H: Views>(host: &mut H, out: &mut Vec<u8>) -> Result<(), AllocError> {
     let shoens = host.shoens_from(ShoenNo(0), MOST_LOOKED)?;
     let mut rows: u64 = 0;
     let mut ended: u64 = 0;
@@ -189,7 +201,8 @@ fn put_shoens<H: Views>(host: &H, out: &mut Vec<u8>) -> Result<(), AllocError> {
             ended = ended.saturating_add(1);
         } else {
             if rows < MOST_ROWS as u64 {
-                put_shoen(shoen, out)?;
+                let alive = alive_in(host, shoen.number)?;
+                put_shoen(shoen, alive, out)?;
             }
             rows = rows.saturating_add(1);
         }
@@ -222,8 +235,8 @@ pub(crate) fn word_of(condition: Condition) -> &'static [u8] {
     }
 }
 
-/// Puts the line of a shoen after the bytes.
-fn put_shoen(shoen: &ShoenView, out: &mut Vec<u8>) -> Result<(), AllocError> {
+/// Puts the line of a shoen after the bytes, in and below which there are `alive` goals.
+fn put_shoen(shoen: &ShoenView, alive: u64, out: &mut Vec<u8>) -> Result<(), AllocError> {
     out.extend_from_slice(b"shoen ")?;
     put_decimal(out, shoen.number.0)?;
     if let Some(parent) = shoen.parent {
@@ -231,13 +244,7 @@ fn put_shoen(shoen: &ShoenView, out: &mut Vec<u8>) -> Result<(), AllocError> {
         put_decimal(out, parent.0)?;
     }
     out.extend_from_slice(b": ")?;
-    put_state(
-        shoen.condition,
-        shoen.charged,
-        shoen.allowance,
-        shoen.alive,
-        out,
-    )
+    put_state(shoen.condition, shoen.charged, shoen.allowance, alive, out)
 }
 
 /// Puts the state of a shoen after the bytes, and the end of its line.

@@ -7,7 +7,7 @@ pub enum Ending {
     Terminated,
     /// It terminated, or no goal can step, and it reported exceptions.
     Raised,
-    /// It reported no exception, no goal can step, and this many in it and below it wait for ever.
+    /// It reported no exception, no goal can step, and this many are left in it and below it: they wait for ever, or their shoens stand still.
     Waits(u64),
     /// It was charged all of its allowance.
     Exhausted,

@@ -30,6 +30,8 @@ pub struct Found {
     /// The number of the step, from 1.
     pub step: u64,
     pub clause: ClauseNo,
+    /// Whether it was the step of a substitute, once the goal is looked for.
+    pub is_answer: bool,
     /// The goal that was reduced, once it is looked for.
     pub text: Vec<u8>,
 }
@@ -147,6 +149,7 @@ impl Finder {
             origin,
             step: self.step,
             clause,
+            is_answer: false,
             text: Vec::new(self.alloc),
         };
         self.found.push(found)?;
@@ -181,11 +184,12 @@ impl Finder {
         false
     }
 
-    /// Keeps the text of the goal of the step that comes now.
-    fn keep_text(&mut self, text: &[u8]) -> Result<(), AllocError> {
+    /// Keeps the text of the goal of the step that comes now, and whether it is a substitute.
+    fn keep_text(&mut self, text: &[u8], is_answer: bool) -> Result<(), AllocError> {
         let step = self.step;
         for found in &mut self.found {
             if found.step == step {
+                found.is_answer = is_answer;
                 found.text = Vec::from_slice(self.alloc, text)?;
             }
         }
@@ -209,6 +213,17 @@ fn origin_of(number: u64, fresh: u64, answers: u64) -> Origin {
     }
 }
 
+/// Whether a goal waits for an answer to an exception.
+fn is_substitute<H: Views>(host: &H, goal: GoalNo) -> Result<bool, AllocError> {
+    Ok(match host.goals_from(goal, 1)?.as_slice() {
+        [view, ..] if view.number.0 == goal.0 => match view.task {
+            TaskKind::Substitutes => true,
+            TaskKind::Monitor | TaskKind::Reduces => false,
+        },
+        _ => false,
+    })
+}
+
 impl<H: UnbookedHost + Views> StepWatch<H> for Finder {
     fn before(&mut self, host: &mut H, goal: GoalNo, _clause: ClauseNo) -> Result<(), AllocError> {
         self.step = self.step.saturating_add(1);
@@ -221,8 +236,9 @@ impl<H: UnbookedHost + Views> StepWatch<H> for Finder {
         if self.limit.is_none() && self.is_limit_now() {
             self.limit = Some(host.usage());
         }
+        let is_answer = is_substitute(host, goal)?;
         match host.goal_text(goal, Extent::Cut)? {
-            Some(text) => self.keep_text(text.as_slice()),
+            Some(text) => self.keep_text(text.as_slice(), is_answer),
             None => Ok(()),
         }
     }

@@ -3,7 +3,11 @@
 use crate::called::{Called, called_by};
 use crate::clauses::{ClausePlace, clause_at};
 use crate::finder::{Found, Origin};
+use crate::judged::{judged, judged_answer};
+use crate::kind::Kind;
 use kl1_lines::put_decimal;
+use kl1_model::limits::MOST_NAME_BYTES;
+use kl1_shown::parse_print;
 use kl1_watch::{Note, Notes};
 use std::alloc::{AllocError, Global};
 
@@ -47,11 +51,7 @@ fn note_text(
         Origin::Answer => out.extend_from_slice(b" (for the answer to an exception)")?,
         Origin::Reports => out.extend_from_slice(b" (the rest of a shoen's reports)")?,
         Origin::Exception => {
-            let kind: &[u8] = if found.is_by_limit() {
-                b"exhaustion"
-            } else {
-                kind_of(alloc, found)?
-            };
+            let kind = kind_of(alloc, found)?.word();
             out.extend_from_slice(b"exception(")?;
             out.extend_from_slice(kind)?;
             out.push(b',')?;
@@ -62,24 +62,19 @@ fn note_text(
     Ok(out)
 }
 
-/// The kind of the exception of a goal that was reduced by no clause, or `_` if more than one may be.
-fn kind_of(alloc: Global, found: &Found) -> Result<&'static [u8], AllocError> {
-    Ok(match called_by(alloc, found.text.as_slice())? {
-        Some(
-            Called {
-                module: Some(module),
-                ..
-            },
-        ) if module.unpacked().as_slice() != b"shoen".as_slice() => b"failure",
-        Some(
-            Called {
-                module: None,
-                predicate,
-                ..
-            },
-        ) if predicate.unpacked().as_slice() == b"=".as_slice() => b"failure",
-        _ => b"_",
-    })
+/// The kind of an exception. Its goal was to do something: if that isn't wrong, a limit would have been passed.
+fn kind_of(alloc: Global, found: &Found) -> Result<Kind, AllocError> {
+    if found.is_by_limit() {
+        return Ok(Kind::Exhaustion);
+    }
+    let parsed = parse_print(alloc, found.text.as_slice())?;
+    let nodes = parsed.nodes.as_slice();
+    let judged = if found.is_answer {
+        judged_answer(nodes)
+    } else {
+        judged(alloc, MOST_NAME_BYTES, nodes, parsed.is_whole)?
+    };
+    Ok(judged.raised())
 }
 
 /// Puts a variable's name in its clause, and the clause's place, after the bytes, if the clause is known.

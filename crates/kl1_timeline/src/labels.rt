@@ -2,9 +2,10 @@
 
 use kl1_lines::put_decimal;
 use kl1_shown::parse_print;
+use kl1_steps::split_term;
 use kl1_term::Node;
 use kl1_text::{AtomText, put_atom, put_int};
-use kl1_trace_work::{MOST_TEXT, put_front, split_term};
+use kl1_trace_work::{MOST_TEXT, put_front};
 use std::alloc::{AllocError, Global};
 
 /// The most bytes of a label.

@@ -8,8 +8,8 @@ use kl1_lines::put_decimal;
 use kl1_model::Condition;
 use kl1_steps::Called;
 use kl1_trace_work::{
-    Calling, MOST_TEXT, NewGoal, Next, Pattern, Predicates, Seen, put_kind, put_name, put_readable,
-    word_of,
+    Calling, MOST_TEXT, NewGoal, Next, Pattern, Predicates, Seen, is_spent, put_kind, put_name,
+    put_readable,
 };
 use kl1_user_events::{Extent, GoalNo, ShoenNo, TaskKind};
 use std::alloc::{AllocError, Global};
@@ -186,7 +186,7 @@ impl Timeline {
         seen: &Seen,
         lane: usize,
     ) -> Result<(), AllocError> {
-        let mark = if 0 < seen.raised {
+        let mark = if seen.raised.is_some() {
             Mark::Exception
         } else if is_process(predicates.calling(seen.step.predicate)) {
             Mark::Reduction
@@ -228,21 +228,24 @@ impl Timeline {
         Ok(())
     }
 
-    /// Puts what shoens reported in a step to the others.
-    fn put_reports(&mut self, predicates: &Predicates, seen: &Seen) -> Result<(), AllocError> {
+    /// Puts what became of shoens in a step to the others.
+    fn put_reports(&mut self, seen: &Seen) -> Result<(), AllocError> {
         let step = seen.step.number;
         for shoen in seen.opened.as_slice() {
             self.put_report(step, shoen.number, b"started", false)?;
+            if is_spent(shoen.condition) {
+                self.put_report(step, shoen.number, b"exhausted", false)?;
+            }
         }
-        if 0 < seen.raised {
+        if let Some(raised) = &seen.raised {
             let mut text = Vec::new(self.alloc);
-            put_kind(predicates, seen, &mut text)?;
+            put_kind(raised, &mut text)?;
             self.put_report(step, seen.step.goal.shoen, text.as_slice(), true)?;
         }
-        for shoen in seen.changed.as_slice() {
-            self.put_report(step, shoen.number, word_of(shoen.condition), false)?;
-            if let Condition::Aborted = shoen.condition {
-                self.drawn.end_all(shoen.number, step);
+        for change in seen.changed.as_slice() {
+            self.put_report(step, change.shoen, change.word(), false)?;
+            if let Condition::Aborted = change.to {
+                self.drawn.end_all(change.shoen, step);
             }
         }
         Ok(())
@@ -281,7 +284,7 @@ impl Timeline {
         for goal in seen.woken.as_slice() {
             self.drawn.wake(goal.0, step, place)?;
         }
-        self.put_reports(predicates, seen)?;
+        self.put_reports(seen)?;
         Ok(!self.pattern.is_over(step))
     }
 }

@@ -1,46 +1,15 @@
-// What an expression comes to.
+// What goals that compute come to.
 
 use crate::prints::Computing;
 use kl1_lines::only_number;
-use kl1_term::Node;
-use std::alloc::{AllocError, Global};
+use kl1_model::Number;
+use kl1_steps::{operated, operator_named};
 
 /// What an operator makes of two numbers, if it is one and that is a number.
-pub fn computed(name: &[u8], left: i64, right: i64) -> Option<i64> {
-    match name {
-        b"+" => left.checked_add(right),
-        b"-" => left.checked_sub(right),
-        b"*" => left.checked_mul(right),
-        b"/" => left.checked_div(right),
-        // The least integer has a remainder though it has no quotient.
-        b"mod" if right == -1 => Some(0),
-        b"mod" => left.checked_rem(right),
-        _ => None,
-    }
-}
-
-/// What the expression of these nodes comes to, if that is a number.
-pub fn value_of(alloc: Global, nodes: &[Node]) -> Result<Option<i64>, AllocError> {
-    let mut values: Vec<i64> = Vec::new(alloc);
-    // The operands of an operator stand after it.
-    for node in nodes.iter().rev() {
-        match node {
-            Node::Integer(number) => values.push(*number)?,
-            Node::Structure(name, 2) => {
-                let (Some(left), Some(right)) = (values.pop(), values.pop()) else {
-                    return Ok(None);
-                };
-                match computed(name.unpacked().as_slice(), left, right) {
-                    Some(value) => values.push(value)?,
-                    None => return Ok(None),
-                }
-            }
-            _ => return Ok(None),
-        }
-    }
-    match values.as_slice() {
-        [value] => Ok(Some(*value)),
-        _ => Ok(None),
+fn computed(name: &[u8], left: i64, right: i64) -> Option<i64> {
+    match operated(operator_named(name)?, left, right) {
+        Number::Value(value) => Some(value),
+        Number::Overflow | Number::ZeroDivisor => None,
     }
 }
 

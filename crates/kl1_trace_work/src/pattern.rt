@@ -194,7 +194,7 @@ impl Pattern {
 
     /// Whether a step is told of a goal that calls this.
     pub fn has(&self, seen: &Seen, called: Option<&Called>) -> bool {
-        if self.has_exception && seen.raised == 0 {
+        if self.has_exception && seen.raised.is_none() {
             return false;
         }
         self.may_have(&seen.step, called)

@@ -1,5 +1,9 @@
 // Which predicates the goals of an account call.
 
+ghost use Rattle.std.specs.Prelude.{◌≡◌};
+ghost use Rattle.kl1_trace_work.specs.Raising.{is_monitor};
+
+use crate::raised::has_substitute;
 use crate::seen::{NewGoal, Next};
 use kl1_command::Views;
 use kl1_shown::parse_print;
@@ -117,10 +121,10 @@ impl Predicates {
     }
 
     /// How much is read of the text of a goal that calls what is at a place. What is shown stands in its first `most` bytes; of a goal that
-    /// isn't known to call a predicate of a module it may be a side of an equation, which ends with its text.
+    /// isn't known to call a predicate of a user's module it may be a side of an equation or a control stream, which ends with its text.
     pub fn extent_of(&self, place: usize, most: usize) -> Extent {
         match self.called(place) {
-            Some(called) if called.module.is_some() => Extent::AtMost(most),
+            Some(called) if has_clauses(called) => Extent::AtMost(most),
             _ => Extent::Cut,
         }
     }
@@ -253,6 +257,14 @@ impl Predicates {
         }
     }
 
+    /// Whether the predicate of a place is of `shoen`, which opens shoens.
+    pub fn is_of_shoen(&self, place: usize) -> bool {
+        match self.called(place) {
+            Some(called) => called.module.is_some() && !has_clauses(called),
+            None => false,
+        }
+    }
+
     /// Takes goals of these predicates.
     fn take_known(
         &mut self,
@@ -286,21 +298,14 @@ impl Predicates {
 }
 
 /// Whether a goal is the monitor of a shoen.
-pub fn is_monitor(goal: &GoalView) -> bool {
+pub fn is_monitor(goal: &GoalView) -> bool
+    ensures { result ≡ is_monitor goal.now }
+{
     match goal.task {
         TaskKind::Monitor => true,
-        _ => false,
+        TaskKind::Reduces => false,
+        TaskKind::Substitutes => false,
     }
-}
-
-/// Whether a substitute is among goals.
-fn has_substitute(goals: &[GoalView]) -> bool {
-    for goal in goals {
-        if let TaskKind::Substitutes = goal.task {
-            return true;
-        }
-    }
-    false
 }
 
 /// What a goal calls, if it is known.

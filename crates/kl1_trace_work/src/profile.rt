@@ -131,7 +131,7 @@ impl Profile {
             reductions: 1,
             new: reduced_among(new) as u64,
             waited: 0,
-            exceptions: seen.raised,
+            exceptions: if seen.raised.is_some() { 1 } else { 0 },
         };
         add_at(&mut self.counts, seen.step.predicate, own)?;
         add_waiting(&mut self.counts, new)?;

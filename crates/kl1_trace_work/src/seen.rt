@@ -1,7 +1,10 @@
 // What is seen of a step.
 
+use crate::changes::Change;
 use crate::predicates::Predicates;
 use kl1_command::{UnbookedHost, Views};
+use kl1_steps::Kind;
+use kl1_term::Node;
 use kl1_user_events::{ClauseNo, GoalNo, GoalView, ShoenView};
 use std::alloc::AllocError;
 
@@ -23,6 +26,14 @@ pub struct Next {
     pub clause: ClauseNo,
 }
 
+/// An exception.
+#[derive(Drop)]
+pub struct Raised {
+    pub kind: Kind,
+    /// What a monitor read that is no message; `None` if it isn't known, or if the exception is of the goal of its step.
+    pub message: Option<Vec<Node>>,
+}
+
 /// What is seen of a step.
 #[derive(Drop)]
 pub struct Seen {
@@ -30,14 +41,15 @@ pub struct Seen {
     /// The text of the goal before the step, if that was asked for: of a predicate of a module at most `MOST_TEXT` bytes, of others as many
     /// as a reply has of a value.
     pub text: Option<Vec<u8>>,
-    /// The goals that are new, in order of their numbers, and how many of them wait for an answer to an exception.
+    /// The goals that are new, in order of their numbers.
     pub new: Vec<NewGoal>,
-    pub raised: u64,
+    /// The exception that it raised, if it raised one, be that reported or not.
+    pub raised: Option<Raised>,
     /// The goals that couldn't step before and can now, if that was asked for.
     pub woken: Vec<GoalNo>,
-    /// The shoens that are new, and those in another state than before.
+    /// The shoens that are new, and those in another state than before, in the order in which they came into it.
     pub opened: Vec<ShoenView>,
-    pub changed: Vec<ShoenView>,
+    pub changed: Vec<Change>,
     /// How many goals there are after it, monitors not among them.
     pub alive: u64,
 }

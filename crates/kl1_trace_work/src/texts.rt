@@ -2,9 +2,8 @@
 
 use crate::predicates::{Calling, Predicates};
 use crate::prints::{Computing, computing_in, may_have_operators, sides_of};
-use crate::seen::Seen;
+use crate::seen::{Raised, Seen};
 use kl1_lines::put_decimal;
-use kl1_model::Condition;
 use kl1_shown::{infix_text, parse_print};
 use kl1_steps::{Called, ClausePlace, clause_at, put_clause};
 use kl1_term::Node;
@@ -61,22 +60,6 @@ pub struct Texts<'a> {
     pub names: Names,
     pub clauses: &'a [ClausePlace],
     pub files: &'a [&'a [u8]],
-}
-
-/// The kind of the exception that a goal by a clause's number raises, or `_` if more than one may be.
-fn kind_of(clause: u64, called: Option<&Called>) -> &'static [u8] {
-    // A clause was to be committed to, but a limit would have been passed.
-    if 0 < clause {
-        return b"exhaustion";
-    }
-    match called {
-        Some(called) => match called.module {
-            Some(module) if module.unpacked().as_slice() != b"shoen".as_slice() => b"failure",
-            None if called.predicate.unpacked().as_slice() == b"=".as_slice() => b"failure",
-            _ => b"_",
-        },
-        None => b"_",
-    }
 }
 
 impl Texts<'_> {
@@ -193,46 +176,39 @@ impl Texts<'_> {
         out.extend_from_slice(b"-")
     }
 
-    /// Puts the exception of a step after the bytes, at most `most` of its goal's.
+    /// Puts the exception of a step after the bytes, at most `most` of its goal's, or of what else it is of.
     pub fn put_exception(
         &self,
-        predicates: &Predicates,
         seen: &Seen,
+        raised: &Raised,
         most: usize,
         out: &mut Vec<u8>,
     ) -> Result<(), AllocError> {
-        let called = predicates.called(seen.step.predicate);
         out.extend_from_slice(b"exception(")?;
-        out.extend_from_slice(kind_of(seen.step.clause.0, called))?;
-        if let Some(text) = &seen.text {
-            out.push(b',')?;
-            self.put_term(text.as_slice(), most, out)?;
+        out.extend_from_slice(raised.kind.word())?;
+        match (&raised.message, &seen.text) {
+            (Some(message), _) => {
+                out.push(b',')?;
+                self.put_nodes(message.as_slice(), most, out)?;
+            }
+            (None, Some(text)) => {
+                out.push(b',')?;
+                self.put_term(text.as_slice(), most, out)?;
+            }
+            (None, None) => {}
         }
         out.push(b')')?;
         Ok(())
     }
 }
 
-/// Puts the kind of the exception of a step after the bytes, or just that it is one.
-pub fn put_kind(predicates: &Predicates, seen: &Seen, out: &mut Vec<u8>) -> Result<(), AllocError> {
-    let called = predicates.called(seen.step.predicate);
-    let kind = kind_of(seen.step.clause.0, called);
-    out.extend_from_slice(if kind == b"_".as_slice() {
-        b"exception"
+/// Puts the kind of an exception after the bytes, or just that it is one.
+pub fn put_kind(raised: &Raised, out: &mut Vec<u8>) -> Result<(), AllocError> {
+    out.extend_from_slice(if raised.kind.is_known() {
+        raised.kind.word()
     } else {
-        kind
+        b"exception"
     })
-}
-
-/// The word for a shoen that came into this state.
-pub fn word_of(condition: Condition) -> &'static [u8] {
-    match condition {
-        Condition::Terminated => b"terminated",
-        Condition::Aborted => b"aborted",
-        Condition::Stopped => b"stopped",
-        Condition::Exhausted => b"exhausted",
-        Condition::Running => b"resumed",
-    }
 }
 
 /// Puts the name under which a goal is counted after the bytes: `m:p/2`, that of a built-in goal, or what else it is.

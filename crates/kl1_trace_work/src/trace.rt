@@ -1,19 +1,22 @@
 // The lines of a trace.
 
+ghost use Rattle.std.specs.Prelude.{◌≡◌};
+ghost use Rattle.kl1_trace_work.specs.Raising.{binds};
+
+use crate::bound::bound_by;
+use crate::changes::is_spent;
 use crate::columns::{put_blanks, put_front, put_right};
-use crate::computed::{value_in, value_of};
-use crate::equated::{equated, split_term};
+use crate::computed::value_in;
 use crate::pattern::Pattern;
 use crate::predicates::Predicates;
 use crate::prints::{computing_in, sides_of, variable_in};
 use crate::seen::{NewGoal, Next, Seen};
-use crate::texts::{MOST_READ, Texts, word_of};
+use crate::texts::{MOST_READ, Texts};
 use kl1_command::Views;
 use kl1_lines::put_decimal;
-use kl1_shown::parse_print;
-use kl1_term::Node;
 use kl1_text::put_int;
-use kl1_user_events::{GoalNo, ShoenNo, TaskKind};
+use kl1_user_events::{GoalNo, ShoenNo, ShoenView, TaskKind};
+use kl1_watch::holder_of;
 use std::alloc::{AllocError, Global};
 use std::io;
 use std::io::Write;
@@ -66,6 +69,31 @@ fn put_report(shoen: ShoenNo, text: &[u8], out: &mut Vec<u8>) -> Result<(), Allo
     put_front(text, MOST_GOAL.saturating_add(50), out)?;
     out.push(b'\n')?;
     Ok(())
+}
+
+/// Puts the line that tells that a shoen which is new has used up its allowance after the bytes, if it had none.
+fn put_spent(shoen: &ShoenView, out: &mut Vec<u8>) -> Result<(), AllocError> {
+    if is_spent(shoen.condition) {
+        put_report(shoen.number, b"exhausted", out)
+    } else {
+        Ok(())
+    }
+}
+
+/// Whether the step of a goal of this task binds what the goal says: an answer only gives way to its goal, and an exception binds nothing.
+fn binds(task: TaskKind, has_raised: bool) -> bool
+    ensures { result ≡ binds task has_raised }
+{
+    match task {
+        TaskKind::Reduces => !has_raised,
+        TaskKind::Monitor => false,
+        TaskKind::Substitutes => false,
+    }
+}
+
+/// Whether a print begins as those of built-in goals that bind.
+fn may_bind(print: &[u8]) -> bool {
+    print.starts_with(b"'") || print.starts_with(b"atom_from(")
 }
 
 /// Puts the lines of goals that wake after the bytes.
@@ -129,13 +157,13 @@ impl<'a, W: Write + Drop> Trace<'a, W> {
         Ok(())
     }
 
-    /// Puts what the goal of a step binds after the bytes, if it is an equation that has a solution, or computes a number.
+    /// Puts what the goal of a step binds after the bytes, if it is a built-in goal that binds and raises no exception.
     fn put_bindings(&self, seen: &Seen, out: &mut Vec<u8>) -> Result<(), AllocError> {
         let Some(text) = &seen.text else {
             return Ok(());
         };
         let print = text.as_slice();
-        if 0 < seen.raised || !print.starts_with(b"'") {
+        if !binds(seen.step.goal.task, seen.raised.is_some()) || !may_bind(print) {
             return Ok(());
         }
         if let Some((left, right)) = sides_of(print) {
@@ -180,51 +208,31 @@ impl<'a, W: Write + Drop> Trace<'a, W> {
 
     /// Puts what a printed goal binds after the bytes, as it is seen in the terms of its two sides.
     fn put_equated(&self, print: &[u8], out: &mut Vec<u8>) -> Result<(), AllocError> {
-        let alloc = self.texts.alloc;
-        let parsed = parse_print(alloc, print)?;
-        let [Node::Structure(name, 2), sides @ ..] = parsed.nodes.as_slice() else {
-            return Ok(());
-        };
-        let (left, rest) = split_term(sides);
-        let (right, _none) = split_term(rest);
-        let mut value = Vec::new(alloc);
-        let name = name.unpacked();
-        let is_equation = name.as_slice() == b"=".as_slice();
-        if name.as_slice() == b":=".as_slice() {
-            if let Some(number) = value_of(alloc, right)? {
-                value.push(Node::Integer(number))?;
-            }
-        }
-        let right = if is_equation { right } else { value.as_slice() };
-        let all = equated(alloc, left, right)?;
+        let all = bound_by(self.texts.alloc, print)?;
         for one in all.as_slice() {
             put_sign(b"= ", out)?;
             self.texts.names.put_variable(one.variable, out)?;
             out.extend_from_slice(b" <- ")?;
-            self.texts.put_nodes(one.value, MOST_GOAL, out)?;
+            self.texts.put_nodes(one.value.as_slice(), MOST_GOAL, out)?;
             out.push(b'\n')?;
         }
         Ok(())
     }
 
-    /// Puts what shoens reported in a step after the bytes, as far as it is seen.
-    fn put_reports(
-        &self,
-        predicates: &Predicates,
-        seen: &Seen,
-        out: &mut Vec<u8>,
-    ) -> Result<(), AllocError> {
+    /// Puts what became of shoens in a step after the bytes.
+    fn put_reports(&self, seen: &Seen, out: &mut Vec<u8>) -> Result<(), AllocError> {
         for shoen in seen.opened.as_slice() {
             put_report(shoen.number, b"started", out)?;
+            put_spent(shoen, out)?;
         }
-        if 0 < seen.raised {
+        if let Some(raised) = &seen.raised {
             let mut text = Vec::new(self.texts.alloc);
             self.texts
-                .put_exception(predicates, seen, MOST_GOAL, &mut text)?;
+                .put_exception(seen, raised, MOST_GOAL, &mut text)?;
             put_report(seen.step.goal.shoen, text.as_slice(), out)?;
         }
-        for shoen in seen.changed.as_slice() {
-            put_report(shoen.number, word_of(shoen.condition), out)?;
+        for change in seen.changed.as_slice() {
+            put_report(change.shoen, change.word(), out)?;
         }
         Ok(())
     }
@@ -256,13 +264,18 @@ impl<'a, W: Write + Drop> Trace<'a, W> {
         Ok(())
     }
 
-    /// Puts what a new goal waits for after the bytes.
+    /// Puts what a new goal waits for after the bytes: a shoen that stands still, or else variables. What a goal would wait for in a shoen
+    /// that went on isn't told: it may have a clause that takes it.
     fn put_awaited<H: Views>(
         &self,
         host: &H,
         goal: &NewGoal,
         out: &mut Vec<u8>,
     ) -> Result<(), AllocError> {
+        if let Some(holder) = holder_of(host, goal.view.shoen)? {
+            out.extend_from_slice(b"  held back by shoen ")?;
+            return put_decimal(out, holder.0);
+        }
         let mut words: &[u8] = b"  waits for ";
         if let Some(variables) = host.awaited(goal.view.number)? {
             for variable in variables.as_slice() {
@@ -270,6 +283,18 @@ impl<'a, W: Write + Drop> Trace<'a, W> {
                 self.texts.names.put_variable(u64::from(*variable), out)?;
                 words = b", ";
             }
+        }
+        Ok(())
+    }
+
+    /// Puts what became of shoens that opened otherwise than in a step after the bytes: an event tells that they started.
+    pub fn put_all_opened(
+        &self,
+        opened: &[ShoenView],
+        out: &mut Vec<u8>,
+    ) -> Result<(), AllocError> {
+        for shoen in opened {
+            put_spent(shoen, out)?;
         }
         Ok(())
     }
@@ -303,7 +328,7 @@ impl<'a, W: Write + Drop> Trace<'a, W> {
         self.put_all_new(host, predicates, seen.new.as_slice(), &mut rest)?;
         self.put_bindings(seen, &mut rest)?;
         put_woken(seen.woken.as_slice(), &mut rest)?;
-        self.put_reports(predicates, seen, &mut rest)?;
+        self.put_reports(seen, &mut rest)?;
         out.extend_from_slice(rest.as_slice())?;
         Ok(out)
     }

@@ -1,9 +1,12 @@
 // Which goals are held back by shoens.
 
-ghost use Rattle.std.specs.Prelude.{◌<◌};
+ghost use Rattle.std.specs.Prelude.{◌<◌, ◌≡◌};
+ghost use Rattle.kl1_watch.specs.Still.{is_left};
 
+use kl1_command::Views;
 use kl1_model::Condition;
-use kl1_user_events::{GoalView, ShoenView, TaskKind};
+use kl1_user_events::{GoalView, ShoenNo, ShoenView, TaskKind};
+use std::alloc::AllocError;
 
 /// Whether a shoen in this state lets its goals go on.
 fn is_running(condition: Condition) -> bool {
@@ -80,7 +83,7 @@ fn parent_at(shoens: &[ShoenView], place: u64) -> u64 {
 }
 
 /// Whether the goals of a shoen aren't held back by it or a shoen above it.
-fn goes_on(shoens: &[ShoenView], is_numbered: bool, shoen: u64) -> bool {
+pub(crate) fn goes_on(shoens: &[ShoenView], is_numbered: bool, shoen: u64) -> bool {
     let mut number = shoen;
     // Each parent has a lesser number.
     for _ in 0..shoen {
@@ -103,10 +106,33 @@ pub(crate) fn waits_in(shoens: &[ShoenView], is_numbered: bool, goal: &GoalView)
     }
 }
 
-/// Whether a goal that is shown waits for an answer alone.
-pub(crate) fn is_left_in(shoens: &[ShoenView], is_numbered: bool, goal: &GoalView) -> bool {
+/// Whether a goal that is shown is a substitute that can't step: it waits for an answer, or its shoen holds it back.
+pub(crate) fn is_left(goal: &GoalView) -> bool
+    ensures { result ≡ is_left goal.now }
+{
     match goal.task {
-        TaskKind::Substitutes => !goal.can_step && goes_on(shoens, is_numbered, goal.shoen.0),
-        TaskKind::Monitor | TaskKind::Reduces => false,
+        TaskKind::Substitutes => !goal.can_step,
+        TaskKind::Monitor => false,
+        TaskKind::Reduces => false,
     }
+}
+
+/// The innermost shoen that lets the goals of a shoen not go on, that one itself or one above it.
+pub fn holder_of<H: Views>(host: &H, shoen: ShoenNo) -> Result<Option<ShoenNo>, AllocError> {
+    let mut number = shoen;
+    // Each parent has a lesser number.
+    for _ in 0..shoen.0 {
+        let page = host.shoens_from(number, 1)?;
+        let [view, ..] = page.as_slice() else {
+            return Ok(None);
+        };
+        if !is_running(view.condition) {
+            return Ok(Some(number));
+        }
+        match view.parent {
+            Some(parent) => number = parent,
+            None => return Ok(None),
+        }
+    }
+    Ok(None)
 }

@@ -1,5 +1,6 @@
 // The lines that tell of an account that stands still.
 
+use crate::alive::alive_in;
 use crate::circle::put_circle;
 use crate::holders::Holders;
 use crate::limit::put_limit;
@@ -44,7 +45,7 @@ pub fn put_standing<H: Views>(
     put_waiting(alloc, host, standing.waiting.as_slice(), told, out)?;
     put_more(standing, out)?;
     put_circle(alloc, standing.waiting.as_slice(), out)?;
-    put_shoens(standing, told, out)?;
+    put_shoens(host, standing, told, out)?;
     match &told.notes.limit {
         Some(usage) => put_limit(usage, told.program, out),
         None => Ok(()),
@@ -64,7 +65,12 @@ fn put_count(standing: &Standing, program: &[u8], out: &mut Vec<u8>) -> Result<(
 }
 
 /// Puts the lines of exceptions without an answer and of shoens that hold their goals back after the bytes.
-fn put_shoens(standing: &Standing, told: &Told<'_>, out: &mut Vec<u8>) -> Result<(), AllocError> {
+fn put_shoens<H: Views>(
+    host: &mut H,
+    standing: &Standing,
+    told: &Told<'_>,
+    out: &mut Vec<u8>,
+) -> Result<(), AllocError> {
     let mut count: u64 = 0;
     for goal in standing.unanswered.as_slice() {
         // The reports of the console's shoens are told anyway.
@@ -77,7 +83,8 @@ fn put_shoens(standing: &Standing, told: &Told<'_>, out: &mut Vec<u8>) -> Result
     }
     put_left_out(told.program, b"unanswered exceptions", count, out)?;
     for shoen in standing.still.iter().take(MOST_SHOENS as usize) {
-        put_still(shoen, told.program, out)?;
+        let alive = alive_in(host, shoen.number)?;
+        put_still(shoen, alive, told.program, out)?;
     }
     let still = standing.still.len() as u64;
     put_left_out(told.program, b"stopped or exhausted shoens", still, out)
@@ -283,8 +290,13 @@ fn word_of(condition: Condition) -> &'static [u8] {
     }
 }
 
-/// Puts the line of a shoen that holds its goals back after the bytes.
-fn put_still(shoen: &ShoenView, program: &[u8], out: &mut Vec<u8>) -> Result<(), AllocError> {
+/// Puts the line of a shoen that holds its goals back after the bytes: those are all that are in it and below it.
+fn put_still(
+    shoen: &ShoenView,
+    alive: u64,
+    program: &[u8],
+    out: &mut Vec<u8>,
+) -> Result<(), AllocError> {
     out.extend_from_slice(program)?;
     out.extend_from_slice(b": shoen ")?;
     put_decimal(out, shoen.number.0)?;
@@ -299,7 +311,7 @@ fn put_still(shoen: &ShoenView, program: &[u8], out: &mut Vec<u8>) -> Result<(),
     out.extend_from_slice(b" of ")?;
     put_decimal(out, shoen.allowance)?;
     out.extend_from_slice(b", goals alive: ")?;
-    put_decimal(out, shoen.alive)?;
+    put_decimal(out, alive)?;
     out.push(b'\n')?;
     Ok(())
 }

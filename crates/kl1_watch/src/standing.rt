@@ -1,10 +1,14 @@
 // What is told of an account that stands still.
 
+ghost use Rattle.std.specs.Prelude.{◌≡◌};
+ghost use Rattle.kl1_watch.specs.Still.{is_stopped, is_spent};
+
 use crate::holders::{Holders, holders_of, variables_of};
 use crate::ordered::ordered;
 use crate::snapshot::{goals_in, shoens_in};
 use crate::waiting::{still_among, unanswered_among, waiting_among};
 use kl1_command::Views;
+use kl1_model::Condition;
 use kl1_user_events::{GoalNo, GoalView, ShoenView};
 use std::alloc::{AllocError, Global};
 
@@ -29,12 +33,33 @@ pub struct Standing {
     pub count: u64,
     /// The first of them, those first of which no other goal has the variables.
     pub waiting: Vec<WaitingGoal>,
-    /// The goals in place of those that raised an exception that nobody has answered, and that no shoen holds back.
+    /// The goals in place of those that raised an exception that nobody has answered.
     pub unanswered: Vec<GoalView>,
+    /// How many of them no shoen holds back.
+    pub free: u64,
     /// The shoens that live, and hold their goals back.
     pub still: Vec<ShoenView>,
     /// All shoens.
     pub shoens: Vec<ShoenView>,
+}
+
+/// Whether a shoen is stopped.
+fn is_stopped(shoen: &ShoenView) -> bool
+    ensures { result ≡ is_stopped shoen.now }
+{
+    match shoen.condition {
+        Condition::Stopped => true,
+        Condition::Terminated | Condition::Aborted | Condition::Exhausted | Condition::Running => {
+            false
+        }
+    }
+}
+
+/// Whether goals are left in exhausted shoens alone: so many wait for variables, so many for an answer, and these shoens hold theirs back.
+pub fn is_spent(waiting: u64, free: u64, still: &[ShoenView]) -> bool
+    ensures { result ≡ is_spent waiting free still.now }
+{
+    waiting == 0 && free == 0 && 0 < still.len() && !still.iter().any(|shoen| is_stopped(shoen))
 }
 
 /// These variables, each with the other goals that have it.
@@ -95,13 +120,14 @@ fn standing_over<H: Views>(
     let all = waiting_among(alloc, shoens, goals)?;
     let order = ordered(alloc, host, goals, all.as_slice())?;
     let waiting = front_of(alloc, host, goals, order.as_slice(), most)?;
-    let unanswered = unanswered_among(alloc, shoens, goals)?;
+    let unanswered = unanswered_among(alloc, host, shoens, goals)?;
     let still = still_among(alloc, shoens)?;
     let copies = Vec::from_slice(alloc, shoens)?;
     Ok(Standing {
         count: all.len() as u64,
         waiting,
-        unanswered,
+        unanswered: unanswered.goals,
+        free: unanswered.free,
         still,
         shoens: copies,
     })

@@ -1,9 +1,8 @@
 // What standard error is told, and the program's status.
 
 use crate::run::after::After;
-use kl1_model::Condition;
 use kl1_run_work::Ending;
-use kl1_watch::Standing;
+use kl1_watch::{Standing, is_spent};
 use kl1_words::Fault;
 use kl1_world::Rules;
 use std::io;
@@ -28,19 +27,6 @@ pub fn used_of(rules: Rules, files: u64, steps: u64) -> Used {
     }
 }
 
-/// Whether goals stand still in exhausted shoens alone: none waits, for a variable or for an answer.
-fn is_exhausted(standing: &Standing) -> bool {
-    if 0 < standing.count || !standing.unanswered.is_empty() {
-        return false;
-    }
-    for shoen in standing.still.as_slice() {
-        if let Condition::Exhausted = shoen.condition {
-            return true;
-        }
-    }
-    false
-}
-
 /// The status of a run after which goals are left that can't step.
 fn waiting_status(after: Option<&After>) -> u8 {
     match after {
@@ -49,7 +35,7 @@ fn waiting_status(after: Option<&After>) -> u8 {
                 standing: Some(standing),
                 ..
             },
-        ) if is_exhausted(standing) => 4,
+        ) if is_spent(standing.count, standing.free, standing.still.as_slice()) => 4,
         _ => 3,
     }
 }

@@ -63,7 +63,7 @@ pub fn tell_steps(
     let texts = texts_of(alloc, names, clauses.as_slice(), files.as_slice());
     let observers = observers_for(&asked.told, texts, rt.stderr())?;
     let is_waking = observers.is_waking();
-    let mut viewer = Viewer::new(alloc, &mut world, observers, is_waking)?;
+    let mut viewer = Viewer::new(alloc, &mut world, observers, is_waking, asked.rules)?;
     begin_picture(&mut world, &mut viewer)?;
     let _last = watch_first(&mut world, asked.steps, &mut viewer)?;
     finish(

@@ -5,7 +5,7 @@ use kl1_journal_entries::{Deed, entry_of, next_line};
 use kl1_lines::put_decimal;
 use kl1_model::{Message, Rules};
 use kl1_timeline::{Observers, draw_new};
-use kl1_trace_work::{NewGoal, Predicates, Trace, Viewer, Watched, watch_first, watch_step};
+use kl1_trace_work::{Anew, NewGoal, Predicates, Trace, Viewer, Watched, watch_first, watch_step};
 use kl1_user_events::{Event, Reply};
 use kl1_words::Fault;
 use std::alloc::{AllocError, Global};
@@ -90,26 +90,27 @@ fn put_event(event: &Event, reply: &Reply, out: &mut Vec<u8>) -> Result<(), Allo
     }
 }
 
-/// Puts the lines of goals that came up otherwise than in a step after these, and tells them, if steps are told.
+/// Puts the lines of what came up otherwise than in a step after these, and tells them, if steps are told.
 fn trace_new<H: Views, W: Write + Drop>(
     host: &mut H,
     trace: &mut Option<Trace<'_, W>>,
     predicates: &Predicates,
-    new: &[NewGoal],
+    new: &Anew,
     mut lines: Vec<u8>,
 ) -> Result<(), AllocError> {
     if let Some(trace) = trace {
-        trace.put_all_new(host, predicates, new, &mut lines)?;
+        trace.put_all_new(host, predicates, new.goals.as_slice(), &mut lines)?;
+        trace.put_all_opened(new.opened.as_slice(), &mut lines)?;
         trace.tell(lines.as_slice())?;
     }
     Ok(())
 }
 
-/// Tells goals that came up otherwise than in a step after lines, if steps are told.
+/// Tells what came up otherwise than in a step after lines, if steps are told.
 fn trace<H: Views, W: Write + Drop>(
     host: &mut H,
     viewer: &mut Viewer<Observers<'_, W>>,
-    new: &[NewGoal],
+    new: &Anew,
     lines: Vec<u8>,
 ) -> Result<(), AllocError> {
     trace_new(
@@ -138,19 +139,19 @@ fn draw<H: Views, W>(
 }
 
 impl<W: Write + Drop> Player<'_, W> {
-    /// Tells an event that isn't a step, and the goals that are new by it.
+    /// Tells an event that isn't a step, and what is new by it.
     fn tell<H: Views>(
         &mut self,
         host: &mut H,
         event: &Event,
         reply: &Reply,
-        new: &[NewGoal],
+        new: &Anew,
     ) -> Result<(), AllocError> {
         let mut lines = Vec::new(self.alloc);
         put_event(event, reply, &mut lines)?;
         lines.push(b'\n')?;
         trace(host, &mut self.viewer, new, lines)?;
-        draw(host, &mut self.viewer, new)
+        draw(host, &mut self.viewer, new.goals.as_slice())
     }
 
     /// Has an event done and told.
@@ -167,7 +168,7 @@ impl<W: Write + Drop> Player<'_, W> {
             return Ok(Done::Refused);
         }
         let new = self.viewer.look_anew(host)?;
-        self.tell(host, event, &reply, new.as_slice())?;
+        self.tell(host, event, &reply, &new)?;
         Ok(Done::More)
     }
 

@@ -114,7 +114,7 @@ fn tell_headed(
     let mut player = Player {
         alloc,
         rules: heading.rules,
-        viewer: Viewer::new(alloc, &mut world, observers, is_waking)?,
+        viewer: Viewer::new(alloc, &mut world, observers, is_waking, heading.rules)?,
     };
     let played = player.play(&mut world, rest, first)?;
     finish(
