@@ -106,21 +106,6 @@ pub fn change_of(before: &ShoenView, now: &ShoenView) -> Option<Change> {
     })
 }
 
-/// The shoens that are in another state than before, in order of their numbers.
-pub fn changed_among(
-    alloc: Global,
-    before: &[ShoenView],
-    now: &[ShoenView],
-) -> Result<Vec<Change>, AllocError> {
-    let mut changed = Vec::new(alloc);
-    for (old, shoen) in before.iter().zip(now.iter()) {
-        if let Some(change) = change_of(old, shoen) {
-            changed.push(change)?;
-        }
-    }
-    Ok(changed)
-}
-
 /// Changes in the order in which they come: terminations last, each after those of the shoens in it, which have greater numbers.
 pub fn in_order(alloc: Global, changed: &[Change]) -> Result<Vec<Change>, AllocError> {
     let mut ordered = Vec::new(alloc);

@@ -3,7 +3,7 @@
 ghost use Rattle.std.specs.Prelude.{◌≡◌};
 ghost use Rattle.kl1_trace_work.specs.Changes.{look_of};
 
-use crate::changes::{Change, Shoens, change_of, changed_among, in_order};
+use crate::changes::{Change, Shoens, change_of, in_order};
 use crate::waits::ALL;
 use kl1_command::Views;
 use kl1_user_events::{ShoenNo, ShoenView};
@@ -32,11 +32,11 @@ pub(crate) fn look_of(is_monitor: bool, is_told: bool, is_heard: bool) -> Look
     }
 }
 
-/// The shoens of an account by their numbers, from 1.
+/// The shoens of an account by their numbers, from 1, as they were seen last; `None` of those that were let go before.
 #[derive(Drop)]
 pub(crate) struct Tree {
     alloc: Global,
-    views: Vec<ShoenView>,
+    views: Vec<Option<ShoenView>>,
 }
 
 /// The place of a shoen's number.
@@ -60,9 +60,17 @@ impl Tree {
 
     /// Whether the console started a shoen.
     pub(crate) fn is_of_console(&self, shoen: ShoenNo) -> bool {
-        match self.views.get(place_of(shoen)) {
+        match self.view_of(shoen) {
             Some(view) => view.parent.is_none(),
             None => false,
+        }
+    }
+
+    /// How a shoen was seen last.
+    fn view_of(&self, shoen: ShoenNo) -> Option<&ShoenView> {
+        match self.views.get(place_of(shoen)) {
+            Some(Some(view)) => Some(view),
+            _ => None,
         }
     }
 
@@ -73,7 +81,7 @@ impl Tree {
         // Each parent has a lesser number.
         for _ in 0..self.views.len() {
             path.push(number)?;
-            let Some(view) = self.views.get(place_of(number)) else {
+            let Some(view) = self.view_of(number) else {
                 return Ok(path);
             };
             match view.parent {
@@ -84,36 +92,43 @@ impl Tree {
         Ok(path)
     }
 
+    /// Puts how a shoen is seen now, and answers how it was before, if it was seen.
+    fn put(&mut self, now: &ShoenView) -> Result<Option<ShoenView>, AllocError> {
+        let place = place_of(now.number);
+        if let Some(own) = self.views.get_mut(place) {
+            let was = *own;
+            *own = Some(*now);
+            return Ok(was);
+        }
+        self.views.resize(place, None)?;
+        self.views.push(Some(*now))?;
+        Ok(None)
+    }
+
+    /// Puts how shoens are seen now. Answers those that are new, and those in another state.
+    fn take(&mut self, views: &[ShoenView]) -> Result<Shoens, AllocError> {
+        let mut opened = Vec::new(self.alloc);
+        let mut changed: Vec<Change> = Vec::new(self.alloc);
+        for now in views {
+            match self.put(now)? {
+                Some(was) => {
+                    if let Some(change) = change_of(&was, now) {
+                        changed.push(change)?;
+                    }
+                }
+                None => opened.push(*now)?,
+            }
+        }
+        Ok(Shoens {
+            opened,
+            changed: in_order(self.alloc, changed.as_slice())?,
+        })
+    }
+
     /// Looks at all shoens. Answers those that are new, and those in another state.
     pub(crate) fn look_at_all<H: Views>(&mut self, host: &H) -> Result<Shoens, AllocError> {
         let views = host.shoens_from(ShoenNo(0), ALL)?;
-        let opened = views.as_slice().get(self.views.len()..).unwrap_or(&[]);
-        let changed = changed_among(self.alloc, self.views.as_slice(), views.as_slice())?;
-        let seen = Shoens {
-            opened: Vec::from_slice(self.alloc, opened)?,
-            changed: in_order(self.alloc, changed.as_slice())?,
-        };
-        self.views = views;
-        Ok(seen)
-    }
-
-    /// Looks at a shoen, and answers what became of it.
-    fn look_at<H: Views>(
-        &mut self,
-        host: &H,
-        shoen: ShoenNo,
-    ) -> Result<Option<Change>, AllocError> {
-        let page = host.shoens_from(shoen, 1)?;
-        let [now, ..] = page.as_slice() else {
-            return Ok(None);
-        };
-        let Some(before) = self.views.get_mut(place_of(shoen)) else {
-            return Ok(None);
-        };
-        let was = *before;
-        *before = *now;
-        let change = change_of(&was, now);
-        Ok(change)
+        self.take(views.as_slice())
     }
 
     /// Looks at those shoens that a reduction in a shoen may have changed: that one, those that it is in, and those that are new.
@@ -122,18 +137,14 @@ impl Tree {
         host: &H,
         shoen: ShoenNo,
     ) -> Result<Shoens, AllocError> {
+        let mut views = Vec::new(self.alloc);
         let path = self.path_of(shoen)?;
-        let mut changed: Vec<Change> = Vec::new(self.alloc);
         for number in path.as_slice() {
-            if let Some(change) = self.look_at(host, *number)? {
-                changed.push(change)?;
-            }
+            let page = host.shoens_from(*number, 1)?;
+            views.extend_from_slice(page.as_slice())?;
         }
         let opened = host.shoens_from(ShoenNo(self.count().saturating_add(1)), ALL)?;
-        self.views.extend_from_slice(opened.as_slice())?;
-        Ok(Shoens {
-            opened,
-            changed: in_order(self.alloc, changed.as_slice())?,
-        })
+        views.extend_from_slice(opened.as_slice())?;
+        self.take(views.as_slice())
     }
 }
