@@ -1,9 +1,9 @@
 // What goals do that are reduced by no clause.
 
 use crate::kind::Kind;
-use crate::sums::{Evaluated, evaluated};
+use crate::sums::{Evaluated, evaluated_term};
 use crate::terms::{is_named, split_term};
-use crate::unified::unified;
+use crate::unified::unified_sides;
 use kl1_model::Number;
 use kl1_model::limits::MOST_PRIORITY;
 use kl1_term::Node;
@@ -149,7 +149,7 @@ fn becomes(nodes: &[Node], value: i64) -> Judged {
 /// What `:=` does by its two sides.
 fn judged_sum(alloc: Global, sides: &[Node]) -> Result<Judged, AllocError> {
     let (target, expression) = split_term(sides);
-    Ok(match evaluated(alloc, expression)? {
+    Ok(match evaluated_term(alloc, expression)? {
         Evaluated::Comes(Number::Value(value)) => becomes(target, value),
         Evaluated::Comes(Number::Overflow) => Judged::Raises(Kind::Overflow),
         Evaluated::Comes(Number::ZeroDivisor) | Evaluated::Wrong => {
@@ -161,7 +161,7 @@ fn judged_sum(alloc: Global, sides: &[Node]) -> Result<Judged, AllocError> {
 
 /// What `=` does by its two sides. A front of them in which they don't differ doesn't tell.
 fn judged_equation(alloc: Global, sides: &[Node], is_whole: bool) -> Result<Judged, AllocError> {
-    Ok(if unified(alloc, sides)?.fails {
+    Ok(if unified_sides(alloc, sides)?.fails {
         Judged::Raises(Kind::Failure)
     } else if is_whole {
         Judged::Goes
@@ -172,7 +172,7 @@ fn judged_equation(alloc: Global, sides: &[Node], is_whole: bool) -> Result<Judg
 
 /// The name that a list of codes spells.
 #[derive(Drop)]
-struct Spelled {
+struct Spelling {
     text: Vec<u8>,
     found: Found,
 }
@@ -200,7 +200,7 @@ fn end_found(nodes: &[Node]) -> Found {
 }
 
 /// What a list of codes spells, in at most `most` cells: each cell goes before its element, and the first that isn't right decides.
-fn spelled(alloc: Global, most: usize, nodes: &[Node]) -> Result<Spelled, AllocError> {
+fn spelled(alloc: Global, most: usize, nodes: &[Node]) -> Result<Spelling, AllocError> {
     let mut text = Vec::new(alloc);
     let mut rest = nodes;
     // Each round takes a cell.
@@ -209,13 +209,13 @@ fn spelled(alloc: Global, most: usize, nodes: &[Node]) -> Result<Spelled, AllocE
             [Node::Structure(name, 2), element, others @ ..]
                 if is_named(name, b".") && text.len() < most => {
                 if let Node::Variable(_number) = element {
-                    return Ok(Spelled {
+                    return Ok(Spelling {
                         text,
                         found: Found::Waits,
                     });
                 }
                 let Some(byte) = byte_of(element) else {
-                    return Ok(Spelled {
+                    return Ok(Spelling {
                         text,
                         found: Found::Wrong,
                     });
@@ -226,7 +226,7 @@ fn spelled(alloc: Global, most: usize, nodes: &[Node]) -> Result<Spelled, AllocE
             _ => break,
         }
     }
-    Ok(Spelled {
+    Ok(Spelling {
         text,
         found: end_found(rest),
     })
@@ -278,7 +278,7 @@ pub fn execute_arguments(nodes: &[Node]) -> Option<&[Node]> {
 
 /// What a goal does that is to be reduced by no clause, by the nodes of its term, or by those that a print which was cut has.
 /// `most_spelled` is the most codes from which `atom_from` makes a name. A goal of a module that is reduced so fails.
-pub fn judged(
+pub fn judged_goal(
     alloc: Global,
     most_spelled: usize,
     nodes: &[Node],

@@ -3,7 +3,7 @@
 use crate::called::{Called, called_by};
 use crate::clauses::{ClausePlace, clause_at};
 use crate::finder::{Found, Origin};
-use crate::judged::{judged, judged_answer};
+use crate::judged::{judged_answer, judged_goal};
 use crate::kind::Kind;
 use kl1_lines::put_decimal;
 use kl1_model::limits::MOST_NAME_BYTES;
@@ -72,7 +72,7 @@ fn kind_of(alloc: Global, found: &Found) -> Result<Kind, AllocError> {
     let judged = if found.is_answer {
         judged_answer(nodes)
     } else {
-        judged(alloc, MOST_NAME_BYTES, nodes, parsed.is_whole)?
+        judged_goal(alloc, MOST_NAME_BYTES, nodes, parsed.is_whole)?
     };
     Ok(judged.raised())
 }

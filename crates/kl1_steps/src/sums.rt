@@ -148,7 +148,7 @@ fn computed(alloc: Global, term: &[Node]) -> Result<Evaluated, AllocError> {
 }
 
 /// What the expression comes to with which nodes begin.
-pub fn evaluated(alloc: Global, nodes: &[Node]) -> Result<Evaluated, AllocError> {
+pub fn evaluated_term(alloc: Global, nodes: &[Node]) -> Result<Evaluated, AllocError> {
     let (term, _rest) = split_term(nodes);
     match scanned(term) {
         Some(decided) => Ok(decided),

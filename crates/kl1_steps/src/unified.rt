@@ -198,7 +198,7 @@ impl<'a> Classes<'a> {
 }
 
 /// What comes of making the two terms equal with which nodes begin.
-pub fn unified(alloc: Global, sides: &[Node]) -> Result<Unified<'_>, AllocError> {
+pub fn unified_sides(alloc: Global, sides: &[Node]) -> Result<Unified<'_>, AllocError> {
     let mut classes = Classes::new(alloc, sides)?;
     let right = classes.ends.as_slice().first().copied().unwrap_or(0);
     classes.join_all(0, right)?;

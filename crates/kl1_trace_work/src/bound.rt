@@ -3,7 +3,7 @@
 use kl1_model::Number;
 use kl1_model::limits::MOST_NAME_BYTES;
 use kl1_shown::parse_print;
-use kl1_steps::{Evaluated, evaluated, named_by, split_term, unified};
+use kl1_steps::{Evaluated, evaluated_term, named_by, split_term, unified_sides};
 use kl1_term::Node;
 use std::alloc::{AllocError, Global};
 
@@ -25,7 +25,7 @@ fn constant(alloc: Global, variable: u64, node: Node) -> Result<Bound, AllocErro
 fn bound_by_sum(alloc: Global, sides: &[Node], all: &mut Vec<Bound>) -> Result<(), AllocError> {
     let (target, expression) = split_term(sides);
     if let [Node::Variable(variable)] = target {
-        if let Evaluated::Comes(Number::Value(value)) = evaluated(alloc, expression)? {
+        if let Evaluated::Comes(Number::Value(value)) = evaluated_term(alloc, expression)? {
             all.push(constant(alloc, *variable, Node::Integer(value))?)?;
         }
     }
@@ -38,7 +38,7 @@ fn bound_by_equation(
     sides: &[Node],
     all: &mut Vec<Bound>,
 ) -> Result<(), AllocError> {
-    let unified = unified(alloc, sides)?;
+    let unified = unified_sides(alloc, sides)?;
     for one in unified.bindings.as_slice() {
         let value = Vec::from_slice(alloc, one.value)?;
         all.push(Bound {

@@ -8,7 +8,7 @@ use crate::predicates::is_monitor;
 use crate::seen::Next;
 use kl1_model::Rules;
 use kl1_shown::parse_print;
-use kl1_steps::{Called, Judged, Kind, judged};
+use kl1_steps::{Called, Judged, Kind, judged_goal};
 use kl1_user_events::{GoalView, TaskKind, Usage};
 use std::alloc::{AllocError, Global};
 
@@ -108,7 +108,7 @@ fn judged_in(alloc: Global, rules: Rules, done: &Done<'_>) -> Result<Judged, All
         return Ok(Judged::Unknown);
     };
     let parsed = parse_print(alloc, text)?;
-    judged(
+    judged_goal(
         alloc,
         rules.most_spelled(),
         parsed.nodes.as_slice(),
