@@ -182,11 +182,10 @@ impl<'a> Classes<'a> {
                 return Ok(());
             };
             if 0 < run.count {
-                self.runs.push(Run {
-                    left: self.end_at(run.left),
-                    right: self.end_at(run.right),
-                    count: run.count - 1,
-                })?;
+                let left = self.end_at(run.left);
+                let right = self.end_at(run.right);
+                let count = run.count - 1;
+                self.runs.push(Run { left, right, count })?;
                 if !self.join(run.left, run.right)? {
                     self.unified.fails = true;
                     return Ok(());

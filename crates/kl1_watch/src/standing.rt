@@ -1,6 +1,7 @@
 // What is told of an account that stands still.
 
 ghost use Rattle.std.specs.Prelude.{◌≡◌};
+ghost use Rattle.std.specs.List.{list_any};
 ghost use Rattle.kl1_watch.specs.Still.{is_stopped, is_spent};
 
 use crate::holders::{Holders, holders_of, variables_of};
@@ -55,11 +56,18 @@ fn is_stopped(shoen: &ShoenView) -> bool
     }
 }
 
+/// Whether one of these shoens is stopped.
+fn has_stopped(shoens: &[ShoenView]) -> bool
+    ensures { result ≡ list_any is_stopped shoens.now }
+{
+    shoens.iter().any(|shoen| is_stopped(shoen))
+}
+
 /// Whether goals are left in exhausted shoens alone: so many wait for variables, so many for an answer, and these shoens hold theirs back.
 pub fn is_spent(waiting: u64, free: u64, still: &[ShoenView]) -> bool
     ensures { result ≡ is_spent waiting free still.now }
 {
-    waiting == 0 && free == 0 && 0 < still.len() && !still.iter().any(|shoen| is_stopped(shoen))
+    waiting == 0 && free == 0 && 0 < still.len() && !has_stopped(still)
 }
 
 /// These variables, each with the other goals that have it.
