@@ -63,9 +63,11 @@ pub fn places_in(alloc: Global, text: &[u8], sources: &[SourceFile]) -> Result<P
         };
         if line.starts_with(b"load ") {
             // A load has the same line by all rules.
-            if let Some(Deed::Event(Event::Load { source })) =
-                &entry_of(alloc, Rules::Three, line)?
-            {
+            if let Some(Deed::Event(Event::Load { source })) = &entry_of(
+                alloc,
+                Rules::Three,
+                line,
+            )? {
                 places.take(alloc, sources, source.as_slice())?;
             }
         }
