@@ -1,0 +1,2 @@
+date; grep "^rt:" /tmp/base.log | tail -5; tail -4 /tmp/notes/ready.md | cut -c1-200; free -m | sed -n 2p; df / | tail -1; uptime; for p in $(pgrep -x rattle); do echo "$(ps -o ni= -p $p) $(ps -o time= -p $p) $(readlink /proc/$p/cwd)"; done | sort; python3 -c "
+import json; d=json.load(open('/work/tools/secs.json')); print(sum(d.values()), list(d.items())[:14])"; for f in side lean slices trace copy when acc; do echo "== $f"; tail -n 2 /tmp/notes/$f.md 2>/dev/null | cut -c1-${1:-300}; done
